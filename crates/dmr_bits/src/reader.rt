@@ -1,0 +1,62 @@
+//! Bits that are read one number after the other.
+ghost use Rattle.std.specs.Prelude.{◌≡◌, ◌+◌, ◌-◌, ◌^◌, ◌<◌, ◌≤◌, ◌++◌, ◌∷◌, length};
+ghost use Rattle.dmr_bits.specs.Bits.{bits_of};
+
+use crate::bits::Bits;
+use std::marker::Model;
+
+/// What is left to read of `N` bits.
+#[derive(Drop)]
+pub struct Reader<const N: usize> {
+    bits: Bits<N>,
+    at: usize,
+}
+
+// Clauses see the list of the bits that are left.
+impl<const N: usize> Model for Reader<N> {
+    ghost use Rattle.std.specs.Prelude.{◌≡◌, ◌≤◌, List, Bool, length, drop};
+
+    ghost Value = { List Bool };
+
+    ghost view = { λ r. drop r.at r.bits };
+
+    ghost invariant = { λ r. (r.at ≤ N) × (length r.bits ≡ N) };
+}
+
+impl<const N: usize> Reader<N> {
+    /// All bits are left.
+    pub fn new(bits: &Bits<N>) -> Self
+        ensures rest { result ≡ bits.now }
+        ensures length { length bits.now ≡ N }
+    {
+        let _ = bits.len();
+        Reader { bits: *bits, at: 0 }
+    }
+
+    /// The next bit.
+    pub fn next_bit(&mut self) -> bool
+        requires { 0 < length self.old }
+        ensures read { self.old ≡ result ∷ self.new }
+        ensures length { length self.new + 1 ≡ length self.old }
+    {
+        let bit = self.bits.get(self.at);
+        self.at += 1;
+        bit
+    }
+
+    /// The number that the next `width` bits spell, the highest first.
+    pub fn next(&mut self, width: usize) -> u64
+        requires narrow { width ≤ 64 }
+        requires rest { width ≤ length self.old }
+        ensures fits { result < 2 ^ width }
+        ensures read { self.old ≡ bits_of width result ++ self.new }
+        ensures length { length self.new + width ≡ length self.old }
+    {
+        let mut number = 0;
+        for _ in 0..width {
+            let bit = self.next_bit();
+            number = 2 * number + u64::from(bit);
+        }
+        number
+    }
+}

@@ -1,0 +1,2 @@
+//! Happy paths, and values from outside.
+use crate::Bits;

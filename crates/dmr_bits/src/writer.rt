@@ -1,0 +1,69 @@
+//! Bits that are written one number after the other.
+ghost use Rattle.std.specs.Prelude.{◌≡◌, ◌+◌, ◌-◌, ◌^◌, ◌<◌, ◌≤◌, ◌++◌, ◌∷◌, [], length};
+ghost use Rattle.dmr_bits.specs.Bits.{bits_of};
+
+use crate::bits::Bits;
+use std::marker::Model;
+
+/// What is written so far of `N` bits.
+#[derive(Drop)]
+pub struct Writer<const N: usize> {
+    places: [bool; N],
+    filled: usize,
+}
+
+// Clauses see the list of the bits that are written.
+impl<const N: usize> Model for Writer<N> {
+    ghost use Rattle.std.specs.Prelude.{◌≤◌, List, Bool, length, take};
+
+    ghost Value = { List Bool };
+
+    ghost view = { λ w. take w.filled w.places };
+
+    ghost invariant = { λ w. w.filled ≤ length w.places };
+}
+
+impl<const N: usize> Writer<N> {
+    /// Nothing is written yet.
+    pub fn new() -> Self
+        ensures { result ≡ [] }
+    {
+        Writer {
+            places: [false; N],
+            filled: 0,
+        }
+    }
+
+    /// Writes a bit at the end.
+    pub fn push_bit(&mut self, bit: bool)
+        requires { length self.old < N }
+        ensures written { self.new ≡ self.old ++ bit ∷ [] }
+        ensures length { length self.new ≡ length self.old + 1 }
+    {
+        self.places[self.filled] = bit;
+        self.filled += 1;
+    }
+
+    /// Writes the `width` lowest bits of a number at the end, the highest of them first.
+    pub fn push(&mut self, width: usize, number: u64)
+        requires narrow { width ≤ 64 }
+        requires room { length self.old + width ≤ N }
+        ensures written { self.new ≡ self.old ++ bits_of width number }
+        ensures length { length self.new ≡ length self.old + width }
+    {
+        for place in (0..width).rev() {
+            self.push_bit((number >> place) % 2 == 1);
+        }
+    }
+
+    /// The bits, once all `N` are written.
+    pub fn finish(self) -> Bits<N>
+        requires { length self ≡ N }
+        ensures value { result ≡ self.entry }
+        ensures length { length result ≡ N }
+    {
+        let mut bits = Bits::<N>::zero();
+        bits.put(0, &self.places);
+        bits
+    }
+}
