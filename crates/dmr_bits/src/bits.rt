@@ -4,7 +4,7 @@ ghost use Rattle.dmr_bits.specs.Bits.{number_of, bits_of, bits_of_octets, octets
 
 use std::marker::Model;
 
-/// `N` bits, the highest first.
+/// `N` bits, the highest first: bit 0 is the one that is sent first, and the highest of a number.
 #[derive(Clone, Copy, Debug, PartialEq, Eq, Drop)]
 pub struct Bits<const N: usize> {
     bits: [bool; N],
@@ -24,15 +24,15 @@ impl<const N: usize> Model for Bits<N> {
 impl<const N: usize> Bits<N> {
     /// No bit set.
     pub fn zero() -> Self
-        ensures { result ≡ replicate N false }
+        ensures value { result ≡ replicate N false }
     {
         Bits { bits: [false; N] }
     }
 
     /// The bits of octets, each highest bit first.
     pub fn from_octets<const M: usize>(octets: &[u8; M]) -> Self
-        requires { 8 * M ≡ N }
-        ensures { result ≡ bits_of_octets octets.now }
+        requires whole { 8 * M ≡ N }
+        ensures value { result ≡ bits_of_octets octets.now }
     {
         let mut all = Self::zero();
         for i in 0..M {
@@ -43,7 +43,7 @@ impl<const N: usize> Bits<N> {
 
     /// The octets that the bits spell.
     pub fn octets<const M: usize>(&self) -> [u8; M]
-        requires { 8 * M ≡ N }
+        requires whole { 8 * M ≡ N }
         ensures value { result ≡ octets_of M self.now }
         ensures spelled { bits_of_octets result ≡ self.now }
         ensures length { length self.now ≡ N }
@@ -67,7 +67,7 @@ impl<const N: usize> Bits<N> {
 
     /// The bit at place `i`.
     pub fn get(&self, i: usize) -> bool
-        requires { i < N }
+        requires inside { i < N }
         ensures value { result ≡ slice_index_or self.now i false }
         ensures length { length self.now ≡ N }
     {
@@ -76,7 +76,7 @@ impl<const N: usize> Bits<N> {
 
     /// Writes the bit at place `i`.
     pub fn set(&mut self, i: usize, bit: bool)
-        requires { i < N }
+        requires inside { i < N }
         ensures value { self.new ≡ slice_set self.old i bit }
         ensures length { length self.old ≡ N }
     {
@@ -165,7 +165,7 @@ impl<const N: usize> Bits<N> {
 
     /// Writes bits from a place on.
     pub fn put(&mut self, at: usize, new: &[bool])
-        requires { at + length new.now ≤ N }
+        requires room { at + length new.now ≤ N }
         ensures value { self.new ≡ put_at self.old at new.now }
         ensures length { length self.old ≡ N }
         ensures kept { length self.new ≡ N }

@@ -35,7 +35,7 @@ impl<const N: usize> Reader<N> {
 
     /// The next bit.
     pub fn next_bit(&mut self) -> bool
-        requires { 0 < length self.old }
+        requires rest { 0 < length self.old }
         ensures read { self.old ≡ result ∷ self.new }
         ensures length { length self.new + 1 ≡ length self.old }
     {

@@ -26,7 +26,7 @@ impl<const N: usize> Model for Writer<N> {
 impl<const N: usize> Writer<N> {
     /// Nothing is written yet.
     pub fn new() -> Self
-        ensures { result ≡ [] }
+        ensures value { result ≡ [] }
     {
         Writer {
             places: [false; N],
@@ -36,7 +36,7 @@ impl<const N: usize> Writer<N> {
 
     /// Writes a bit at the end.
     pub fn push_bit(&mut self, bit: bool)
-        requires { length self.old < N }
+        requires room { length self.old < N }
         ensures written { self.new ≡ self.old ++ bit ∷ [] }
         ensures length { length self.new ≡ length self.old + 1 }
     {
@@ -58,7 +58,7 @@ impl<const N: usize> Writer<N> {
 
     /// The bits, once all `N` are written.
     pub fn finish(self) -> Bits<N>
-        requires { length self ≡ N }
+        requires whole { length self ≡ N }
         ensures value { result ≡ self.entry }
         ensures length { length result ≡ N }
     {
