@@ -1,0 +1,1 @@
+//! Outside vectors, and the table against the scan.
