@@ -1,6 +1,6 @@
 //! Bits that are read one number after the other.
-ghost use Rattle.std.specs.Prelude.{◌≡◌, ◌+◌, ◌-◌, ◌^◌, ◌<◌, ◌≤◌, ◌++◌, ◌∷◌, length};
-ghost use Rattle.dmr_bits.specs.Bits.{bits_of};
+ghost use Rattle.std.specs.Prelude.{◌≡◌, ◌+◌, ◌-◌, ◌*◌, ◌^◌, ◌<◌, ◌≤◌, ◌++◌, ◌∷◌, length};
+ghost use Rattle.dmr_bits.specs.Bits.{bits_of, bits_of_octets};
 
 use crate::bits::Bits;
 use std::marker::Model;
@@ -58,5 +58,18 @@ impl<const N: usize> Reader<N> {
             number = 2 * number + u64::from(bit);
         }
         number
+    }
+
+    /// The octets that the next bits spell, the highest bit of each first.
+    pub fn next_octets<const M: usize>(&mut self) -> [u8; M]
+        requires rest { 8 * M ≤ length self.old }
+        ensures read { self.old ≡ bits_of_octets result ++ self.new }
+        ensures length { length self.new + 8 * M ≡ length self.old }
+    {
+        let mut octets = [0; M];
+        for i in 0..M {
+            octets[i] = self.next(8) as u8;
+        }
+        octets
     }
 }

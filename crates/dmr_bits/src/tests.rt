@@ -1,5 +1,5 @@
 //! Each call once, on values that can be read off.
-use crate::{Bits, Reader, Writer};
+use crate::{Bits, Reader, Writer, read_fields, write_fields};
 
 /// The twelve bits 1010 0000 0011.
 fn twelve() -> Bits<12> {
@@ -50,4 +50,31 @@ fn cursors(rt: HostRuntime) {
     assert!(rt; reader.next_bit());
     assert_eq!(rt; reader.next(3), 2);
     assert_eq!(rt; reader.next(8), 3);
+}
+
+/// A unit of 24 bits.
+#[derive(Drop)]
+struct Unit {
+    urgent: bool,
+    kind: u8,
+    body: [u8; 2],
+}
+
+macro_rules! unit_fields {
+    ($each:ident, $($with:tt)*) => {
+        $each!($($with)*; urgent: flag, kind: number(u8, 7), body: octets(2))
+    };
+}
+
+#[test]
+fn one_list_of_fields(rt: HostRuntime) {
+    let bits = Bits::<24>::from_octets(&[0x83, 0xAB, 0xCD]);
+    let mut reader = Reader::<24>::new(&bits);
+    let unit = unit_fields!(read_fields, reader, Unit);
+    assert!(rt; unit.urgent);
+    assert_eq!(rt; unit.kind, 3);
+    assert!(rt; unit.body == [0xAB, 0xCD]);
+    let mut writer = Writer::<24>::new();
+    unit_fields!(write_fields, writer, unit);
+    assert!(rt; writer.finish() == bits);
 }

@@ -1,6 +1,6 @@
 //! Bits that are written one number after the other.
-ghost use Rattle.std.specs.Prelude.{◌≡◌, ◌+◌, ◌-◌, ◌^◌, ◌<◌, ◌≤◌, ◌++◌, ◌∷◌, [], length};
-ghost use Rattle.dmr_bits.specs.Bits.{bits_of};
+ghost use Rattle.std.specs.Prelude.{◌≡◌, ◌+◌, ◌-◌, ◌*◌, ◌^◌, ◌<◌, ◌≤◌, ◌++◌, ◌∷◌, [], length};
+ghost use Rattle.dmr_bits.specs.Bits.{bits_of, bits_of_octets};
 
 use crate::bits::Bits;
 use std::marker::Model;
@@ -53,6 +53,17 @@ impl<const N: usize> Writer<N> {
     {
         for place in (0..width).rev() {
             self.push_bit((number >> place) % 2 == 1);
+        }
+    }
+
+    /// Writes octets at the end, the highest bit of each first.
+    pub fn push_octets(&mut self, octets: &[u8])
+        requires room { length self.old + 8 * length octets.now ≤ N }
+        ensures written { self.new ≡ self.old ++ bits_of_octets octets.now }
+        ensures length { length self.new ≡ length self.old + 8 * length octets.now }
+    {
+        for octet in octets {
+            self.push(8, u64::from(*octet));
         }
     }
 
