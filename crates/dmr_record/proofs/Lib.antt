@@ -1,0 +1,10 @@
+pub mod HeadLemmas
+pub mod Kept
+pub mod NoFault
+pub mod Numbers
+pub mod OutgoingLemmas
+pub mod Pieces
+pub mod Spellings
+pub mod Torn
+pub mod UplinkLemmas
+pub mod UplinkReading

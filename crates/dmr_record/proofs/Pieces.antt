@@ -1,0 +1,38 @@
+-- Pieces of a buffer, and of what a device has given or taken.
+use Rattle.std.proofs.Common.{◌≡◌, ℕ, ◌+◌, ◌-◌, ◌≤◌, List, ◌++◌, length, take, drop, replicate, ◌∷◌, ap, ◌∙◌, subst, sym, Option, append-nil, arith}
+use Rattle.std.proofs.lemmas.List.{take_at, drop_at, drop_all, length-replicate, length-take-le, take-append-le, take_rest}
+use Rattle.std.specs.Io.KnownBytes.{Consumes, Appends}
+use Rattle.std.proofs.KnownBytes.{Consumes-trans, Appends-trans}
+use borrow.Rule.Slice.PartMut.{put_mid, post_of}
+use lib.Seq.{take-add}
+
+-- what was read into the rest of a buffer stands after what had come
+pub take-put_mid_front : (at k n : ℕ) (xs ys : List ℕ) → at ≤ length xs → n ≤ length ys → take (at + n) (put_mid at k xs ys) ≡ take at xs ++ take n ys
+take-put_mid_front at k n xs ys within fits =
+    let rest = ys ++ post_of at k xs in
+    let long = length-take-le at xs within in
+    take-add at n (put_mid at k xs ys)
+    ∙ ap (λ l. l ++ take n (drop at (put_mid at k xs ys))) (take_at (take at xs) rest at long)
+    ∙ ap (λ l. take at xs ++ take n l) (drop_at (take at xs) rest at long)
+    ∙ ap (λ l. take at xs ++ l) (take-append-le n ys (post_of at k xs) fits)
+
+-- a source gave the front, and then some octets into the rest of the buffer
+pub Consumes-filled : (a b c : Option (List ℕ)) (at k n : ℕ) (xs ys : List ℕ) → at ≤ length xs → n ≤ length ys
+    → Consumes a b (take at xs) → Consumes b c (take n ys) → Consumes a c (take (at + n) (put_mid at k xs ys))
+Consumes-filled a b c at k n xs ys within fits front more =
+    subst (Consumes a c) (sym (take-put_mid_front at k n xs ys within fits)) (Consumes-trans a b c _ _ front more)
+
+-- a sink took the front of a piece, and then some of the rest, `&piece[at..]`
+pub Appends-onwards : (a b c : Option (List ℕ)) (at n : ℕ) (xs : List ℕ) → Appends a b (take at xs) → Appends b c (take n (take (length xs - at) (drop at xs))) → Appends a c (take (at + n) xs)
+Appends-onwards a b c at n xs front more =
+    let joined = Appends-trans a b c _ _ front (subst (Appends b c) (ap (take n) (take_rest xs at)) more) in
+    subst (Appends a c) (sym (take-add at n xs)) joined
+
+-- two pieces, one behind the other, fill a buffer behind its first octet
+pub laid_behind : (front back : List ℕ) (tag n : ℕ) → length front ≡ 3 → length back ≡ n
+    → tag ∷ (take 3 (front ++ replicate n tag) ++ (back ++ drop n (drop 3 (front ++ replicate n tag)))) ≡ tag ∷ (front ++ back)
+laid_behind front back tag n three same =
+    ap (λ l. tag ∷ (l ++ (back ++ drop n (drop 3 (front ++ replicate n tag))))) (take_at front (replicate n tag) 3 three)
+    ∙ ap (λ l. tag ∷ (front ++ (back ++ drop n l))) (drop_at front (replicate n tag) 3 three)
+    ∙ ap (λ l. tag ∷ (front ++ (back ++ l))) (drop_all n (replicate n tag) (omega (arith, length-replicate {A = ℕ} n tag)))
+    ∙ ap (λ l. tag ∷ (front ++ l)) (append-nil back)

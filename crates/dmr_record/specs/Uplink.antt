@@ -1,0 +1,63 @@
+-- The uplink file: what its octets spell, and what faults they show.
+use Rattle.std.specs.Prelude.{◌≡◌, ◌≢◌, ℕ, ◌<◌, ◌≤◌, List, [], ◌∷◌, ◌++◌, Option, Some, None, length}
+use Rattle.std.specs.List.{AllByRecursion, flat_map}
+use Rattle.dmr_record.specs.declared.head.TheConstants.{UPLINK_MAGIC}
+use Rattle.dmr_record.specs.declared.fault.RecordFault.{RecordFault}
+use Rattle.dmr_record.specs.declared.fault.RecordFault.TheVariants.{CutRecord, BadTag, HalfFrame, TooLong, Read}
+use Rattle.dmr_record.specs.Head.{head_octets}
+
+-- A slot of an uplink frame: silence, or the 33 octets of a burst.
+abbrev pub IsSlot : Option (List ℕ) → Type 0
+IsSlot None = Unit {0}
+IsSlot (Some burst) = length burst ≡ 33
+
+-- 00 begins silence, and 01 a burst
+abbrev pub slot_tag : Option (List ℕ) → ℕ
+slot_tag None = 0
+slot_tag (Some burst) = 1
+
+abbrev pub slot_body : Option (List ℕ) → List ℕ
+slot_body None = []
+slot_body (Some burst) = burst
+
+abbrev pub slot_octets : Option (List ℕ) → List ℕ
+slot_octets slot = slot_tag slot ∷ slot_body slot
+
+-- A frame is slot 1 and slot 2.
+abbrev pub IsFrame : List (Option (List ℕ)) → Type 0
+IsFrame frame = (length frame ≡ 2) × AllByRecursion IsSlot frame
+
+abbrev pub frame_octets : List (Option (List ℕ)) → List ℕ
+frame_octets frame = flat_map slot_octets frame
+
+-- the records of a file behind its head
+abbrev pub frames_octets : List (List (Option (List ℕ))) → List ℕ
+frames_octets frames = flat_map frame_octets frames
+
+-- the file of these frames
+abbrev pub uplink_file : List (List (Option (List ℕ))) → List ℕ
+uplink_file frames = head_octets UPLINK_MAGIC ++ frames_octets frames
+
+-- less than a whole slot: nothing, or 01 and fewer octets than a burst has
+abbrev pub IsPartOfSlot : List ℕ → Type 0
+IsPartOfSlot [] = Unit {0}
+IsPartOfSlot (tag ∷ body) = (tag ≡ 1) × (length body < 33)
+
+-- What octets of one slot show where reading ends with a fault: another tag than 00 and 01, or a part of a slot.
+abbrev pub ShowsSlotFault : RecordFault → List ℕ → Type 0
+ShowsSlotFault BadTag octets = (tag : ℕ) × (1 < tag) × (octets ≡ tag ∷ [])
+ShowsSlotFault CutRecord octets = (octets ≢ []) × IsPartOfSlot octets
+ShowsSlotFault Read octets = IsPartOfSlot octets
+ShowsSlotFault e octets = ⊥
+
+-- fewer than two whole slots, and then octets of a slot that show the fault
+abbrev pub EndsInSlot : RecordFault → List ℕ → Type 0
+EndsInSlot fault octets = (slots : List (Option (List ℕ))) × (part : List ℕ) × (length slots < 2) × AllByRecursion IsSlot slots
+    × ShowsSlotFault fault part × (octets ≡ flat_map slot_octets slots ++ part)
+
+-- These octets, taken as the front of a frame with so many frames before it, show this fault.
+abbrev pub ShowsFault : ℕ → ℕ → RecordFault → List ℕ → Type 0
+ShowsFault limit before TooLong octets = (limit ≤ before) × (length octets ≡ 1)
+ShowsFault limit before HalfFrame octets = (before < limit) × (slot : Option (List ℕ)) × IsSlot slot × (octets ≡ slot_octets slot)
+ShowsFault limit before Read octets = EndsInSlot Read octets
+ShowsFault limit before e octets = (before < limit) × EndsInSlot e octets

@@ -1,0 +1,138 @@
+//! Where octets come from and where they go.
+
+ghost use Rattle.std.specs.Prelude.{◌≡◌, ℕ, ◌<◌, ◌≤◌, List, Option, Bool, false, length, IfOk};
+ghost use Rattle.std.specs.Io.KnownBytes.{ReadConsumes, WriteAppends};
+ghost use Rattle.dmr_record.specs.Devices.{failed_after};
+
+use std::io::{Read, Write};
+
+/// A device has failed. It doesn't say why.
+#[derive(Clone, Copy, Debug, PartialEq, Eq)]
+pub struct DeviceFault;
+
+/// A device that gives octets.
+pub trait Source {
+    /// The octets that it has left to give, where it tells them.
+    ghost left: { Self → Option (List ℕ) };
+
+    /// Whether it has failed.
+    ghost has_failed: { Self → Bool };
+
+    /// Puts the next octets at the front of the buffer, and answers how many: 0 only at the end of the octets,
+    /// or where the buffer is empty. At an `Err` no octet is taken, and the device has failed from then on.
+    fn read(&mut self, buffer: &mut [u8]) -> Result<usize, DeviceFault>
+        ensures count { IfOk result (λ n. n ≤ length buffer.new) }
+        ensures octets { ReadConsumes (left self.old) (left self.new) result buffer.new }
+        ensures failure { has_failed self.new ≡ failed_after (has_failed self.old) result };
+}
+
+/// A device that takes octets.
+pub trait Sink {
+    /// The octets that it holds, where it tells them.
+    ghost held: { Self → Option (List ℕ) };
+
+    /// Whether it has failed.
+    ghost has_failed: { Self → Bool };
+
+    /// Takes octets from the front of the piece, and answers how many: at least one, unless the piece is empty.
+    /// At an `Err` no octet is taken, and the device has failed from then on.
+    fn write(&mut self, piece: &[u8]) -> Result<usize, DeviceFault>
+        ensures count { IfOk result (λ n. n ≤ length piece.now) }
+        ensures progress { IfOk result (λ n. 0 < length piece.now → 0 < n) }
+        ensures octets { WriteAppends (held self.old) (held self.new) result piece.now }
+        ensures failure { has_failed self.new ≡ failed_after (has_failed self.old) result };
+}
+
+/// A source over a reader of std.
+#[derive(Drop)]
+pub struct FromRead<R> {
+    reader: R,
+    is_failed: bool,
+}
+
+impl<R: Read> FromRead<R> {
+    /// A source that gives what the reader gives, and hasn't failed.
+    pub fn new(reader: R) -> FromRead<R>
+        ensures octets { ⟦<FromRead<R> as Source>⟧.left result ≡ R.remaining reader }
+        ensures failure { ⟦<FromRead<R> as Source>⟧.has_failed result ≡ false }
+    {
+        FromRead {
+            reader,
+            is_failed: false,
+        }
+    }
+
+    /// The reader, with what the source has left.
+    pub fn into_inner(self) -> R
+        ensures octets { R.remaining result ≡ ⟦<FromRead<R> as Source>⟧.left self }
+    {
+        let FromRead {
+            reader,
+            is_failed: _,
+        } = self;
+        reader
+    }
+}
+
+impl<R: Read> Source for FromRead<R> {
+    ghost left = { λ source. R.remaining source.reader };
+
+    ghost has_failed = { λ source. source.is_failed };
+
+    fn read(&mut self, buffer: &mut [u8]) -> Result<usize, DeviceFault> {
+        match self.reader.read(buffer) {
+            Ok(count) => Ok(count),
+            Err(_) => {
+                self.is_failed = true;
+                Err(DeviceFault)
+            }
+        }
+    }
+}
+
+/// A sink over a writer of std. A write that takes nothing of a piece that isn't empty counts as a failure.
+#[derive(Drop)]
+pub struct ToWrite<W> {
+    writer: W,
+    is_failed: bool,
+}
+
+impl<W: Write> ToWrite<W> {
+    /// A sink that holds what the writer holds, and hasn't failed.
+    pub fn new(writer: W) -> ToWrite<W>
+        ensures octets { ⟦<ToWrite<W> as Sink>⟧.held result ≡ W.contents writer }
+        ensures failure { ⟦<ToWrite<W> as Sink>⟧.has_failed result ≡ false }
+    {
+        ToWrite {
+            writer,
+            is_failed: false,
+        }
+    }
+
+    /// The writer, with what the sink holds.
+    pub fn into_inner(self) -> W
+        ensures octets { W.contents result ≡ ⟦<ToWrite<W> as Sink>⟧.held self }
+    {
+        let ToWrite {
+            writer,
+            is_failed: _,
+        } = self;
+        writer
+    }
+}
+
+impl<W: Write> Sink for ToWrite<W> {
+    ghost held = { λ sink. W.contents sink.writer };
+
+    ghost has_failed = { λ sink. sink.is_failed };
+
+    fn write(&mut self, piece: &[u8]) -> Result<usize, DeviceFault> {
+        match self.writer.write(piece) {
+            Ok(count) if count > 0 || piece.is_empty() => Ok(count),
+            _ => {
+                self.is_failed = true;
+                Err(DeviceFault)
+            }
+        }
+    }
+}

@@ -1,0 +1,38 @@
+//! Why a file could not be read or written.
+
+use thiserror::Error;
+
+/// The first fault that the octets of a file show, or that its device failed.
+///
+/// `CutRecord` and `HalfFrame` are told at the end of the octets alone. `Read` and `Write` are told only where
+/// the device failed in that very call.
+#[derive(Clone, Copy, Debug, Drop, PartialEq, Eq, Error)]
+pub enum RecordFault {
+    /// The file begins with other octets than the magic of its stream.
+    #[error("bad magic")]
+    Magic,
+    /// Other octets than `01 00 00 00` stand behind the magic.
+    #[error("bad version")]
+    Version,
+    /// The file ends inside its head or inside a record.
+    #[error("cut record")]
+    CutRecord,
+    /// A record begins with an octet that begins none, or names no slot or no mode.
+    #[error("bad tag")]
+    BadTag,
+    /// The file ends behind slot 1 of a frame.
+    #[error("half frame")]
+    HalfFrame,
+    /// A record of the outgoing file has an earlier frame than the one before it.
+    #[error("frame order")]
+    FrameOrder,
+    /// There are more frames or records than a file may have.
+    #[error("too long")]
+    TooLong,
+    /// The source failed.
+    #[error("read failed")]
+    Read,
+    /// The sink failed.
+    #[error("write failed")]
+    Write,
+}

@@ -1,0 +1,34 @@
+//! The four files of the repeater, octet by octet, over devices that may fail.
+//!
+//! Each file is a head of eight octets and records behind it, in formats of this project's own. The uplink file
+//! holds the bursts that a base station received and the downlink file those that it sends; the outgoing file
+//! holds the datagrams that its gateway is to send, and the received file what the gateway received.
+//!
+//! Contracts see a device as the octets that it has left or holds, where it tells them, and whether it has
+//! failed: `specs/Devices.antt`. What a file holds is a list of records, and each stream has a file of `specs/`
+//! that says how a record is spelled and what octets show which fault: `Head`, `Uplink`, `Outgoing`, `Downlink`
+//! and `Received`. A call says what it did by the octets that it took or put: those of a record, or those that
+//! show the fault. `laws` says that a file has one reading, and that a file of records shows no fault.
+#![tactic(auto)]
+
+mod device;
+mod downlink;
+mod fault;
+mod head;
+mod octets;
+mod outgoing;
+mod received;
+mod tag;
+mod transfer;
+mod uplink;
+
+pub use device::{DeviceFault, FromRead, Sink, Source, ToWrite};
+pub use downlink::write_slot;
+pub use fault::RecordFault;
+pub use head::{
+    DOWNLINK_MAGIC, OUTGOING_MAGIC, RECEIVED_MAGIC, UPLINK_MAGIC, read_head, write_head,
+};
+pub use octets::{DATAGRAM_LIMIT, Octets};
+pub use outgoing::{Outgoing, RECORD_LIMIT, read_outgoing};
+pub use received::{ReceivedKind, write_received};
+pub use uplink::{FRAME_LIMIT, read_frame};

@@ -1,0 +1,172 @@
+//! The outgoing file, record by record.
+
+ghost use Rattle.std.specs.Prelude.{◌≡◌, ◌<◌, ◌≤◌, ◌⊎◌, [], List, ℕ, length, take, false, true, IfOk, IfErr, OnOk, OnErr, IfSome, IfNone};
+ghost use Rattle.std.specs.Io.KnownBytes.{Consumes, IsAtEnd};
+ghost use Rattle.dmr_record.specs.Faults.{is_of_end, is_device_fault};
+ghost use Rattle.dmr_record.specs.Outgoing.{field_octets, mode_of, IsPlace, Keeps, IsSending, sending_of, sending_octets, ShowsOutgoingFault};
+
+use crate::device::Source;
+use crate::fault::RecordFault;
+use crate::octets::{DATAGRAM_LIMIT, Octets};
+use crate::tag::OUTGOING;
+use crate::transfer::{fill, fill_front, read_octet};
+use byteorder::{BigEndian, ByteOrder};
+
+/// How many records an outgoing file has at most.
+pub const RECORD_LIMIT: u32 = 1 << 20;
+
+/// A datagram that is to be sent, with the first `DATAGRAM_LIMIT` of its octets.
+#[derive(Drop)]
+pub struct Outgoing {
+    /// The downlink frame in which it is offered.
+    pub frame: u32,
+    /// The slot that it is sent in: 1 or 2.
+    pub slot: u8,
+    /// Whether it is sent as a confirmed packet.
+    pub confirmed: bool,
+    /// Whether it is sent at rate 1, and not at rate 1/2.
+    pub full: bool,
+    /// How many octets it has, those that aren't kept too.
+    pub length: u16,
+    /// The first of its octets.
+    pub octets: Octets,
+}
+
+/// The fields of a record between its tag and its octets.
+#[derive(Clone, Copy)]
+struct Fields {
+    frame: u32,
+    slot: u8,
+    mode: u8,
+    length: u16,
+}
+
+/// The fields that eight octets spell.
+fn fields_of(octets: [u8; 8]) -> Fields
+    ensures octets { octets ≡ field_octets result.frame result.slot result.mode result.length }
+{
+    Fields {
+        frame: BigEndian::read_u32(&octets[..4]),
+        slot: octets[4],
+        mode: octets[5],
+        length: BigEndian::read_u16(&octets[6..]),
+    }
+}
+
+/// Reads so many octets, and keeps the first of them.
+fn read_octets<S: Source>(source: &mut S, count: u16) -> Result<Octets, RecordFault>
+    requires well { S.has_failed source.old ≡ false }
+    ensures octets { IfOk result (λ octets. (all : List ℕ) × (length all ≡ count) × (octets ≡ take DATAGRAM_LIMIT all)
+        × Consumes (S.left source.old) (S.left source.new) all) }
+    ensures well { OnOk result (S.has_failed source.new ≡ false) }
+    ensures part { OnErr result ((part : List ℕ) × (length part < count)
+        × Consumes (S.left source.old) (S.left source.new) part) }
+    ensures cause { IfErr result (λ e. (e ≡ RecordFault.CutRecord) ⊎ (e ≡ RecordFault.Read)) }
+    ensures cut { IfErr result (λ e. is_of_end e ≡ true → IsAtEnd (S.left source.new)) }
+    ensures device { IfErr result (λ e. S.has_failed source.new ≡ is_device_fault e) }
+{
+    let mut octets = Octets::new();
+    let mut left = count as usize;
+    let mut chunk = [0u8; 256];
+    while left > 0 {
+        let most = left.min(256);
+        let came = fill_front(source, &mut chunk, most)?;
+        if came < most {
+            return Err(RecordFault::CutRecord);
+        }
+        octets.keep(&chunk[..most]);
+        left -= most;
+    }
+    Ok(octets)
+}
+
+/// Reads the fields behind a tag.
+fn read_fields<S: Source>(source: &mut S) -> Result<Fields, RecordFault>
+    requires well { S.has_failed source.old ≡ false }
+    ensures fields { IfOk result (λ f. Consumes (S.left source.old) (S.left source.new) (field_octets f.frame f.slot f.mode f.length)) }
+    ensures well { OnOk result (S.has_failed source.new ≡ false) }
+    ensures part { OnErr result ((part : List ℕ) × (length part < 8)
+        × Consumes (S.left source.old) (S.left source.new) part) }
+    ensures cause { IfErr result (λ e. (e ≡ RecordFault.CutRecord) ⊎ (e ≡ RecordFault.Read)) }
+    ensures cut { IfErr result (λ e. is_of_end e ≡ true → IsAtEnd (S.left source.new)) }
+    ensures device { IfErr result (λ e. S.has_failed source.new ≡ is_device_fault e) }
+{
+    let mut octets = [0u8; 8];
+    match fill(source, &mut octets) {
+        Ok(8) => Ok(fields_of(octets)),
+        Ok(_) => Err(RecordFault::CutRecord),
+        Err(fault) => Err(fault),
+    }
+}
+
+/// Whether a datagram is confirmed, and whether at rate 1, where the fields name a slot and a mode.
+fn place_of(slot: u8, mode: u8) -> Option<(bool, bool)>
+    ensures mode { IfSome result (λ found. mode ≡ mode_of found.0 found.1) }
+    ensures place { IfSome result (λ _. IsPlace slot mode) }
+    ensures none { IfNone result (¬ IsPlace slot mode) }
+{
+    if slot != 1 && slot != 2 {
+        return None;
+    }
+    match mode {
+        0 => Some((false, false)),
+        1 => Some((true, false)),
+        2 => Some((false, true)),
+        3 => Some((true, true)),
+        _ => None,
+    }
+}
+
+/// Reads the next record of an outgoing file behind its head. It answers `None` at the end of the source.
+///
+/// `before` is the number of records that were read before it, and `last` the frame of the last of them, or 0.
+/// A record past `RECORD_LIMIT` is `TooLong` as soon as its first octet is there, whatever that is. Then the
+/// first octet is tested; the slot and the mode, and then the order of the frames, once the fields are there; and
+/// then the octets are read.
+pub fn read_outgoing<S: Source>(
+    source: &mut S,
+    before: u32,
+    last: u32,
+) -> Result<Option<Outgoing>, RecordFault>
+    requires well { S.has_failed source.old ≡ false }
+    // A record is what the octets taken spell.
+    ensures sending { IfOk result (λ found. IfSome found (λ o. (before < RECORD_LIMIT) × (last ≤ o.frame)
+        × ((datagram : List ℕ) × Keeps o datagram × IsSending (sending_of o datagram)
+        × Consumes (S.left source.old) (S.left source.new) (sending_octets (sending_of o datagram))))) }
+    // There is none only at the end.
+    ensures end { IfOk result (λ found. IfNone found (Consumes (S.left source.old) (S.left source.new) []
+        × IsAtEnd (S.left source.new))) }
+    ensures well { OnOk result (S.has_failed source.new ≡ false) }
+    // A fault is shown by the octets taken, all of this record.
+    ensures fault { IfErr result (λ e. (taken : List ℕ) × Consumes (S.left source.old) (S.left source.new) taken
+        × ShowsOutgoingFault RECORD_LIMIT before last e taken) }
+    ensures cut { IfErr result (λ e. is_of_end e ≡ true → IsAtEnd (S.left source.new)) }
+    // `Read` is told exactly where the device failed.
+    ensures device { IfErr result (λ e. S.has_failed source.new ≡ is_device_fault e) }
+{
+    let Some(tag) = read_octet(source)? else {
+        return Ok(None);
+    };
+    if before >= RECORD_LIMIT {
+        return Err(RecordFault::TooLong);
+    }
+    if tag != OUTGOING {
+        return Err(RecordFault::BadTag);
+    }
+    let fields = read_fields(source)?;
+    let Some((confirmed, full)) = place_of(fields.slot, fields.mode) else {
+        return Err(RecordFault::BadTag);
+    };
+    if fields.frame < last {
+        return Err(RecordFault::FrameOrder);
+    }
+    let octets = read_octets(source, fields.length)?;
+    Ok(Some(Outgoing {
+        frame: fields.frame,
+        slot: fields.slot,
+        confirmed,
+        full,
+        length: fields.length,
+        octets,
+    }))
+}

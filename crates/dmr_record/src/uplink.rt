@@ -1,0 +1,78 @@
+//! The uplink file, frame by frame.
+
+ghost use Rattle.std.specs.Prelude.{◌≡◌, ◌<◌, [], ◌∷◌, List, ℕ, false, true, IfOk, IfErr, OnOk, IfSome, IfNone};
+ghost use Rattle.std.specs.Io.KnownBytes.{Consumes, IsAtEnd};
+ghost use Rattle.dmr_record.specs.Faults.{is_of_end, is_device_fault};
+ghost use Rattle.dmr_record.specs.Uplink.{IsSlot, IsFrame, ShowsSlotFault, ShowsFault, slot_tag, slot_body, frame_octets};
+
+use crate::device::Source;
+use crate::fault::RecordFault;
+use crate::tag::{BURST, SILENCE};
+use crate::transfer::{fill, read_octet};
+
+/// How many frames an uplink file has at most.
+pub const FRAME_LIMIT: u32 = 1 << 20;
+
+/// Reads the rest of a slot that begins with this tag.
+fn read_slot<S: Source>(source: &mut S, tag: u8) -> Result<Option<[u8; 33]>, RecordFault>
+    requires well { S.has_failed source.old ≡ false }
+    ensures tag { IfOk result (λ slot. tag ≡ slot_tag slot) }
+    ensures slot { IfOk result IsSlot }
+    ensures body { IfOk result (λ slot. Consumes (S.left source.old) (S.left source.new) (slot_body slot)) }
+    ensures well { OnOk result (S.has_failed source.new ≡ false) }
+    ensures fault { IfErr result (λ e. (rest : List ℕ) × Consumes (S.left source.old) (S.left source.new) rest
+        × ShowsSlotFault e (tag ∷ rest)) }
+    ensures cut { IfErr result (λ e. is_of_end e ≡ true → IsAtEnd (S.left source.new)) }
+    ensures device { IfErr result (λ e. S.has_failed source.new ≡ is_device_fault e) }
+{
+    match tag {
+        SILENCE => Ok(None),
+        BURST => {
+            let mut burst = [0u8; 33];
+            match fill(source, &mut burst) {
+                Ok(33) => Ok(Some(burst)),
+                Ok(_) => Err(RecordFault::CutRecord),
+                Err(fault) => Err(fault),
+            }
+        }
+        _ => Err(RecordFault::BadTag),
+    }
+}
+
+/// Reads the next frame of an uplink file behind its head: slot 1 and slot 2, each silent or a burst. It
+/// answers `None` at the end of the source.
+///
+/// `before` is the number of frames that were read before it. A frame past `FRAME_LIMIT` is `TooLong` as soon
+/// as its first octet is there, whatever that is.
+pub fn read_frame<S: Source>(
+    source: &mut S,
+    before: u32,
+) -> Result<Option<[Option<[u8; 33]>; 2]>, RecordFault>
+    requires well { S.has_failed source.old ≡ false }
+    // A frame is what the octets taken spell.
+    ensures frame { IfOk result (λ found. IfSome found (λ frame. (before < FRAME_LIMIT) × IsFrame frame
+        × Consumes (S.left source.old) (S.left source.new) (frame_octets frame))) }
+    // There is none only at the end.
+    ensures end { IfOk result (λ found. IfNone found (Consumes (S.left source.old) (S.left source.new) []
+        × IsAtEnd (S.left source.new))) }
+    ensures well { OnOk result (S.has_failed source.new ≡ false) }
+    // A fault is shown by the octets taken, all of this frame.
+    ensures fault { IfErr result (λ e. (taken : List ℕ) × Consumes (S.left source.old) (S.left source.new) taken
+        × ShowsFault FRAME_LIMIT before e taken) }
+    ensures cut { IfErr result (λ e. is_of_end e ≡ true → IsAtEnd (S.left source.new)) }
+    // `Read` is told exactly where the device failed.
+    ensures device { IfErr result (λ e. S.has_failed source.new ≡ is_device_fault e) }
+{
+    let Some(tag) = read_octet(source)? else {
+        return Ok(None);
+    };
+    if before >= FRAME_LIMIT {
+        return Err(RecordFault::TooLong);
+    }
+    let first = read_slot(source, tag)?;
+    let Some(tag) = read_octet(source)? else {
+        return Err(RecordFault::HalfFrame);
+    };
+    let second = read_slot(source, tag)?;
+    Ok(Some([first, second]))
+}
