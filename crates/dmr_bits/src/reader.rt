@@ -1,5 +1,5 @@
 //! Bits that are read one number after the other.
-ghost use Rattle.std.specs.Prelude.{◌≡◌, ◌+◌, ◌-◌, ◌*◌, ◌^◌, ◌<◌, ◌≤◌, ◌++◌, ◌∷◌, length};
+ghost use Rattle.std.specs.Prelude.{◌≡◌, ◌+◌, ◌-◌, ◌*◌, ◌^◌, ◌<◌, ◌≤◌, ◌++◌, ◌∷◌, All, length};
 ghost use Rattle.dmr_bits.specs.Bits.{bits_of, bits_of_octets};
 
 use crate::bits::Bits;
@@ -63,6 +63,7 @@ impl<const N: usize> Reader<N> {
     /// The octets that the next bits spell, the highest bit of each first.
     pub fn next_octets<const M: usize>(&mut self) -> [u8; M]
         requires rest { 8 * M ≤ length self.old }
+        ensures octets { All (λ octet. octet < 256) result }
         ensures read { self.old ≡ bits_of_octets result ++ self.new }
         ensures length { length self.new + 8 * M ≡ length self.old }
     {

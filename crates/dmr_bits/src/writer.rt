@@ -1,5 +1,5 @@
 //! Bits that are written one number after the other.
-ghost use Rattle.std.specs.Prelude.{◌≡◌, ◌+◌, ◌-◌, ◌*◌, ◌^◌, ◌<◌, ◌≤◌, ◌++◌, ◌∷◌, [], length};
+ghost use Rattle.std.specs.Prelude.{◌≡◌, ◌+◌, ◌-◌, ◌*◌, ◌^◌, ◌<◌, ◌≤◌, ◌++◌, ◌∷◌, [], All, length};
 ghost use Rattle.dmr_bits.specs.Bits.{bits_of, bits_of_octets};
 
 use crate::bits::Bits;
@@ -59,6 +59,7 @@ impl<const N: usize> Writer<N> {
     /// Writes octets at the end, the highest bit of each first.
     pub fn push_octets(&mut self, octets: &[u8])
         requires room { length self.old + 8 * length octets.now ≤ N }
+        ensures octets { All (λ octet. octet < 256) octets.now }
         ensures written { self.new ≡ self.old ++ bits_of_octets octets.now }
         ensures length { length self.new ≡ length self.old + 8 * length octets.now }
     {
