@@ -1,0 +1,4 @@
+pub mod Interleaving
+pub mod Pieces
+pub mod Said
+pub mod Syncs
