@@ -58,8 +58,8 @@ fn first_near(syncs: &[Sync], centre: &Bits<48>) -> Option<Sync>
         .find(|sync| word_of(*sync).distance(centre) <= 3)
 }
 
-/// The sync whose word is within three bits of the centre of a burst. An undamaged voice burst with embedded
-/// signalling has none. ETSI TS 102 361-1, clause 9.1.1.
+/// The sync whose word is within three bits of the centre of a burst; at most one is. The centre of a voice burst
+/// with embedded signalling may come near a word too. ETSI TS 102 361-1, clause 9.1.1.
 pub fn read_sync(burst: &[u8; 33]) -> Option<Sync>
     ensures within { IfSome result (λ sync. HasSync sync (bits_of_octets burst.now)) }
     ensures only { (sync : Sync) → HasSync sync (bits_of_octets burst.now) → result ≡ Some sync }
