@@ -1,13 +1,12 @@
-use Rattle.std.proofs.Common.{◌≡◌, ℕ, zero, suc, ◌+◌, ◌-◌, ◌*◌, ◌/◌, ◌%◌, ◌≤◌, ◌<◌, ◌≢◌, Bool, true, false, List, [], ◌∷◌, length, refl, sym, ◌∙◌, ap, subst, arith, cond, get_or, inl, inr, map, replicate}
+-- Filling the table row by row, and then column by column.
+use Rattle.std.proofs.Common.{◌≡◌, ℕ, ◌+◌, ◌-◌, ◌*◌, ◌/◌, ◌%◌, ◌<◌, ◌≢◌, Bool, false, List, refl, sym, ◌∙◌, ap, subst, arith, cond, get_or, inl, inr}
 use Rattle.std.specs.Prelude.{nat_lt}
-use Rattle.std.specs.List.{range_with_len}
-use Rattle.std.proofs.lemmas.Bool.{cases_eq, cases_lt, lt-ltb, le-ltb}
-use Rattle.std.proofs.lemmas.List.{get_or-replicate}
+use Rattle.std.proofs.lemmas.Bool.{cases_eq, lt-ltb, le-ltb}
 use Rattle.dmr_codes.specs.Seven.{IsHamming13, IsHamming15, hamming13_columns, hamming15_columns, hamming13_shaped}
 use Rattle.dmr_codes.proofs.Tables.{all_rows as rows_from}
 use Rattle.dmr_bptc.specs.Table.{cell, row, column}
 use Rattle.dmr_bptc.specs.ProductWord.{information_cell}
-use Rattle.dmr_bptc.proofs.Cells.{length-row, length-column, get_or-column, row_same, column_same}
+use Rattle.dmr_bptc.proofs.Cells.{row_same, column_same}
 
 -- Where all columns are words and the upper nine rows are, all rows are.
 pub all_rows : (bits : List Bool) → ((c : ℕ) → c < 15 → IsHamming13 (column bits c)) → ((r : ℕ) → r < 9 → IsHamming15 (row bits r)) → (r : ℕ) → r < 13 → IsHamming15 (row bits r)

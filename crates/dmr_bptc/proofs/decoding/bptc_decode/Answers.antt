@@ -1,6 +1,5 @@
 use Rattle.std.proofs.Common.{Some, None}
 use Rattle.std.proofs.lemmas.Bool.{both_ways}
-use Rattle.dmr_bptc.specs.Decoding.{IsDecoded}
 use Rattle.dmr_bptc.proofs.Decoded.{undone}
 use Rattle.dmr_bptc.proofs.decoding.bptc_decode.Goals as goal
 

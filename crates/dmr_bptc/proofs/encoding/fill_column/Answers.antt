@@ -1,4 +1,4 @@
-use Rattle.std.proofs.Common.{◌<◌, false, get_or, sym, ◌∙◌, ap, arith, lit<, inl, inr}
+use Rattle.std.proofs.Common.{◌<◌, false, get_or, sym, ◌∙◌, ap, arith, inl, inr}
 use Rattle.std.proofs.lemmas.Bool.{cases_eq}
 use Rattle.std.proofs.lemmas.List.{get_or-take}
 use Rattle.dmr_bptc.proofs.Cells.{get_or-column}
