@@ -3,8 +3,11 @@ pub mod Kept
 pub mod NoFault
 pub mod Numbers
 pub mod OutgoingLemmas
+pub mod OutgoingReading
 pub mod Pieces
+pub mod Readings
 pub mod Spellings
 pub mod Torn
 pub mod UplinkLemmas
 pub mod UplinkReading
+pub mod WrittenReading

@@ -20,7 +20,7 @@ two_octets n a b p q e =
 -- eight octets are the fields that they spell
 pub fields_spelled : (xs : List ℕ) (frame len : ℕ) → length xs ≡ 8 → ((i : ℕ) → get_or xs i 0 < 256)
     → frame ≡ big_number 4 (take 4 xs) → len ≡ big_number 2 (take 2 (drop 6 xs))
-    → xs ≡ field_octets frame (slice_index_or xs 4 0) (slice_index_or xs 5 0) len
+    → xs ≡ field_octets (record { frame = frame; slot = slice_index_or xs 4 0; mode = slice_index_or xs 5 0; count = len })
 fields_spelled (a ∷ b ∷ c ∷ d ∷ slot ∷ mode ∷ e ∷ f ∷ []) frame len eight each first last =
     let number = four_octets frame a b c d (each 0) (each 1) (each 2) (each 3) first in
     let count = two_octets len e f (each 6) (each 7) last in

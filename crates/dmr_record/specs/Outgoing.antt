@@ -1,18 +1,36 @@
--- The outgoing file.
+-- The outgoing file: what its octets spell, and what faults they show.
 use Rattle.std.specs.Prelude.{◌≡◌, ◌≢◌, ℕ, ◌+◌, ◌^◌, ◌<◌, ◌≤◌, ◌⊎◌, List, [], ◌∷◌, ◌++◌, Bool, if◌then◌else◌, length, take}
 use Rattle.std.specs.List.{flat_map}
 use Rattle.byteorder.specs.Endian.{big_bytes}
 use Rattle.dmr_record.specs.declared.head.TheConstants.{OUTGOING_MAGIC}
 use Rattle.dmr_record.specs.declared.fault.RecordFault.{RecordFault}
 use Rattle.dmr_record.specs.declared.fault.RecordFault.TheVariants.{CutRecord, BadTag, FrameOrder, TooLong, Read}
+use Rattle.dmr_record.specs.declared.octets.TheConstants.{DATAGRAM_LIMIT}
 use Rattle.dmr_record.specs.declared.outgoing.Outgoing.{Outgoing}
 use Rattle.dmr_record.specs.Head.{head_octets}
 
--- frame, slot, mode and length of a record
-abbrev pub field_octets : ℕ → ℕ → ℕ → ℕ → List ℕ
-field_octets frame slot mode len = big_bytes 4 frame ++ slot ∷ mode ∷ big_bytes 2 len
+-- What stands between the tag of a record and its datagram: the frame, the slot, the mode, and how many octets
+-- the datagram has.
+pub record Fields : Type 0 where
+  pub frame : ℕ
+  pub slot : ℕ
+  pub mode : ℕ
+  pub count : ℕ
 
--- A record of the outgoing file: what is to be sent, and from which frame on.
+-- the frame in four octets, the slot, the mode, and the count in two octets
+abbrev pub field_octets : Fields → List ℕ
+field_octets f = big_bytes 4 f.frame ++ f.slot ∷ f.mode ∷ big_bytes 2 f.count
+
+-- The numbers fit their widths.
+pub record Fit (f : Fields) : Type 0 where
+  pub frame : f.frame < 2 ^ 32
+  pub count : f.count < 2 ^ 16
+
+-- The slot is 1 or 2, and no other bit of the mode is set than 01 and 02.
+abbrev pub IsPlace : ℕ → ℕ → Type 0
+IsPlace slot mode = ((slot ≡ 1) ⊎ (slot ≡ 2)) × (mode < 4)
+
+-- A record of the outgoing file: what is to be sent, and in which frame it is offered.
 pub record Sending : Type 0 where
   pub frame : ℕ
   pub slot : ℕ
@@ -20,49 +38,62 @@ pub record Sending : Type 0 where
   pub full : Bool
   pub datagram : List ℕ
 
+-- Its numbers fit their widths, and its slot is one.
 pub record IsSending (s : Sending) : Type 0 where
   pub frame : s.frame < 2 ^ 32
   pub slot : (s.slot ≡ 1) ⊎ (s.slot ≡ 2)
   pub datagram : length s.datagram < 2 ^ 16
 
--- bit 01 is confirmed, bit 02 is rate 1
+-- bit 01 is set where it is confirmed, and bit 02 where it goes at rate 1
 abbrev pub mode_of : Bool → Bool → ℕ
 mode_of confirmed full = (if confirmed then 1 else 0) + (if full then 2 else 0)
 
+abbrev pub fields_of : Sending → Fields
+fields_of s = record { frame = s.frame; slot = s.slot; mode = mode_of s.confirmed s.full; count = length s.datagram }
+
+-- 02, the fields, and then the datagram
 abbrev pub sending_octets : Sending → List ℕ
-sending_octets s = 2 ∷ (field_octets s.frame s.slot (mode_of s.confirmed s.full) (length s.datagram) ++ s.datagram)
+sending_octets s = 2 ∷ (field_octets (fields_of s) ++ s.datagram)
 
+-- the records of a file behind its head
+abbrev pub sendings_octets : List Sending → List ℕ
+sendings_octets sendings = flat_map sending_octets sendings
+
+-- the file of these records
 abbrev pub outgoing_file : List Sending → List ℕ
-outgoing_file sendings = head_octets OUTGOING_MAGIC ++ flat_map sending_octets sendings
+outgoing_file sendings = head_octets OUTGOING_MAGIC ++ sendings_octets sendings
 
--- A value that was read has the fields of the record, and the first octets of its datagram.
+-- The frames don't decrease, and the first is no earlier than the last one before.
+abbrev pub AreInOrder : ℕ → List Sending → Type 0
+AreInOrder last [] = Unit {0}
+AreInOrder last (s ∷ rest) = (last ≤ s.frame) × AreInOrder s.frame rest
+
+-- the record that was read, where this is its datagram
 abbrev pub sending_of : Outgoing → List ℕ → Sending
 sending_of o datagram = record { frame = o.frame; slot = o.slot; confirmed = o.confirmed; full = o.full; datagram = datagram }
 
+-- What was read keeps the length of the datagram, and the first of its octets.
 pub record Keeps (o : Outgoing) (datagram : List ℕ) : Type 0 where
   pub count : o.length ≡ length datagram
-  pub front : o.octets ≡ take 1400 datagram
+  pub front : o.octets ≡ take DATAGRAM_LIMIT datagram
 
--- the fields say a slot and a mode
-abbrev pub IsPlace : ℕ → ℕ → Type 0
-IsPlace slot mode = ((slot ≡ 1) ⊎ (slot ≡ 2)) × (mode < 4)
-
--- A front of a record that isn't whole: nothing, less than the fields, or less than the datagram.
+-- Less than a whole record: nothing, or the tag and less than the fields, or less than the datagram behind
+-- fields that name a place and a frame in order.
 abbrev pub IsPartOfSending : ℕ → List ℕ → Type 0
 IsPartOfSending last octets = (octets ≡ [])
     ⊎ ((part : List ℕ) × (length part < 8) × (octets ≡ 2 ∷ part))
-    ⊎ ((frame slot mode len : ℕ) × (part : List ℕ) × IsPlace slot mode × (last ≤ frame) × (length part < len)
-    × (octets ≡ 2 ∷ (field_octets frame slot mode len ++ part)))
+    ⊎ ((f : Fields) × (part : List ℕ) × Fit f × IsPlace f.slot f.mode × (last ≤ f.frame) × (length part < f.count)
+    × (octets ≡ 2 ∷ (field_octets f ++ part)))
 
 -- These octets, taken as the front of a record with so many records before it, the last of which has this
--- frame, show this fault.
+-- frame, show this fault. A tag is bad where it isn't 02, or where the fields behind it name no place.
 abbrev pub ShowsOutgoingFault : ℕ → ℕ → ℕ → RecordFault → List ℕ → Type 0
 ShowsOutgoingFault limit before last TooLong octets = (limit ≤ before) × (length octets ≡ 1)
 ShowsOutgoingFault limit before last BadTag octets = (before < limit)
     × (((tag : ℕ) × (tag ≢ 2) × (octets ≡ tag ∷ []))
-    ⊎ ((frame slot mode len : ℕ) × (IsPlace slot mode → ⊥) × (octets ≡ 2 ∷ field_octets frame slot mode len)))
+    ⊎ ((f : Fields) × Fit f × (¬ IsPlace f.slot f.mode) × (octets ≡ 2 ∷ field_octets f)))
 ShowsOutgoingFault limit before last FrameOrder octets = (before < limit)
-    × ((frame slot mode len : ℕ) × IsPlace slot mode × (frame < last) × (octets ≡ 2 ∷ field_octets frame slot mode len))
+    × (f : Fields) × Fit f × IsPlace f.slot f.mode × (f.frame < last) × (octets ≡ 2 ∷ field_octets f)
 ShowsOutgoingFault limit before last CutRecord octets = (before < limit) × (octets ≢ []) × IsPartOfSending last octets
-ShowsOutgoingFault limit before last Read octets = IsPartOfSending last octets
+ShowsOutgoingFault limit before last Read octets = (limit ≤ before → octets ≡ []) × IsPartOfSending last octets
 ShowsOutgoingFault limit before last e octets = ⊥

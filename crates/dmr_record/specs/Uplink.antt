@@ -43,7 +43,7 @@ abbrev pub IsPartOfSlot : List ℕ → Type 0
 IsPartOfSlot [] = Unit {0}
 IsPartOfSlot (tag ∷ body) = (tag ≡ 1) × (length body < 33)
 
--- What octets of one slot show where reading ends with a fault: another tag than 00 and 01, or a part of a slot.
+-- What octets of one slot show where reading ends in it: another tag than 00 and 01, or less than a slot.
 abbrev pub ShowsSlotFault : RecordFault → List ℕ → Type 0
 ShowsSlotFault BadTag octets = (tag : ℕ) × (1 < tag) × (octets ≡ tag ∷ [])
 ShowsSlotFault CutRecord octets = (octets ≢ []) × IsPartOfSlot octets
@@ -55,9 +55,10 @@ abbrev pub EndsInSlot : RecordFault → List ℕ → Type 0
 EndsInSlot fault octets = (slots : List (Option (List ℕ))) × (part : List ℕ) × (length slots < 2) × AllByRecursion IsSlot slots
     × ShowsSlotFault fault part × (octets ≡ flat_map slot_octets slots ++ part)
 
--- These octets, taken as the front of a frame with so many frames before it, show this fault.
+-- These octets, taken as the front of a frame with so many frames before it, show this fault. Past the limit one
+-- octet does, whatever it is.
 abbrev pub ShowsFault : ℕ → ℕ → RecordFault → List ℕ → Type 0
 ShowsFault limit before TooLong octets = (limit ≤ before) × (length octets ≡ 1)
 ShowsFault limit before HalfFrame octets = (before < limit) × (slot : Option (List ℕ)) × IsSlot slot × (octets ≡ slot_octets slot)
-ShowsFault limit before Read octets = EndsInSlot Read octets
+ShowsFault limit before Read octets = (limit ≤ before → octets ≡ []) × EndsInSlot Read octets
 ShowsFault limit before e octets = (before < limit) × EndsInSlot e octets

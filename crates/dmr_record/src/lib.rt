@@ -15,6 +15,7 @@ mod device;
 mod downlink;
 mod fault;
 mod head;
+pub mod laws;
 mod octets;
 mod outgoing;
 mod received;

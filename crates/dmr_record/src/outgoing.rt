@@ -41,9 +41,16 @@ struct Fields {
     length: u16,
 }
 
+/// How a datagram is to be sent.
+#[derive(Clone, Copy)]
+struct Mode {
+    confirmed: bool,
+    full: bool,
+}
+
 /// The fields that eight octets spell.
 fn fields_of(octets: [u8; 8]) -> Fields
-    ensures octets { octets ≡ field_octets result.frame result.slot result.mode result.length }
+    ensures octets { octets ≡ field_octets (record { frame = result.frame; slot = result.slot; mode = result.mode; count = result.length }) }
 {
     Fields {
         frame: BigEndian::read_u32(&octets[..4]),
@@ -83,7 +90,8 @@ fn read_octets<S: Source>(source: &mut S, count: u16) -> Result<Octets, RecordFa
 /// Reads the fields behind a tag.
 fn read_fields<S: Source>(source: &mut S) -> Result<Fields, RecordFault>
     requires well { S.has_failed source.old ≡ false }
-    ensures fields { IfOk result (λ f. Consumes (S.left source.old) (S.left source.new) (field_octets f.frame f.slot f.mode f.length)) }
+    ensures fields { IfOk result (λ f. Consumes (S.left source.old) (S.left source.new)
+        (field_octets (record { frame = f.frame; slot = f.slot; mode = f.mode; count = f.length }))) }
     ensures well { OnOk result (S.has_failed source.new ≡ false) }
     ensures part { OnErr result ((part : List ℕ) × (length part < 8)
         × Consumes (S.left source.old) (S.left source.new) part) }
@@ -99,9 +107,9 @@ fn read_fields<S: Source>(source: &mut S) -> Result<Fields, RecordFault>
     }
 }
 
-/// Whether a datagram is confirmed, and whether at rate 1, where the fields name a slot and a mode.
-fn place_of(slot: u8, mode: u8) -> Option<(bool, bool)>
-    ensures mode { IfSome result (λ found. mode ≡ mode_of found.0 found.1) }
+/// The mode, where the fields name a slot and a mode.
+fn mode_named(slot: u8, mode: u8) -> Option<Mode>
+    ensures mode { IfSome result (λ found. mode ≡ mode_of found.confirmed found.full) }
     ensures place { IfSome result (λ _. IsPlace slot mode) }
     ensures none { IfNone result (¬ IsPlace slot mode) }
 {
@@ -109,10 +117,10 @@ fn place_of(slot: u8, mode: u8) -> Option<(bool, bool)>
         return None;
     }
     match mode {
-        0 => Some((false, false)),
-        1 => Some((true, false)),
-        2 => Some((false, true)),
-        3 => Some((true, true)),
+        0..=3 => Some(Mode {
+            confirmed: mode % 2 == 1,
+            full: mode >= 2,
+        }),
         _ => None,
     }
 }
@@ -154,7 +162,7 @@ pub fn read_outgoing<S: Source>(
         return Err(RecordFault::BadTag);
     }
     let fields = read_fields(source)?;
-    let Some((confirmed, full)) = place_of(fields.slot, fields.mode) else {
+    let Some(mode) = mode_named(fields.slot, fields.mode) else {
         return Err(RecordFault::BadTag);
     };
     if fields.frame < last {
@@ -164,8 +172,8 @@ pub fn read_outgoing<S: Source>(
     Ok(Some(Outgoing {
         frame: fields.frame,
         slot: fields.slot,
-        confirmed,
-        full,
+        confirmed: mode.confirmed,
+        full: mode.full,
         length: fields.length,
         octets,
     }))

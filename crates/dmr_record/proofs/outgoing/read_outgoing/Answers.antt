@@ -1,7 +1,7 @@
-use Rattle.std.proofs.Common.{◌++◌, inl, inr, ◌∷◌, refl}
+use Rattle.std.proofs.Common.{rules, ◌++◌, inl, inr, ◌∷◌, refl}
 use Rattle.std.proofs.lemmas.Result.{err_from_is_err_and}
 use Rattle.std.proofs.KnownBytes.{Consumes-trans}
-use Rattle.dmr_record.specs.Outgoing.{field_octets}
+use Rattle.dmr_record.specs.Outgoing.{Fields, field_octets, Fit}
 use Rattle.dmr_record.proofs.OutgoingLemmas.{tagged, ShowsOutgoingFault-part}
 use Rattle.dmr_record.proofs.outgoing.read_outgoing.Goals as goal
 
@@ -17,37 +17,40 @@ returns-in_err-fields-clause-fault g c =
           (inr (inl (part, fewer, refl))),
     )
 
-pub returns-in_default-place_of-clause-fault : goal.returns-in_default-place_of-clause-fault
-returns-in_default-place_of-clause-fault g c =
+pub returns-in_default-mode_named-clause-fault : goal.returns-in_default-mode_named-clause-fault
+returns-in_default-mode_named-clause-fault g c =
     let octet = rw c.in-Some.is at c.in_ok-tag.ensures.octet in
-    let f = c.in_ok-fields.fields in
-    let octets = field_octets f.frame f.slot f.mode f.length in (
-      2 ∷ octets,
-      tagged _ _ _ _ octets c.if-tag-ne-OUTGOING.false octet c.in_ok-fields.ensures.fields,
-      (c.if-before-ge-RECORD_LIMIT.false, inr (f.frame, f.slot, f.mode, f.length, c.in_default-place_of.ensures.none, refl)),
+    let read = c.in_ok-fields.fields in
+    let f : Fields = record { frame = read.frame; slot = read.slot; mode = read.mode; count = read.length } in
+    let fit : Fit f = record { frame = search rules; count = search rules } in (
+      2 ∷ field_octets f,
+      tagged _ _ _ _ (field_octets f) c.if-tag-ne-OUTGOING.false octet c.in_ok-fields.ensures.fields,
+      (c.if-before-ge-RECORD_LIMIT.false, inr (f, fit, c.in_default-mode_named.ensures.none, refl)),
     )
 
 pub returns-then-fields-last-clause-fault : goal.returns-then-fields-last-clause-fault
 returns-then-fields-last-clause-fault g c =
     let octet = rw c.in-Some.is at c.in_ok-tag.ensures.octet in
-    let f = c.in_ok-fields.fields in
-    let octets = field_octets f.frame f.slot f.mode f.length in (
-      2 ∷ octets,
-      tagged _ _ _ _ octets c.if-tag-ne-OUTGOING.false octet c.in_ok-fields.ensures.fields,
-      (c.if-before-ge-RECORD_LIMIT.false, (f.frame, f.slot, f.mode, f.length, c.in-Some-place_of.ensures.place, c.if-fields-last.true, refl)),
+    let read = c.in_ok-fields.fields in
+    let f : Fields = record { frame = read.frame; slot = read.slot; mode = read.mode; count = read.length } in
+    let fit : Fit f = record { frame = search rules; count = search rules } in (
+      2 ∷ field_octets f,
+      tagged _ _ _ _ (field_octets f) c.if-tag-ne-OUTGOING.false octet c.in_ok-fields.ensures.fields,
+      (c.if-before-ge-RECORD_LIMIT.false, f, fit, c.in-Some-mode_named.ensures.place, c.if-fields-last.true, refl),
     )
 
 pub returns-in_err-octets-clause-fault : goal.returns-in_err-octets-clause-fault
 returns-in_err-octets-clause-fault g c =
     let p = err_from_is_err_and c.from_residual-in_err-octets.result c.from_residual-in_err-octets.ensures.1 in
     let octet = rw c.in-Some.is at c.in_ok-tag.ensures.octet in
-    let f = c.in_ok-fields.fields in
-    let octets = field_octets f.frame f.slot f.mode f.length in
+    let read = c.in_ok-fields.fields in
+    let f : Fields = record { frame = read.frame; slot = read.slot; mode = read.mode; count = read.length } in
+    let fit : Fit f = record { frame = search rules; count = search rules } in
     let (part, fewer, took) = c.in_err-octets.ensures.part in
-    let fields = tagged _ _ _ _ octets c.if-tag-ne-OUTGOING.false octet c.in_ok-fields.ensures.fields in
+    let fields = tagged _ _ _ _ (field_octets f) c.if-tag-ne-OUTGOING.false octet c.in_ok-fields.ensures.fields in
     rw (p.1, p.2) (
-      2 ∷ (octets ++ part),
-      Consumes-trans _ _ _ (2 ∷ octets) part fields took,
-      ShowsOutgoingFault-part _ _ _ _ (2 ∷ (octets ++ part)) c.if-before-ge-RECORD_LIMIT.false (λ e. (cc)) c.in_err-octets.ensures.cause
-          (inr (inr (f.frame, f.slot, f.mode, f.length, part, c.in-Some-place_of.ensures.place, c.if-fields-last.false, fewer, refl))),
+      2 ∷ (field_octets f ++ part),
+      Consumes-trans _ _ _ (2 ∷ field_octets f) part fields took,
+      ShowsOutgoingFault-part _ _ _ _ (2 ∷ (field_octets f ++ part)) c.if-before-ge-RECORD_LIMIT.false (λ e. (cc)) c.in_err-octets.ensures.cause
+          (inr (inr (f, part, fit, c.in-Some-mode_named.ensures.place, c.if-fields-last.false, fewer, refl))),
     )

@@ -1,0 +1,69 @@
+//! Laws of the files, as the contracts of functions that do nothing.
+//!
+//! A file has one reading: two lists of records with the same octets are the same list. And a reading call has
+//! no choice: a text that begins with a record has no fault, and no text has two. `Read` apart, which the device
+//! has and no text.
+
+ghost use Rattle.std.specs.Prelude.{◌≡◌, ◌≢◌, ℕ, ◌+◌, ◌<◌, ◌≤◌, List, ◌++◌, Option, length};
+ghost use Rattle.std.specs.List.{AllByRecursion};
+ghost use Rattle.dmr_record.specs.declared.fault.RecordFault.{RecordFault};
+ghost use Rattle.dmr_record.specs.Downlink.{IsSent, downlink_file};
+ghost use Rattle.dmr_record.specs.Faults.{HasFault};
+ghost use Rattle.dmr_record.specs.Head.{head_octets, ShowsHeadFault};
+ghost use Rattle.dmr_record.specs.Outgoing.{Sending, IsSending, AreInOrder, sending_octets, sendings_octets, outgoing_file, ShowsOutgoingFault};
+ghost use Rattle.dmr_record.specs.Received.{Receipt, IsReceipt, received_file};
+ghost use Rattle.dmr_record.specs.Uplink.{IsFrame, frame_octets, frames_octets, uplink_file, ShowsFault};
+
+/// An uplink file is that of one list of frames.
+pub fn uplink_has_one_reading()
+    ensures one { (xs ys : List (List (Option (List ℕ)))) → AllByRecursion IsFrame xs → AllByRecursion IsFrame ys
+        → uplink_file xs ≡ uplink_file ys → xs ≡ ys }
+{}
+
+/// An outgoing file is that of one list of records.
+pub fn outgoing_has_one_reading()
+    ensures one { (xs ys : List Sending) → AllByRecursion IsSending xs → AllByRecursion IsSending ys
+        → outgoing_file xs ≡ outgoing_file ys → xs ≡ ys }
+{}
+
+/// A downlink file is that of one list of slots.
+pub fn downlink_has_one_reading()
+    ensures one { (xs ys : List (Option (List ℕ × List ℕ))) → AllByRecursion IsSent xs → AllByRecursion IsSent ys
+        → downlink_file xs ≡ downlink_file ys → xs ≡ ys }
+{}
+
+/// A received file is that of one list of records.
+pub fn received_has_one_reading()
+    ensures one { (xs ys : List Receipt) → AllByRecursion IsReceipt xs → AllByRecursion IsReceipt ys
+        → received_file xs ≡ received_file ys → xs ≡ ys }
+{}
+
+/// A text that begins with a head has no fault of a head, and no text has two.
+pub fn head_faults()
+    ensures none { (magic rest : List ℕ) (e : RecordFault) → length magic ≡ 4
+        → HasFault (ShowsHeadFault magic) (head_octets magic ++ rest) e → e ≡ RecordFault.Read }
+    ensures one { (magic text : List ℕ) (e f : RecordFault) → HasFault (ShowsHeadFault magic) text e
+        → HasFault (ShowsHeadFault magic) text f → e ≢ RecordFault.Read → f ≢ RecordFault.Read → e ≡ f }
+{}
+
+/// A text that begins with a frame, no further than may be, has no fault, and no text has two. So a text of
+/// frames, no more than may be, has none.
+pub fn uplink_faults()
+    ensures none { (limit before : ℕ) (frame : List (Option (List ℕ))) (rest : List ℕ) (e : RecordFault) → IsFrame frame → before < limit
+        → HasFault (ShowsFault limit before) (frame_octets frame ++ rest) e → e ≡ RecordFault.Read }
+    ensures one { (limit before : ℕ) (text : List ℕ) (e f : RecordFault) → HasFault (ShowsFault limit before) text e
+        → HasFault (ShowsFault limit before) text f → e ≢ RecordFault.Read → f ≢ RecordFault.Read → e ≡ f }
+    ensures all { (limit before : ℕ) (frames : List (List (Option (List ℕ)))) (e : RecordFault) → AllByRecursion IsFrame frames
+        → before + length frames ≤ limit → HasFault (ShowsFault limit before) (frames_octets frames) e → e ≡ RecordFault.Read }
+{}
+
+/// The same of the outgoing file, where the frames of the records don't decrease.
+pub fn outgoing_faults()
+    ensures none { (limit before last : ℕ) (s : Sending) (rest : List ℕ) (e : RecordFault) → IsSending s → before < limit → last ≤ s.frame
+        → HasFault (ShowsOutgoingFault limit before last) (sending_octets s ++ rest) e → e ≡ RecordFault.Read }
+    ensures one { (limit before last : ℕ) (text : List ℕ) (e f : RecordFault) → HasFault (ShowsOutgoingFault limit before last) text e
+        → HasFault (ShowsOutgoingFault limit before last) text f → e ≢ RecordFault.Read → f ≢ RecordFault.Read → e ≡ f }
+    ensures all { (limit before last : ℕ) (sendings : List Sending) (e : RecordFault) → AllByRecursion IsSending sendings
+        → AreInOrder last sendings → before + length sendings ≤ limit
+        → HasFault (ShowsOutgoingFault limit before last) (sendings_octets sendings) e → e ≡ RecordFault.Read }
+{}
