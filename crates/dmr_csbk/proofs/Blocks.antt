@@ -1,0 +1,89 @@
+-- A block and its bits decide each other.
+use Rattle.std.proofs.Common.{◌≡◌, ℕ, ◌≤◌, ◌<◌, ◌^◌, List, Bool, ◌∷◌, ◌++◌, length, take, drop, sym, ap, ◌∙◌, subst, arith}
+use Rattle.std.specs.List.{All}
+use Rattle.std.proofs.lemmas.List.{take_at, drop_at, length-take-le, length-append, append_assoc}
+use Rattle.std.proofs.lemmas.List.Elements.{All-take}
+use Rattle.dmr_bits.specs.Bits.{number_of, bits_of, bits_of_octets, octets_of}
+use Rattle.dmr_bits.proofs.Lists.{length-bits_of, number_of-bits_of}
+use Rattle.dmr_bits.proofs.Octets.{octets_of-bits_of_octets, bits_of_octets-octets_of}
+use Rattle.dmr_bits.proofs.OctetFronts.{length-bits_of_octets, bits_of_octets-take, length-octets_of, octets_of-small}
+use Rattle.dmr_checks.specs.Sealed.{IsSealed}
+use Rattle.dmr_checks.proofs.Blocks.{sealed_alike}
+use Rattle.dmr_checks.specs.declared.sealing.Mask.TheVariants as mask
+use Rattle.dmr_csbk.specs.declared.block.Csbk.{Csbk}
+use Rattle.dmr_csbk.specs.Block.{field_bits, IsFit, IsBlock}
+
+-- bits that begin with a number's decide it
+same_number : (width a b : ℕ) (x y : List Bool) → a < 2 ^ width → b < 2 ^ width → bits_of width a ++ x ≡ bits_of width b ++ y → (a ≡ b) × (x ≡ y)
+same_number width a b x y p q e =
+    let fronts : bits_of width a ≡ bits_of width b =
+    sym (take_at (bits_of width a) x width (length-bits_of width a)) ∙ ap (take width) e ∙ take_at (bits_of width b) y width (length-bits_of width b) in (
+      sym (number_of-bits_of width a p) ∙ ap number_of fronts ∙ number_of-bits_of width b q,
+      sym (drop_at (bits_of width a) x width (length-bits_of width a)) ∙ ap (drop width) e ∙ drop_at (bits_of width b) y width (length-bits_of width b),
+    )
+
+-- octets are decided by their bits
+pub same_octets : (xs ys : List ℕ) → All (λ octet. octet < 256) xs → All (λ octet. octet < 256) ys → length xs ≡ length ys → bits_of_octets xs ≡ bits_of_octets ys → xs ≡ ys
+same_octets xs ys p q long e =
+    sym (octets_of-bits_of_octets xs p) ∙ ap (octets_of (length xs)) e ∙ ap (λ n. octets_of n (bits_of_octets ys)) long ∙ octets_of-bits_of_octets ys q
+
+-- the fields are decided by their bits
+pub same_fields : (a b : Csbk) → IsFit a → IsFit b → field_bits a ≡ field_bits b → a ≡ b
+same_fields a b p q e =
+    let tail : bits_of 6 a.code ++ (bits_of 8 a.fid ++ bits_of_octets a.body) ≡ bits_of 6 b.code ++ (bits_of 8 b.fid ++ bits_of_octets b.body) = cc in
+    let last : a.last ≡ b.last = cc in
+    let protect : a.protect ≡ b.protect = cc in
+    let code = same_number 6 a.code b.code (bits_of 8 a.fid ++ bits_of_octets a.body) (bits_of 8 b.fid ++ bits_of_octets b.body) p.code q.code tail in
+    let fid = same_number 8 a.fid b.fid (bits_of_octets a.body) (bits_of_octets b.body) p.fid q.fid code.1 in
+    let body = same_octets a.body b.body p.octets q.octets (p.count ∙ sym q.count) fid.1 in
+    same_record a.last b.last a.protect b.protect a.code b.code a.fid b.fid a.body b.body last protect code.0 fid.0 body
+  where
+    same_record : (l l' p p' : Bool) (c c' f f' : ℕ) (o o' : List ℕ) → l ≡ l' → p ≡ p' → c ≡ c' → f ≡ f' → o ≡ o'
+        → ◌≡◌ {A = Csbk} (record { last = l; protect = p; code = c; fid = f; body = o }) (record { last = l'; protect = p'; code = c'; fid = f'; body = o' })
+    same_record l l' p p' c c' f f' o o' e1 e2 e3 e4 e5 = cc
+
+-- the first octets of a message are those of its first bits
+front_of : (message : List Bool) → length message ≡ 96 → bits_of_octets (take 10 (octets_of 12 message)) ≡ take 80 message
+front_of message long =
+    let twelve : 10 ≤ length (octets_of 12 message) = omega (arith, length-octets_of 12 message) in
+    sym (bits_of_octets-take 10 (octets_of 12 message) twelve) ∙ ap (take 80) (bits_of_octets-octets_of 12 message long)
+
+-- messages that are sealed and have the same fields are equal
+pub same_message : (c : Csbk) (a b : List Bool) → IsBlock c a → IsBlock c b → a ≡ b
+same_message c a b p q =
+    let xs : List ℕ = octets_of 12 a in
+    let ys : List ℕ = octets_of 12 b in
+    let long : length xs ≡ 12 = length-octets_of 12 a in
+    let long' : length ys ≡ 12 = length-octets_of 12 b in
+    let fronts : take 10 xs ≡ take 10 ys =
+    same_octets (take 10 xs) (take 10 ys) (All-take (λ octet. octet < 256) 10 xs (octets_of-small 12 a)) (All-take (λ octet. octet < 256) 10 ys (octets_of-small 12 b))
+    (length-take-le 10 xs (omega arith) ∙ sym (length-take-le 10 ys (omega arith)))
+    (front_of a p.long ∙ p.fields ∙ sym q.fields ∙ sym (front_of b q.long)) in
+    let same = sealed_alike mask.Csbk xs ys long long' (octets_of-small 12 a) (octets_of-small 12 b) fronts p.sealed q.sealed in
+    sym (bits_of_octets-octets_of 12 a p.long) ∙ ap bits_of_octets same ∙ bits_of_octets-octets_of 12 b q.long
+
+-- a message is of one block
+pub same_block : (a b : Csbk) (message : List Bool) → IsBlock a message → IsBlock b message → a ≡ b
+same_block a b message p q = same_fields a b p.fit q.fit (sym p.fields ∙ q.fields)
+
+-- ---- reading
+-- the fields stand in front of what is left
+pub fields_first : (last protect : Bool) (code fid body rest : List Bool) → length code ≡ 6 → length fid ≡ 8 → length body ≡ 64
+    → take 80 (last ∷ protect ∷ (code ++ (fid ++ (body ++ rest)))) ≡ last ∷ protect ∷ (code ++ (fid ++ body))
+fields_first last protect code fid body rest six eight many =
+    let front : List Bool = code ++ (fid ++ body) in
+    let long : length front ≡ 78 = omega (arith, length-append code (fid ++ body), length-append fid body) in
+    let split : code ++ (fid ++ (body ++ rest)) ≡ front ++ rest =
+    ap (λ l. code ++ l) (sym (append_assoc fid body rest)) ∙ sym (append_assoc code (fid ++ body) rest) in
+    ap (λ l. last ∷ protect ∷ take 78 l) split ∙ ap (λ l. last ∷ protect ∷ l) (take_at front rest 78 long)
+
+-- ---- writing
+-- the sealed octets of the fields are a block
+pub sealed_block : (c : Csbk) (message : List Bool) (fields block : List ℕ) (list : List Bool) → IsFit c → list ≡ field_bits c → bits_of_octets fields ≡ list
+    → take 10 block ≡ fields → IsSealed mask.Csbk block → message ≡ bits_of_octets block → length block ≡ 12 → All (λ octet. octet < 256) block → IsBlock c message
+sealed_block c message fields block list fit is spelled front sealed written long small = record {
+  fit = fit;
+  long = ap length written ∙ length-bits_of_octets block ∙ omega arith;
+  fields = ap (take 80) written ∙ bits_of_octets-take 10 block (omega arith) ∙ ap bits_of_octets front ∙ spelled ∙ is;
+  sealed = subst (IsSealed mask.Csbk) (sym (octets_of-bits_of_octets block small) ∙ ap (λ n. octets_of n (bits_of_octets block)) long ∙ ap (octets_of 12) (sym written)) sealed;
+}

@@ -1,0 +1,77 @@
+//! What the bodies of some blocks mean.
+ghost use Rattle.std.specs.Prelude.{◌≡◌, ◌↔◌, IsSome, IfSome, slice_index_or, false};
+ghost use Rattle.dmr_bits.specs.Bits.{number_of, part, bits_of_octets};
+ghost use Rattle.dmr_csbk.specs.declared.views.TheConstants.{DOWN_ACT, PREAMBLE};
+
+use crate::block::Csbk;
+use dmr_bits::Bits;
+
+/// The opcode of BS_Dwn_Act, by which a radio asks a base station to transmit (ETSI TS 102 361-2, clause 7.1.2).
+pub const DOWN_ACT: u8 = 56;
+
+/// The opcode of the preamble, which announces blocks that follow (ETSI TS 102 361-2, clause 7.1.2).
+pub const PREAMBLE: u8 = 61;
+
+/// The body of BS_Dwn_Act, behind its sixteen reserved bits.
+#[derive(Clone, Copy, Debug, PartialEq, Eq)]
+pub struct BsDownAct {
+    /// The base station that is asked, an address of 24 bits.
+    pub bs: u32,
+    /// The radio that asks, an address of 24 bits.
+    pub source: u32,
+}
+
+/// The body of a preamble.
+#[derive(Clone, Copy, Debug, PartialEq, Eq)]
+pub struct Preamble {
+    /// The blocks that follow are of a packet; else they are CSBKs.
+    pub packet: bool,
+    /// The target is a talk group; else it is a radio.
+    pub group: bool,
+    /// How many bursts follow.
+    pub left: u8,
+    /// For whom they are, an address of 24 bits.
+    pub target: u32,
+    /// From whom they are, an address of 24 bits.
+    pub source: u32,
+}
+
+impl Csbk {
+    /// The body as BS_Dwn_Act, where the opcode says so. It tests the opcode alone.
+    pub fn down_act(&self) -> Option<BsDownAct>
+        ensures opcode { IsSome result ↔ (self.now.code ≡ DOWN_ACT) }
+        ensures bs { IfSome result (λ act. act.bs ≡ number_of (part (bits_of_octets self.now.body) 16 40)) }
+        ensures source { IfSome result (λ act. act.source ≡ number_of (part (bits_of_octets self.now.body) 40 64)) }
+    {
+        if self.code != DOWN_ACT {
+            return None;
+        }
+        let body = Bits::<64>::from_octets(&self.body);
+        Some(BsDownAct {
+            bs: body.field(16, 24) as u32,
+            source: body.field(40, 24) as u32,
+        })
+    }
+
+    /// The body as a preamble, where the opcode says so. It tests the opcode alone.
+    pub fn preamble(&self) -> Option<Preamble>
+        ensures opcode { IsSome result ↔ (self.now.code ≡ PREAMBLE) }
+        ensures packet { IfSome result (λ preamble. preamble.packet ≡ slice_index_or (bits_of_octets self.now.body) 0 false) }
+        ensures group { IfSome result (λ preamble. preamble.group ≡ slice_index_or (bits_of_octets self.now.body) 1 false) }
+        ensures left { IfSome result (λ preamble. preamble.left ≡ number_of (part (bits_of_octets self.now.body) 8 16)) }
+        ensures target { IfSome result (λ preamble. preamble.target ≡ number_of (part (bits_of_octets self.now.body) 16 40)) }
+        ensures source { IfSome result (λ preamble. preamble.source ≡ number_of (part (bits_of_octets self.now.body) 40 64)) }
+    {
+        if self.code != PREAMBLE {
+            return None;
+        }
+        let body = Bits::<64>::from_octets(&self.body);
+        Some(Preamble {
+            packet: body.get(0),
+            group: body.get(1),
+            left: body.field(8, 8) as u8,
+            target: body.field(16, 24) as u32,
+            source: body.field(40, 24) as u32,
+        })
+    }
+}
