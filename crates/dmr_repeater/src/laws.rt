@@ -1,0 +1,30 @@
+//! Laws of what is heard and sent, as the contracts of functions that do nothing.
+ghost use Rattle.std.specs.Prelude.{◌≡◌, ℕ, Bool, List, Option};
+ghost use Rattle.std.specs.List.{AllByRecursion};
+ghost use Rattle.dmr_repeater.specs.declared.line.LineSlot.{LineSlot};
+ghost use Rattle.dmr_repeater.specs.Clean.{IsSealedSlot, IsCleanSlot};
+ghost use Rattle.dmr_repeater.specs.Heard.{IsHeardAs};
+ghost use Rattle.dmr_repeater.specs.Push.{LineByPushes};
+ghost use Rattle.dmr_repeater.specs.Sent.{AreOctets, AreSentAs};
+
+/// A slot is heard in one way.
+pub fn one_hearing()
+    ensures law { (colour : ℕ) (slot : Option (List ℕ)) (a b : Option (List Bool)) → IsHeardAs colour slot a → IsHeardAs colour slot b → a ≡ b }
+{}
+
+/// Slots of the line have one encoding.
+pub fn one_encoding()
+    ensures law { (colour place : ℕ) (slots : List LineSlot) (a b : List (Option (List ℕ × List ℕ)))
+        → AllByRecursion AreOctets a → AllByRecursion AreOctets b → AreSentAs colour place slots a → AreSentAs colour place slots b → a ≡ b }
+{}
+
+/// Whatever the line sends of sealed messages may be transmitted.
+pub fn sent_slots_are_clean()
+    ensures law { (colour place : ℕ) (slots : List LineSlot) (sent : List (Option (List ℕ × List ℕ)))
+        → AllByRecursion IsSealedSlot slots → AreSentAs colour place slots sent → AllByRecursion (IsCleanSlot colour) sent }
+{}
+
+/// The line of a whole recording, push by push.
+pub fn line_by_pushes()
+    ensures law { LineByPushes }
+{}
