@@ -97,8 +97,14 @@ sending_at-spelled limit before last s rest below order is =
     let fit : Fit (fields_of s) = record { frame = is.frame; count = is.datagram } in
     let long : leb (length s.datagram) (length (s.datagram ++ rest)) ≡ true = le-leb _ _ (omega (arith, length-append s.datagram rest)) in
     sending_at-fields limit before last (fields_of s) (s.datagram ++ rest) below fit
-    ∙ rw (is_place-true s.slot (mode_of s.confirmed s.full) (is.slot, low), le-ltb s.frame last order, long, take_at s.datagram rest (length s.datagram) refl,
-    drop_at s.datagram rest (length s.datagram) refl, sending_back s) refl
+    ∙ rw (
+      is_place-true s.slot (mode_of s.confirmed s.full) (is.slot, low),
+      le-ltb s.frame last order,
+      long,
+      take_at s.datagram rest (length s.datagram) refl,
+      drop_at s.datagram rest (length s.datagram) refl,
+      sending_back s,
+    ) refl
 
 -- a fault that a text has is told
 pub sending_at-shown : (limit before last : ℕ) (e : RecordFault) (taken rest : List ℕ) → ShowsOutgoingFault limit before last e taken → is_device_fault e ≡ false

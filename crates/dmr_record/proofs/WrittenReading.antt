@@ -61,10 +61,12 @@ one_receipt x y a b p q e =
     let kind = one_kind x.kind y.kind (ap (λ l. get_or l 6 0) e) in
     let source = sym (source_in x a p) ∙ ap (λ l. big_number 3 (drop 7 l)) e ∙ source_in y b q in
     let count = sym (count_in x a p) ∙ ap (λ l. big_number 2 (drop 10 l)) e ∙ count_in y b q in
-    let octets = same_fronts x.octets y.octets a b count (ap (drop 12) e) in
-    (ap (λ n. receipt n x.slot x.kind x.source x.octets) frame ∙ ap (λ n. receipt y.frame n x.kind x.source x.octets) slot
-    ∙ ap (λ k. receipt y.frame y.slot k x.source x.octets) kind ∙ ap (λ n. receipt y.frame y.slot y.kind n x.octets) source
-    ∙ ap (λ l. receipt y.frame y.slot y.kind y.source l) octets.0, octets.1)
+    let octets = same_fronts x.octets y.octets a b count (ap (drop 12) e) in (
+      ap (λ n. receipt n x.slot x.kind x.source x.octets) frame ∙ ap (λ n. receipt y.frame n x.kind x.source x.octets) slot
+          ∙ ap (λ k. receipt y.frame y.slot k x.source x.octets) kind ∙ ap (λ n. receipt y.frame y.slot y.kind n x.octets) source
+          ∙ ap (λ l. receipt y.frame y.slot y.kind y.source l) octets.0,
+      octets.1,
+    )
 
 pub receipt_code : IsPrefixCode IsReceipt receipt_octets
 receipt_code = record {

@@ -33,3 +33,6 @@ pub use octets::{DATAGRAM_LIMIT, Octets};
 pub use outgoing::{Outgoing, RECORD_LIMIT, read_outgoing};
 pub use received::{ReceivedKind, write_received};
 pub use uplink::{FRAME_LIMIT, read_frame};
+
+#[cfg(test)]
+mod tests;
