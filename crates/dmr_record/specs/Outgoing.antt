@@ -49,7 +49,8 @@ abbrev pub mode_of : Bool → Bool → ℕ
 mode_of confirmed full = (if confirmed then 1 else 0) + (if full then 2 else 0)
 
 abbrev pub fields_of : Sending → Fields
-fields_of s = record { frame = s.frame; slot = s.slot; mode = mode_of s.confirmed s.full; count = length s.datagram }
+fields_of s =
+    record { frame = s.frame; slot = s.slot; mode = mode_of s.confirmed s.full; count = length s.datagram }
 
 -- 02, the fields, and then the datagram
 abbrev pub sending_octets : Sending → List ℕ
@@ -70,7 +71,8 @@ AreInOrder last (s ∷ rest) = (last ≤ s.frame) × AreInOrder s.frame rest
 
 -- the record that was read, where this is its datagram
 abbrev pub sending_of : Outgoing → List ℕ → Sending
-sending_of o datagram = record { frame = o.frame; slot = o.slot; confirmed = o.confirmed; full = o.full; datagram = datagram }
+sending_of o datagram =
+    record { frame = o.frame; slot = o.slot; confirmed = o.confirmed; full = o.full; datagram = datagram }
 
 -- What was read keeps the length of the datagram, and the first of its octets.
 pub record Keeps (o : Outgoing) (datagram : List ℕ) : Type 0 where
@@ -94,6 +96,8 @@ ShowsOutgoingFault limit before last BadTag octets = (before < limit)
     ⊎ ((f : Fields) × Fit f × (¬ IsPlace f.slot f.mode) × (octets ≡ 2 ∷ field_octets f)))
 ShowsOutgoingFault limit before last FrameOrder octets = (before < limit)
     × (f : Fields) × Fit f × IsPlace f.slot f.mode × (f.frame < last) × (octets ≡ 2 ∷ field_octets f)
-ShowsOutgoingFault limit before last CutRecord octets = (before < limit) × (octets ≢ []) × IsPartOfSending last octets
-ShowsOutgoingFault limit before last Read octets = (limit ≤ before → octets ≡ []) × IsPartOfSending last octets
+ShowsOutgoingFault limit before last CutRecord octets = (before < limit)
+    × (octets ≢ []) × IsPartOfSending last octets
+ShowsOutgoingFault limit before last Read octets = (limit ≤ before → octets ≡ [])
+    × IsPartOfSending last octets
 ShowsOutgoingFault limit before last e octets = ⊥

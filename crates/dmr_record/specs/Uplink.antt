@@ -7,35 +7,41 @@ use Rattle.dmr_record.specs.declared.fault.RecordFault.TheVariants.{CutRecord, B
 use Rattle.dmr_record.specs.Head.{head_octets}
 
 -- A slot of an uplink frame: silence, or the 33 octets of a burst.
-abbrev pub IsSlot : Option (List ℕ) → Type 0
+abbrev pub Slot : Type 0
+Slot = Option (List ℕ)
+
+abbrev pub IsSlot : Slot → Type 0
 IsSlot None = Unit {0}
 IsSlot (Some burst) = length burst ≡ 33
 
 -- 00 begins silence, and 01 a burst
-abbrev pub slot_tag : Option (List ℕ) → ℕ
+abbrev pub slot_tag : Slot → ℕ
 slot_tag None = 0
 slot_tag (Some burst) = 1
 
-abbrev pub slot_body : Option (List ℕ) → List ℕ
+abbrev pub slot_body : Slot → List ℕ
 slot_body None = []
 slot_body (Some burst) = burst
 
-abbrev pub slot_octets : Option (List ℕ) → List ℕ
+abbrev pub slot_octets : Slot → List ℕ
 slot_octets slot = slot_tag slot ∷ slot_body slot
 
--- A frame is slot 1 and slot 2.
-abbrev pub IsFrame : List (Option (List ℕ)) → Type 0
+-- A frame: slot 1 and slot 2.
+abbrev pub Frame : Type 0
+Frame = List Slot
+
+abbrev pub IsFrame : Frame → Type 0
 IsFrame frame = (length frame ≡ 2) × AllByRecursion IsSlot frame
 
-abbrev pub frame_octets : List (Option (List ℕ)) → List ℕ
+abbrev pub frame_octets : Frame → List ℕ
 frame_octets frame = flat_map slot_octets frame
 
 -- the records of a file behind its head
-abbrev pub frames_octets : List (List (Option (List ℕ))) → List ℕ
+abbrev pub frames_octets : List Frame → List ℕ
 frames_octets frames = flat_map frame_octets frames
 
 -- the file of these frames
-abbrev pub uplink_file : List (List (Option (List ℕ))) → List ℕ
+abbrev pub uplink_file : List Frame → List ℕ
 uplink_file frames = head_octets UPLINK_MAGIC ++ frames_octets frames
 
 -- less than a whole slot: nothing, or 01 and fewer octets than a burst has
@@ -52,13 +58,14 @@ ShowsSlotFault e octets = ⊥
 
 -- fewer than two whole slots, and then octets of a slot that show the fault
 abbrev pub EndsInSlot : RecordFault → List ℕ → Type 0
-EndsInSlot fault octets = (slots : List (Option (List ℕ))) × (part : List ℕ) × (length slots < 2) × AllByRecursion IsSlot slots
-    × ShowsSlotFault fault part × (octets ≡ flat_map slot_octets slots ++ part)
+EndsInSlot fault octets = (slots : List Slot) × (part : List ℕ) × (length slots < 2)
+    × AllByRecursion IsSlot slots × ShowsSlotFault fault part × (octets ≡ flat_map slot_octets slots ++ part)
 
 -- These octets, taken as the front of a frame with so many frames before it, show this fault. Past the limit one
 -- octet does, whatever it is.
 abbrev pub ShowsFault : ℕ → ℕ → RecordFault → List ℕ → Type 0
 ShowsFault limit before TooLong octets = (limit ≤ before) × (length octets ≡ 1)
-ShowsFault limit before HalfFrame octets = (before < limit) × (slot : Option (List ℕ)) × IsSlot slot × (octets ≡ slot_octets slot)
+ShowsFault limit before HalfFrame octets = (before < limit)
+    × (slot : Slot) × IsSlot slot × (octets ≡ slot_octets slot)
 ShowsFault limit before Read octets = (limit ≤ before → octets ≡ []) × EndsInSlot Read octets
 ShowsFault limit before e octets = (before < limit) × EndsInSlot e octets

@@ -1,22 +1,23 @@
 //! Laws of the files, as the contracts of functions that do nothing.
 //!
 //! A file has one reading: two lists of records with the same octets are the same list. And a reading call has
-//! no choice: a text that begins with a record has no fault, and no text has two. `Read` apart, which the device
-//! has and no text.
+//! no choice: a text that begins with a record has no fault, and no text has two faults. This leaves `Read`
+//! out, which a device has and no text.
 
-ghost use Rattle.std.specs.Prelude.{◌≡◌, ◌≢◌, ℕ, ◌+◌, ◌<◌, ◌≤◌, List, ◌++◌, Option, length};
+ghost use Rattle.std.specs.Prelude.{◌≡◌, ◌≢◌, ℕ, ◌+◌, ◌<◌, ◌≤◌, List, ◌++◌, length};
 ghost use Rattle.std.specs.List.{AllByRecursion};
 ghost use Rattle.dmr_record.specs.declared.fault.RecordFault.{RecordFault};
-ghost use Rattle.dmr_record.specs.Downlink.{IsSent, downlink_file};
+ghost use Rattle.dmr_record.specs.Downlink.{Sent, IsSent, downlink_file};
 ghost use Rattle.dmr_record.specs.Faults.{HasFault};
 ghost use Rattle.dmr_record.specs.Head.{head_octets, ShowsHeadFault};
-ghost use Rattle.dmr_record.specs.Outgoing.{Sending, IsSending, AreInOrder, sending_octets, sendings_octets, outgoing_file, ShowsOutgoingFault};
+ghost use Rattle.dmr_record.specs.Outgoing.{Sending, IsSending, AreInOrder};
+ghost use Rattle.dmr_record.specs.Outgoing.{sending_octets, sendings_octets, outgoing_file, ShowsOutgoingFault};
 ghost use Rattle.dmr_record.specs.Received.{Receipt, IsReceipt, received_file};
-ghost use Rattle.dmr_record.specs.Uplink.{IsFrame, frame_octets, frames_octets, uplink_file, ShowsFault};
+ghost use Rattle.dmr_record.specs.Uplink.{Frame, IsFrame, frame_octets, frames_octets, uplink_file, ShowsFault};
 
 /// An uplink file is that of one list of frames.
 pub fn uplink_has_one_reading()
-    ensures one { (xs ys : List (List (Option (List ℕ)))) → AllByRecursion IsFrame xs → AllByRecursion IsFrame ys
+    ensures one { (xs ys : List Frame) → AllByRecursion IsFrame xs → AllByRecursion IsFrame ys
         → uplink_file xs ≡ uplink_file ys → xs ≡ ys }
 {}
 
@@ -28,7 +29,7 @@ pub fn outgoing_has_one_reading()
 
 /// A downlink file is that of one list of slots.
 pub fn downlink_has_one_reading()
-    ensures one { (xs ys : List (Option (List ℕ × List ℕ))) → AllByRecursion IsSent xs → AllByRecursion IsSent ys
+    ensures one { (xs ys : List Sent) → AllByRecursion IsSent xs → AllByRecursion IsSent ys
         → downlink_file xs ≡ downlink_file ys → xs ≡ ys }
 {}
 
@@ -38,32 +39,39 @@ pub fn received_has_one_reading()
         → received_file xs ≡ received_file ys → xs ≡ ys }
 {}
 
-/// A text that begins with a head has no fault of a head, and no text has two.
+/// A text that begins with a head has no fault of one, and no text has two.
 pub fn head_faults()
     ensures none { (magic rest : List ℕ) (e : RecordFault) → length magic ≡ 4
         → HasFault (ShowsHeadFault magic) (head_octets magic ++ rest) e → e ≡ RecordFault.Read }
-    ensures one { (magic text : List ℕ) (e f : RecordFault) → HasFault (ShowsHeadFault magic) text e
-        → HasFault (ShowsHeadFault magic) text f → e ≢ RecordFault.Read → f ≢ RecordFault.Read → e ≡ f }
+    ensures one { (magic text : List ℕ) (e f : RecordFault)
+        → HasFault (ShowsHeadFault magic) text e → HasFault (ShowsHeadFault magic) text f
+        → e ≢ RecordFault.Read → f ≢ RecordFault.Read → e ≡ f }
 {}
 
-/// A text that begins with a frame, no further than may be, has no fault, and no text has two. So a text of
-/// frames, no more than may be, has none.
+/// A text that begins with a frame within the limit has no fault of one, and no text has two. So a text of
+/// frames, no more than may come, has none.
 pub fn uplink_faults()
-    ensures none { (limit before : ℕ) (frame : List (Option (List ℕ))) (rest : List ℕ) (e : RecordFault) → IsFrame frame → before < limit
+    ensures none { (limit before : ℕ) (frame : Frame) (rest : List ℕ) (e : RecordFault)
+        → IsFrame frame → before < limit
         → HasFault (ShowsFault limit before) (frame_octets frame ++ rest) e → e ≡ RecordFault.Read }
-    ensures one { (limit before : ℕ) (text : List ℕ) (e f : RecordFault) → HasFault (ShowsFault limit before) text e
-        → HasFault (ShowsFault limit before) text f → e ≢ RecordFault.Read → f ≢ RecordFault.Read → e ≡ f }
-    ensures all { (limit before : ℕ) (frames : List (List (Option (List ℕ)))) (e : RecordFault) → AllByRecursion IsFrame frames
-        → before + length frames ≤ limit → HasFault (ShowsFault limit before) (frames_octets frames) e → e ≡ RecordFault.Read }
+    ensures one { (limit before : ℕ) (text : List ℕ) (e f : RecordFault)
+        → HasFault (ShowsFault limit before) text e → HasFault (ShowsFault limit before) text f
+        → e ≢ RecordFault.Read → f ≢ RecordFault.Read → e ≡ f }
+    ensures all { (limit before : ℕ) (frames : List Frame) (e : RecordFault)
+        → AllByRecursion IsFrame frames → before + length frames ≤ limit
+        → HasFault (ShowsFault limit before) (frames_octets frames) e → e ≡ RecordFault.Read }
 {}
 
-/// The same of the outgoing file, where the frames of the records don't decrease.
+/// The same of the records of an outgoing file, whose frames don't decrease.
 pub fn outgoing_faults()
-    ensures none { (limit before last : ℕ) (s : Sending) (rest : List ℕ) (e : RecordFault) → IsSending s → before < limit → last ≤ s.frame
+    ensures none { (limit before last : ℕ) (s : Sending) (rest : List ℕ) (e : RecordFault)
+        → IsSending s → before < limit → last ≤ s.frame
         → HasFault (ShowsOutgoingFault limit before last) (sending_octets s ++ rest) e → e ≡ RecordFault.Read }
-    ensures one { (limit before last : ℕ) (text : List ℕ) (e f : RecordFault) → HasFault (ShowsOutgoingFault limit before last) text e
-        → HasFault (ShowsOutgoingFault limit before last) text f → e ≢ RecordFault.Read → f ≢ RecordFault.Read → e ≡ f }
-    ensures all { (limit before last : ℕ) (sendings : List Sending) (e : RecordFault) → AllByRecursion IsSending sendings
-        → AreInOrder last sendings → before + length sendings ≤ limit
+    ensures one { (limit before last : ℕ) (text : List ℕ) (e f : RecordFault)
+        → HasFault (ShowsOutgoingFault limit before last) text e
+        → HasFault (ShowsOutgoingFault limit before last) text f
+        → e ≢ RecordFault.Read → f ≢ RecordFault.Read → e ≡ f }
+    ensures all { (limit before last : ℕ) (sendings : List Sending) (e : RecordFault)
+        → AllByRecursion IsSending sendings → AreInOrder last sendings → before + length sendings ≤ limit
         → HasFault (ShowsOutgoingFault limit before last) (sendings_octets sendings) e → e ≡ RecordFault.Read }
 {}

@@ -9,7 +9,7 @@ use std::marker::Model;
 pub const DATAGRAM_LIMIT: usize = 1400;
 
 /// A list of at most `DATAGRAM_LIMIT` octets.
-#[derive(Drop)]
+#[derive(Debug, Default, Drop)]
 pub struct Octets {
     kept: ArrayVec<u8, DATAGRAM_LIMIT>,
 }
@@ -17,12 +17,13 @@ pub struct Octets {
 // Clauses see the list of the octets.
 impl Model for Octets {
     ghost use Rattle.std.specs.Prelude.{ℕ, List, ◌≤◌, length};
+    ghost use Rattle.dmr_record.specs.declared.octets.TheConstants.{DATAGRAM_LIMIT};
 
     ghost Value = { List ℕ };
 
     ghost view = { λ octets. octets.kept.items };
 
-    ghost invariant = { λ octets. length octets.kept.items ≤ 1400 };
+    ghost invariant = { λ octets. length octets.kept.items ≤ DATAGRAM_LIMIT };
 }
 
 impl Octets {

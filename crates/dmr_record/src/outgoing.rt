@@ -3,7 +3,8 @@
 ghost use Rattle.std.specs.Prelude.{◌≡◌, ◌<◌, ◌≤◌, ◌⊎◌, [], List, ℕ, length, take, false, true, IfOk, IfErr, OnOk, OnErr, IfSome, IfNone};
 ghost use Rattle.std.specs.Io.KnownBytes.{Consumes, IsAtEnd};
 ghost use Rattle.dmr_record.specs.Faults.{is_of_end, is_device_fault};
-ghost use Rattle.dmr_record.specs.Outgoing.{field_octets, mode_of, IsPlace, Keeps, IsSending, sending_of, sending_octets, ShowsOutgoingFault};
+ghost use Rattle.dmr_record.specs.Outgoing.{field_octets, mode_of, IsPlace, Keeps};
+ghost use Rattle.dmr_record.specs.Outgoing.{IsSending, sending_of, sending_octets, ShowsOutgoingFault};
 
 use crate::device::Source;
 use crate::fault::RecordFault;
@@ -16,7 +17,7 @@ use byteorder::{BigEndian, ByteOrder};
 pub const RECORD_LIMIT: u32 = 1 << 20;
 
 /// A datagram that is to be sent, with the first `DATAGRAM_LIMIT` of its octets.
-#[derive(Drop)]
+#[derive(Debug, Drop)]
 pub struct Outgoing {
     /// The downlink frame in which it is offered.
     pub frame: u32,
@@ -50,7 +51,8 @@ struct Mode {
 
 /// The fields that eight octets spell.
 fn fields_of(octets: [u8; 8]) -> Fields
-    ensures octets { octets ≡ field_octets (record { frame = result.frame; slot = result.slot; mode = result.mode; count = result.length }) }
+    ensures octets { octets ≡ field_octets
+        (record { frame = result.frame; slot = result.slot; mode = result.mode; count = result.length }) }
 {
     Fields {
         frame: BigEndian::read_u32(&octets[..4]),
@@ -63,8 +65,8 @@ fn fields_of(octets: [u8; 8]) -> Fields
 /// Reads so many octets, and keeps the first of them.
 fn read_octets<S: Source>(source: &mut S, count: u16) -> Result<Octets, RecordFault>
     requires well { S.has_failed source.old ≡ false }
-    ensures octets { IfOk result (λ octets. (all : List ℕ) × (length all ≡ count) × (octets ≡ take DATAGRAM_LIMIT all)
-        × Consumes (S.left source.old) (S.left source.new) all) }
+    ensures octets { IfOk result (λ octets. (all : List ℕ) × (length all ≡ count)
+        × (octets ≡ take DATAGRAM_LIMIT all) × Consumes (S.left source.old) (S.left source.new) all) }
     ensures well { OnOk result (S.has_failed source.new ≡ false) }
     ensures part { OnErr result ((part : List ℕ) × (length part < count)
         × Consumes (S.left source.old) (S.left source.new) part) }

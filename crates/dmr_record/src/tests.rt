@@ -98,7 +98,7 @@ fn limits_before_tags(rt: HostRuntime) {
 fn outgoing_record(rt: HostRuntime) {
     let mut source = FromRead::new(&SENDING[..]);
     let Ok(Some(read)) = read_outgoing(&mut source, 0, 5) else {
-        return assert!(rt; false, "there is a record");
+        return assert!(rt; false, "a record is read");
     };
     assert_eq!(rt; read.frame, 5);
     assert_eq!(rt; read.slot, 1);
@@ -110,7 +110,7 @@ fn outgoing_record(rt: HostRuntime) {
     for mode in 0..4u8 {
         let octets = [2, 0, 1, 0, 0, 2, mode, 0, 0];
         let Ok(Some(read)) = read_outgoing(&mut FromRead::new(&octets[..]), 0, 0) else {
-            return assert!(rt; false, "there is a record");
+            return assert!(rt; false, "a record is read");
         };
         assert_eq!(rt; read.frame, 65_536);
         assert_eq!(rt; read.slot, 2);
@@ -171,7 +171,7 @@ fn long_datagram(rt: HostRuntime) -> std::io::Result<()> {
     octets.extend_from_slice(&SENDING)?;
     let mut source = FromRead::new(octets.as_slice());
     let Ok(Some(read)) = read_outgoing(&mut source, 0, 0) else {
-        return Ok(assert!(rt; false, "there is a record"));
+        return Ok(assert!(rt; false, "a record is read"));
     };
     assert_eq!(rt; read.length, 1401);
     assert_eq!(rt; Some(read.octets.as_slice()), octets.get(9..1409));

@@ -86,8 +86,10 @@ pub fn put_both<K: Sink>(sink: &mut K, front: &[u8], rest: &[u8]) -> Result<(), 
 /// The next octet, or none at the end of the source.
 pub fn read_octet<S: Source>(source: &mut S) -> Result<Option<u8>, RecordFault>
     requires well { S.has_failed source.old ≡ false }
-    ensures octet { IfOk result (λ found. IfSome found (λ octet. Consumes (S.left source.old) (S.left source.new) (octet ∷ []))) }
-    ensures end { IfOk result (λ found. IfNone found (Consumes (S.left source.old) (S.left source.new) [] × IsAtEnd (S.left source.new))) }
+    ensures octet { IfOk result (λ found. IfSome found (λ octet.
+        Consumes (S.left source.old) (S.left source.new) (octet ∷ []))) }
+    ensures end { IfOk result (λ found. IfNone found (Consumes (S.left source.old) (S.left source.new) []
+        × IsAtEnd (S.left source.new))) }
     ensures well { OnOk result (S.has_failed source.new ≡ false) }
     ensures fault { IfErr result (λ e. e ≡ RecordFault.Read) }
     ensures failed { OnErr result (S.has_failed source.new ≡ true) }
