@@ -28,7 +28,8 @@ pub fn two_pieces<const M: usize>(
 ) -> Bits<M>
     requires order { (from ≤ to) × (to ≤ again) × (again ≤ end) × (end ≤ 264) }
     requires fit { to - from + (end - again) ≡ M }
-    ensures value { result ≡ part (bits_of_octets burst.now) from to ++ part (bits_of_octets burst.now) again end }
+    ensures value { result ≡
+        part (bits_of_octets burst.now) from to ++ part (bits_of_octets burst.now) again end }
     ensures length { length result ≡ M }
 {
     let bits = Bits::<264>::from_octets(burst);

@@ -50,7 +50,8 @@ pub fn word_of(sync: Sync) -> Bits<48>
 
 /// The first of some whose word is within three bits.
 fn first_near(syncs: &[Sync], centre: &Bits<48>) -> Option<Sync>
-    ensures value { result ≡ find (λ sync. nat_le (distance (sync_word sync.side sync.voice) centre.now) 3) syncs.now }
+    ensures value { result ≡
+        find (λ sync. nat_le (distance (sync_word sync.side sync.voice) centre.now) 3) syncs.now }
 {
     syncs
         .iter()
