@@ -21,8 +21,11 @@ pub fn syndrome<const N: usize>(columns: &[u32; N], word: &Bits<N>) -> u32
 }
 
 /// The word that begins with the information.
-pub fn complete<const N: usize, const K: usize>(columns: &[u32; N], information: &Bits<K>) -> Bits<N>
-    requires { IsShaped N K columns.now }
+pub fn complete<const N: usize, const K: usize>(
+    columns: &[u32; N],
+    information: &Bits<K>,
+) -> Bits<N>
+    requires shaped { IsShaped N K columns.now }
     ensures word { IsWord columns.now (N - K) result }
     ensures information { take K result ≡ information.now }
 {
@@ -38,7 +41,12 @@ pub fn complete<const N: usize, const K: usize>(columns: &[u32; N], information:
 }
 
 /// One bit turned, with the checks that fail then.
-pub fn turn<const N: usize>(columns: &[u32; N], bits: &Bits<N>, checks: u32, i: usize) -> (Bits<N>, u32)
+pub fn turn<const N: usize>(
+    columns: &[u32; N],
+    bits: &Bits<N>,
+    checks: u32,
+    i: usize,
+) -> (Bits<N>, u32)
     requires tied { (j : ℕ) → checks / 2 ^ j % 2 ≡ ones_over j columns.now bits.now % 2 }
     requires inside { i < N }
     ensures bits { result.0 ≡ turned bits.now i }
@@ -61,7 +69,8 @@ pub fn seek<const N: usize>(
     requires tied { (j : ℕ) → checks / 2 ^ j % 2 ≡ ones_over j columns.now bits.now % 2 }
     requires length { length bits.now ≡ N }
     requires inside { from ≤ N }
-    ensures within { IfSome result (λ w. (length w ≡ N) × IsEven columns.now w × (distance w bits.now ≤ wrong)) }
+    ensures within { IfSome result
+        (λ w. (length w ≡ N) × IsEven columns.now w × (distance w bits.now ≤ wrong)) }
     ensures beyond { IfNone result (IsFar columns.now bits.now from wrong) }
 {
     if checks == 0 {
