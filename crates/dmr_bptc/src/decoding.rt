@@ -14,7 +14,8 @@ use dmr_codes::{BlockCode, Hamming13, Hamming15};
 /// information, and else there is none. ETSI TS 102 361-1, annex B.1; the order of corrections is this project's own.
 pub fn bptc_decode(bits: &Bits<196>) -> Option<Bits<96>>
     ensures decoded { IsDecoded bits.now result }
-    ensures undone { (word : List Bool) → IsProductWord word → IsDamaged word bits.now → result ≡ Some (information word) }
+    ensures undone { (word : List Bool) → IsProductWord word → IsDamaged word bits.now
+        → result ≡ Some (information word) }
 {
     let mut table = *bits;
     correct_columns(&mut table);

@@ -14,6 +14,7 @@ use dmr_codes::{BlockCode, Hamming13, Hamming15};
 pub fn bptc_encode(information: &Bits<96>) -> Bits<196>
     ensures written { IsWritten information.now result }
 {
+    // The proof learns here that there are 96 bits.
     let _places = information.len();
     let mut bits = Bits::<196>::zero();
     for row in 0..9 {

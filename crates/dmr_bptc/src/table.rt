@@ -45,8 +45,7 @@ pub fn write_row(bits: &mut Bits<196>, row_number: usize, word: &Bits<15>)
     ensures kept { (r c : ℕ) → r < 13 → c < 15 → r ≢ row_number → cell bits.new r c ≡ cell bits.old r c }
     ensures first { slice_index_or bits.new 0 false ≡ slice_index_or bits.old 0 false }
 {
-    let _places = word.len();
-    for column in 0..15 {
+    for column in 0..word.len() {
         bits.set(place_of(row_number, column), word.get(column));
     }
 }
@@ -58,8 +57,7 @@ pub fn write_column(bits: &mut Bits<196>, column_number: usize, word: &Bits<13>)
     ensures kept { (r c : ℕ) → r < 13 → c < 15 → c ≢ column_number → cell bits.new r c ≡ cell bits.old r c }
     ensures first { slice_index_or bits.new 0 false ≡ slice_index_or bits.old 0 false }
 {
-    let _places = word.len();
-    for row in 0..13 {
+    for row in 0..word.len() {
         bits.set(place_of(row, column_number), word.get(row));
     }
 }

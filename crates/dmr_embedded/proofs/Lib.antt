@@ -1,0 +1,10 @@
+pub mod Cells
+pub mod Correcting
+pub mod Damage
+pub mod Even
+pub mod Filling
+pub mod Fragments
+pub mod Reading
+pub mod ShortTable
+pub mod ShortUnique
+pub mod Unique
