@@ -1,0 +1,5 @@
+pub mod Built
+pub mod Faultless
+pub mod Reading
+pub mod Sums
+pub mod Writing

@@ -1,0 +1,4 @@
+pub mod Checksum
+pub mod Contents
+pub mod Datagram
+pub mod Spelling

@@ -1,0 +1,276 @@
+//! Values from outside, and each public call on its happy path.
+ghost use Rattle.std.specs.Prelude.{◌+◌, ◌≤◌, length};
+
+use crate::{Datagram, ExpandFault, IpFault, compress, expand};
+use std::process::Abort;
+use std::test::Fail;
+
+// The datagrams were computed apart from this crate, by the formulas of RFC 791, RFC 768 and
+// RFC 1071.
+
+/// No data, from LLID 1 to LLID 2, ports 5016 and 5018.
+const DATAGRAM: [u8; 28] = [
+    0x45, 0x00, 0x00, 0x1c, 0x12, 0x34, 0x00, 0x00, 0x40, 0x11, 0x50, 0x9b, 0x0c, 0x00, 0x00, 0x01,
+    0x0c, 0x00, 0x00, 0x02, 0x13, 0x98, 0x13, 0x9a, 0x00, 0x08, 0xc0, 0xa9,
+];
+
+/// The same with time to live 63.
+const OTHER_TIME_TO_LIVE: [u8; 28] = [
+    0x45, 0x00, 0x00, 0x1c, 0x12, 0x34, 0x00, 0x00, 0x3f, 0x11, 0x51, 0x9b, 0x0c, 0x00, 0x00, 0x01,
+    0x0c, 0x00, 0x00, 0x02, 0x13, 0x98, 0x13, 0x9a, 0x00, 0x08, 0xc0, 0xa9,
+];
+
+/// Five octets of text, from 192.0.2.1 to 198.51.100.7.
+const ODD_LENGTH: [u8; 33] = [
+    0x45, 0x00, 0x00, 0x21, 0x00, 0x01, 0x00, 0x00, 0x40, 0x11, 0x8e, 0x8f, 0xc0, 0x00, 0x02, 0x01,
+    0xc6, 0x33, 0x64, 0x07, 0xc0, 0x00, 0x00, 0x35, 0x00, 0x0d, 0x0d, 0x97, 0x72, 0x61, 0x64, 0x69,
+    0x6f,
+];
+
+/// A type of service, the flag against fragments, time to live 1.
+const WITH_SERVICE: [u8; 32] = [
+    0x45, 0xb8, 0x00, 0x20, 0xbe, 0xef, 0x40, 0x00, 0x01, 0x11, 0x9f, 0x18, 0x0a, 0x01, 0x02, 0x03,
+    0x0a, 0x04, 0x05, 0x06, 0x13, 0x88, 0x17, 0x70, 0x00, 0x0c, 0xb5, 0xca, 0x01, 0x02, 0x03, 0x04,
+];
+
+/// No UDP checksum.
+const WITHOUT_CHECKSUM: [u8; 31] = [
+    0x45, 0x00, 0x00, 0x1f, 0xff, 0xff, 0x00, 0x00, 0x40, 0x11, 0x22, 0x9b, 0xac, 0x10, 0x00, 0x09,
+    0xac, 0x10, 0x00, 0x0a, 0x00, 0x01, 0xff, 0xff, 0x00, 0x0b, 0x00, 0x00, 0x61, 0x62, 0x63,
+];
+
+/// A computed UDP checksum of 0, sent as FFFF, from LLID 7 to group 9.
+const CHECKSUM_OF_ONES: [u8; 30] = [
+    0x45, 0x00, 0x00, 0x1e, 0x0f, 0x0f, 0x00, 0x00, 0x40, 0x11, 0x7e, 0xb0, 0x0c, 0x00, 0x00, 0x07,
+    0xe1, 0x00, 0x00, 0x09, 0x13, 0x99, 0x13, 0x98, 0x00, 0x0a, 0xff, 0xff, 0xeb, 0x98,
+];
+
+/// A header whose checksum is 0, from LLID 7 to LLID 9.
+const HEADER_SUM_OF_ZEROS: [u8; 30] = [
+    0x45, 0x00, 0x00, 0x1e, 0x62, 0xc0, 0x00, 0x00, 0x40, 0x11, 0x00, 0x00, 0x0c, 0x00, 0x00, 0x07,
+    0x0c, 0x00, 0x00, 0x09, 0x0f, 0xa0, 0x0f, 0xa1, 0x00, 0x0a, 0x60, 0x20, 0x68, 0x69,
+];
+
+/// Five octets of text, from LLID 123456 to group ABCDEF, ports 5017 and 5016.
+const TO_A_GROUP: [u8; 33] = [
+    0x45, 0x00, 0x00, 0x21, 0xa5, 0x5a, 0x00, 0x00, 0x40, 0x11, 0xe5, 0x6e, 0x0c, 0x12, 0x34, 0x56,
+    0xe1, 0xab, 0xcd, 0xef, 0x13, 0x99, 0x13, 0x98, 0x00, 0x0d, 0xc4, 0xcd, 0x48, 0x65, 0x6c, 0x6c,
+    0x6f,
+];
+
+/// More fragments follow, and it is TCP.
+const FIRST_FRAGMENT: [u8; 29] = [
+    0x45, 0x00, 0x00, 0x1d, 0x00, 0x01, 0x20, 0x00, 0x40, 0x06, 0x42, 0xd8, 0x0c, 0x00, 0x00, 0x01,
+    0x0c, 0x00, 0x00, 0x02, 0x0f, 0xa0, 0x0f, 0xa1, 0x00, 0x09, 0x00, 0x00, 0x78,
+];
+
+/// A fragment offset of 1.
+const LATER_FRAGMENT: [u8; 29] = [
+    0x45, 0x00, 0x00, 0x1d, 0x00, 0x01, 0x00, 0x01, 0x40, 0x11, 0x62, 0xcc, 0x0c, 0x00, 0x00, 0x01,
+    0x0c, 0x00, 0x00, 0x02, 0x0f, 0xa0, 0x0f, 0xa1, 0x00, 0x09, 0x00, 0x00, 0x78,
+];
+
+/// TCP, and no UDP length.
+const TCP: [u8; 29] = [
+    0x45, 0x00, 0x00, 0x1d, 0x00, 0x01, 0x00, 0x00, 0x40, 0x06, 0x62, 0xd8, 0x0c, 0x00, 0x00, 0x01,
+    0x0c, 0x00, 0x00, 0x02, 0x0f, 0xa0, 0x0f, 0xa1, 0x00, 0x0a, 0x00, 0x00, 0x78,
+];
+
+/// A UDP length of one octet too many.
+const LONG_UDP: [u8; 29] = [
+    0x45, 0x00, 0x00, 0x1d, 0x00, 0x01, 0x00, 0x00, 0x40, 0x11, 0x62, 0xcd, 0x0c, 0x00, 0x00, 0x01,
+    0x0c, 0x00, 0x00, 0x02, 0x0f, 0xa0, 0x0f, 0xa1, 0x00, 0x0a, 0x00, 0x00, 0x78,
+];
+
+/// Half a UDP header.
+const CUT_UDP: [u8; 24] = [
+    0x45, 0x00, 0x00, 0x18, 0x00, 0x01, 0x00, 0x00, 0x40, 0x11, 0x62, 0xd2, 0x0c, 0x00, 0x00, 0x01,
+    0x0c, 0x00, 0x00, 0x02, 0x00, 0x00, 0x00, 0x04,
+];
+
+#[test]
+fn compressed_datagram(rt: HostRuntime) -> Result<(), Fail> {
+    let datagram = Datagram::parse(&DATAGRAM)?;
+    let form = compress(&datagram, 1, 2, false).ok_or("no form")?;
+    assert_eq!(rt;
+        form.as_slice(),
+        [0x12, 0x34, 0x00, 0x01, 0x00, 0x13, 0x9a].as_slice()
+    );
+    let expanded = expand(form.as_slice(), 1, 2, false)?;
+    assert_eq!(rt; expanded.octets(), DATAGRAM.as_slice());
+    Ok(())
+}
+
+#[test]
+fn expand_refusals(rt: HostRuntime) {
+    let faults = [
+        (fault(&[0x12, 0x34, 0x00, 0x01]), ExpandFault::Short),
+        (fault(&[0x12, 0x34, 0x00, 0x01, 0x00]), ExpandFault::Short),
+        (
+            fault(&[0x12, 0x34, 0x00, 0x81, 0x00, 0x13, 0x9a]),
+            ExpandFault::Opcode,
+        ),
+        (
+            fault(&[0x12, 0x34, 0x10, 0x01, 0x00, 0x13, 0x9a]),
+            ExpandFault::Address,
+        ),
+        (
+            fault(&[0x12, 0x34, 0x00, 0x03, 0x00, 0x13, 0x9a]),
+            ExpandFault::Port,
+        ),
+    ];
+    for (found, expected) in faults {
+        assert_eq!(rt; found, Some(expected));
+    }
+    let mut octets = [0; 1378];
+    octets[0] = 0x12;
+    octets[1] = 0x34;
+    octets[3] = 0x01;
+    octets[4] = 0x01;
+    assert_eq!(rt; fault(&octets), Some(ExpandFault::Long));
+    assert_eq!(rt; fault(&octets[..1377]), None);
+}
+
+fn fault(octets: &[u8]) -> Option<ExpandFault> {
+    expand(octets, 1, 2, false).err()
+}
+
+#[test]
+fn other_time_to_live(rt: HostRuntime) -> Result<(), Fail> {
+    let datagram = Datagram::parse(&OTHER_TIME_TO_LIVE)?;
+    assert!(rt; compress(&datagram, 1, 2, false).is_none());
+    Ok(())
+}
+
+#[test]
+fn parse_refusals(rt: HostRuntime) {
+    let refused = |place: usize, octet: u8| {
+        let mut octets = DATAGRAM;
+        if place < 28 {
+            octets[place] = octet;
+        }
+        Datagram::parse(&octets).err()
+    };
+    assert_eq!(rt;
+        Datagram::parse(&DATAGRAM[..27]).err(),
+        Some(IpFault::Length)
+    );
+    assert_eq!(rt; refused(0, 0x55), Some(IpFault::Version));
+    assert_eq!(rt; refused(0, 0x46), Some(IpFault::Options));
+    assert_eq!(rt; refused(8, 0x3f), Some(IpFault::HeaderSum));
+    assert_eq!(rt; refused(27, 0xa8), Some(IpFault::UdpSum));
+}
+
+#[test]
+fn refusals_in_order(rt: HostRuntime) {
+    let refused = [
+        (FIRST_FRAGMENT, IpFault::Fragment),
+        (LATER_FRAGMENT, IpFault::Fragment),
+        (TCP, IpFault::Protocol),
+        (LONG_UDP, IpFault::UdpLength),
+    ];
+    for (octets, expected) in refused {
+        assert_eq!(rt; Datagram::parse(&octets).err(), Some(expected));
+    }
+    assert_eq!(rt; Datagram::parse(&CUT_UDP).err(), Some(IpFault::UdpLength));
+}
+
+#[test]
+fn either_header_sum(rt: HostRuntime) -> Result<(), Fail> {
+    let computed = Datagram::parse(&HEADER_SUM_OF_ZEROS)?;
+    assert!(rt; compress(&computed, 7, 9, false).is_some());
+    let mut octets = HEADER_SUM_OF_ZEROS;
+    octets[10] = 0xff;
+    octets[11] = 0xff;
+    let other = Datagram::parse(&octets)?;
+    assert!(rt; compress(&other, 7, 9, false).is_none());
+    Ok(())
+}
+
+#[test]
+fn ports_by_identifier(rt: HostRuntime) -> Result<(), Fail> {
+    let written = [0xa5, 0x5a, 0x02, 0x02, 0x01, 0x48, 0x65, 0x6c, 0x6c, 0x6f];
+    let spelled_out = [
+        0xa5, 0x5a, 0x02, 0x00, 0x00, 0x13, 0x99, 0x13, 0x98, 0x48, 0x65, 0x6c, 0x6c, 0x6f,
+    ];
+    let datagram = Datagram::parse(&TO_A_GROUP)?;
+    let form = compress(&datagram, 0x12_3456, 0xab_cdef, true).ok_or("no form")?;
+    assert_eq!(rt; form.as_slice(), written.as_slice());
+    for octets in [written.as_slice(), spelled_out.as_slice()] {
+        let expanded = expand(octets, 0x12_3456, 0xab_cdef, true)?;
+        assert_eq!(rt; expanded.octets(), TO_A_GROUP.as_slice());
+    }
+    Ok(())
+}
+
+#[test]
+fn datagrams_and_their_changes(rt: HostRuntime) {
+    each_change(&rt, &DATAGRAM);
+    each_change(&rt, &OTHER_TIME_TO_LIVE);
+    each_change(&rt, &ODD_LENGTH);
+    each_change(&rt, &WITH_SERVICE);
+    each_change(&rt, &WITHOUT_CHECKSUM);
+    each_change(&rt, &CHECKSUM_OF_ONES);
+    each_change(&rt, &HEADER_SUM_OF_ZEROS);
+    each_change(&rt, &FIRST_FRAGMENT);
+    each_change(&rt, &LONG_UDP);
+}
+
+// Compares what is accepted with the rules of the RFCs: the octets, fronts of them, and each change
+// of one octet.
+fn each_change<const N: usize>(rt: &impl Abort, octets: &[u8; N]) {
+    for count in 0..=N {
+        let front = &octets[..count];
+        assert_eq!(rt;
+            Datagram::parse(front).is_ok(),
+            is_datagram(front),
+            "the first {count}"
+        );
+    }
+    for place in 0..N {
+        for octet in 0..=255 {
+            let mut changed = *octets;
+            changed[place] = octet;
+            let accepted = Datagram::parse(&changed).is_ok();
+            assert_eq!(rt; accepted, is_datagram(&changed), "octet {place} is {octet}");
+        }
+    }
+}
+
+fn is_datagram(octets: &[u8]) -> bool {
+    let length = octets.len() as u64;
+    if length < 28 || length > 1400 {
+        return false;
+    }
+    let udp_length = number(octets, 24);
+    let pseudo_header = sum(&octets[12..20])
+        .wrapping_add(udp_length)
+        .wrapping_add(17);
+    octets[0] == 0x45
+        && number(octets, 2) == length
+        && is_right(sum(&octets[..20]))
+        && number(octets, 6) % 0x4000 == 0
+        && octets[9] == 17
+        && udp_length == length - 20
+        && (number(octets, 26) == 0 || is_right(pseudo_header.wrapping_add(sum(&octets[20..]))))
+}
+
+// In one's complement a sum is FFFF where it is a multiple of FFFF other than 0.
+fn is_right(sum: u64) -> bool {
+    sum != 0 && sum % 0xffff == 0
+}
+
+fn sum(octets: &[u8]) -> u64 {
+    let mut sum: u64 = 0;
+    for (place, octet) in octets.iter().enumerate() {
+        let weight = if place % 2 == 0 { 256 } else { 1 };
+        sum = sum.wrapping_add(weight * u64::from(*octet));
+    }
+    sum
+}
+
+fn number(octets: &[u8], place: usize) -> u64
+    requires { place + 2 ≤ length octets.now }
+{
+    256 * u64::from(octets[place]) + u64::from(octets[place + 1])
+}
