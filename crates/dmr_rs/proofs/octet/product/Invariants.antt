@@ -1,0 +1,7 @@
+use Rattle.std.proofs.Common.{◌≡◌}
+use Rattle.dmr_bits.specs.Bits.{bits_of}
+use Rattle.dmr_rs.specs.Field.{sum_over, times}
+use Rattle.dmr_rs.proofs.octet.product.Given as goal
+
+abbrev pub invariant-loop-place : goal.invariant-loop-place
+invariant-loop-place l = sum_over (bits_of l.place l.left) l.right l.sum ≡ times l.left l.right
