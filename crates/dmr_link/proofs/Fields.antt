@@ -1,0 +1,38 @@
+-- The fields and their bits decide each other.
+use Rattle.std.proofs.Common.{◌≡◌, ℕ, ◌<◌, ◌^◌, List, Bool, ◌++◌, length, take, drop, sym, ap, ◌∙◌}
+use Rattle.std.specs.List.{All}
+use Rattle.std.proofs.lemmas.List.{take_at, drop_at}
+use Rattle.dmr_bits.specs.Bits.{number_of, bits_of, bits_of_octets, octets_of}
+use Rattle.dmr_bits.proofs.Lists.{length-bits_of, number_of-bits_of}
+use Rattle.dmr_bits.proofs.Octets.{octets_of-bits_of_octets}
+use Rattle.dmr_link.specs.declared.full_lc.FullLc.{FullLc}
+use Rattle.dmr_link.specs.FullLc.{field_bits, IsFit}
+
+-- bits that begin with a number's decide it
+same_number : (width a b : ℕ) (x y : List Bool) → a < 2 ^ width → b < 2 ^ width → bits_of width a ++ x ≡ bits_of width b ++ y → (a ≡ b) × (x ≡ y)
+same_number width a b x y p q e =
+    let fronts : bits_of width a ≡ bits_of width b =
+    sym (take_at (bits_of width a) x width (length-bits_of width a)) ∙ ap (take width) e ∙ take_at (bits_of width b) y width (length-bits_of width b) in (
+      sym (number_of-bits_of width a p) ∙ ap number_of fronts ∙ number_of-bits_of width b q,
+      sym (drop_at (bits_of width a) x width (length-bits_of width a)) ∙ ap (drop width) e ∙ drop_at (bits_of width b) y width (length-bits_of width b),
+    )
+
+-- octets are decided by their bits
+pub same_octets : (xs ys : List ℕ) → All (λ octet. octet < 256) xs → All (λ octet. octet < 256) ys → length xs ≡ length ys → bits_of_octets xs ≡ bits_of_octets ys → xs ≡ ys
+same_octets xs ys p q long e =
+    sym (octets_of-bits_of_octets xs p) ∙ ap (octets_of (length xs)) e ∙ ap (λ n. octets_of n (bits_of_octets ys)) long ∙ octets_of-bits_of_octets ys q
+
+-- the fields are decided by their bits
+pub same_fields : (a b : FullLc) → IsFit a → IsFit b → field_bits a ≡ field_bits b → a ≡ b
+same_fields a b p q e =
+    let tail : bits_of 6 a.flco ++ (bits_of 8 a.fid ++ bits_of_octets a.body) ≡ bits_of 6 b.flco ++ (bits_of 8 b.fid ++ bits_of_octets b.body) = cc in
+    let protect : a.protect ≡ b.protect = cc in
+    let reserved : a.reserved ≡ b.reserved = cc in
+    let flco = same_number 6 a.flco b.flco (bits_of 8 a.fid ++ bits_of_octets a.body) (bits_of 8 b.fid ++ bits_of_octets b.body) p.flco q.flco tail in
+    let fid = same_number 8 a.fid b.fid (bits_of_octets a.body) (bits_of_octets b.body) p.fid q.fid flco.1 in
+    let body = same_octets a.body b.body p.octets q.octets (p.count ∙ sym q.count) fid.1 in
+    same_record a.protect b.protect a.reserved b.reserved a.flco b.flco a.fid b.fid a.body b.body protect reserved flco.0 fid.0 body
+  where
+    same_record : (p p' r r' : Bool) (c c' f f' : ℕ) (o o' : List ℕ) → p ≡ p' → r ≡ r' → c ≡ c' → f ≡ f' → o ≡ o'
+        → ◌≡◌ {A = FullLc} (record { protect = p; reserved = r; flco = c; fid = f; body = o }) (record { protect = p'; reserved = r'; flco = c'; fid = f'; body = o' })
+    same_record p p' r r' c c' f f' o o' e1 e2 e3 e4 e5 = cc

@@ -1,0 +1,3 @@
+pub mod FullLc
+pub mod Sealed
+pub mod Voice
