@@ -4,7 +4,8 @@
 //! list from its front, a number at a time: contracts see what is left to read, and what is written so far.
 //! `write_fields!` and `read_fields!` write and read a whole unit from one list of its fields.
 //! The words of all contracts on bits, here and in the crates above, stand in `specs/Bits.antt`; products and
-//! multiples of polynomials, on which checks and the Reed-Solomon code stand, in `specs/Polynomials.antt`.
+//! multiples of polynomials, on which checks and the Reed-Solomon code stand, in `specs/Polynomials.antt`, and the
+//! register of their division in `specs/Register.antt`.
 //! The laws of these words are the contracts of the functions in `laws`.
 #![tactic(auto)]
 

@@ -1,8 +1,7 @@
 //! The four checks: the only numbers of their width that complete a message to a multiple of the generator.
 ghost use Rattle.std.specs.Prelude.{◌≡◌, ℕ, ◌%◌, ◌^◌, ◌<◌, ◌++◌, not, map, length};
 ghost use Rattle.dmr_bits.specs.Bits.{bits_of, bits_of_octets};
-ghost use Rattle.dmr_bits.specs.Polynomials.{binary_field, IsMultiple};
-ghost use Rattle.dmr_checks.specs.Generators.{ccitt_generator, crc9_generator, crc8_generator, crc32_generator};
+ghost use Rattle.dmr_checks.specs.Generators.{ccitt_generator, crc9_generator, crc8_generator, crc32_generator, Completes};
 ghost use Rattle.dmr_checks.specs.Pairs.{swap_pairs};
 
 use crate::division::Generator;
@@ -31,9 +30,10 @@ const CRC32: Generator = Generator {
 /// The CRC-CCITT of octets: behind them, its bits inverted make a multiple of x^16 + x^12 + x^5 + 1.
 /// Source: ETSI TS 102 361-1, annex B.3.
 pub fn ccitt(octets: &[u8]) -> u16
-    ensures seals { IsMultiple binary_field ccitt_generator (bits_of_octets octets.now ++ map not (bits_of 16 result)) }
+    ensures seals { Completes ccitt_generator (bits_of_octets octets.now) (map not (bits_of 16 result)) }
     ensures only { (check : ℕ) → check < 2 ^ 16
-        → IsMultiple binary_field ccitt_generator (bits_of_octets octets.now ++ map not (bits_of 16 check)) → check ≡ result }
+        → Completes ccitt_generator (bits_of_octets octets.now) (map not (bits_of 16 check))
+        → check ≡ result }
 {
     let register = CCITT.shift_in_octets(octets) as u16;
     0xFFFF ^ register
@@ -45,10 +45,11 @@ pub fn ccitt(octets: &[u8]) -> u16
 pub fn crc9(octets: &[u8], serial: u8) -> u16
     requires serial { serial < 128 }
     ensures fits { result < 2 ^ 9 }
-    ensures seals { IsMultiple binary_field crc9_generator
-        (bits_of_octets octets.now ++ bits_of 7 serial ++ map not (bits_of 9 result)) }
+    ensures seals { Completes crc9_generator
+        (bits_of_octets octets.now ++ bits_of 7 serial) (map not (bits_of 9 result)) }
     ensures only { (check : ℕ) → check < 2 ^ 9
-        → IsMultiple binary_field crc9_generator (bits_of_octets octets.now ++ bits_of 7 serial ++ map not (bits_of 9 check))
+        → Completes crc9_generator
+        (bits_of_octets octets.now ++ bits_of 7 serial) (map not (bits_of 9 check))
         → check ≡ result }
 {
     let register = CRC9.shift_in_octets(octets);
@@ -59,9 +60,9 @@ pub fn crc9(octets: &[u8], serial: u8) -> u16
 /// The CRC-8 of 28 bits: behind them, its bits make a multiple of x^8 + x^2 + x + 1.
 /// Source: ETSI TS 102 361-1, annex B.3.
 pub fn crc8(bits: &Bits<28>) -> u8
-    ensures seals { IsMultiple binary_field crc8_generator (bits.now ++ bits_of 8 result) }
-    ensures only { (check : ℕ) → check < 2 ^ 8
-        → IsMultiple binary_field crc8_generator (bits.now ++ bits_of 8 check) → check ≡ result }
+    ensures seals { Completes crc8_generator bits.now (bits_of 8 result) }
+    ensures only { (check : ℕ) → check < 2 ^ 8 → Completes crc8_generator bits.now (bits_of 8 check)
+        → check ≡ result }
 {
     CRC8.shift_in_bits(bits.as_slice()) as u8
 }
@@ -71,9 +72,9 @@ pub fn crc8(bits: &Bits<28>) -> u8
 /// Source: ETSI TS 102 361-1, annex B.3; the order is this project's own.
 pub fn crc32(octets: &[u8]) -> u32
     requires pairs { length octets.now % 2 ≡ 0 }
-    ensures seals { IsMultiple binary_field crc32_generator (bits_of_octets (swap_pairs octets.now) ++ bits_of 32 result) }
+    ensures seals { Completes crc32_generator (bits_of_octets (swap_pairs octets.now)) (bits_of 32 result) }
     ensures only { (check : ℕ) → check < 2 ^ 32
-        → IsMultiple binary_field crc32_generator (bits_of_octets (swap_pairs octets.now) ++ bits_of 32 check)
+        → Completes crc32_generator (bits_of_octets (swap_pairs octets.now)) (bits_of 32 check)
         → check ≡ result }
 {
     CRC32.shift_in_pairs(octets) as u32

@@ -1,5 +1,5 @@
 -- The search for the one wrong octet among twelve, from the last place to the first.
-use Rattle.std.proofs.Common.{◌≡◌, ◌≢◌, ℕ, zero, suc, ◌+◌, ◌-◌, ◌*◌, ◌<◌, ◌≤◌, List, [], ◌∷◌, length, refl, sym, ◌∙◌, ap, arith, set, get_or, inl, inr}
+use Rattle.std.proofs.Common.{◌≡◌, ℕ, zero, suc, ◌+◌, ◌-◌, ◌*◌, ◌<◌, ◌≤◌, List, [], ◌∷◌, length, sym, ◌∙◌, ap, arith, set, get_or, inl, inr}
 use Rattle.std.specs.Prelude.{bit_xor}
 use Rattle.std.specs.Int.Bits.{xor_assoc, xor_self}
 use Rattle.std.specs.List.{All}
@@ -9,10 +9,10 @@ use Rattle.std.proofs.lemmas.List.{length-set}
 use Rattle.std.proofs.lemmas.List.Elements.{All-head, All-tail, All-set, All-get_or}
 use Rattle.dmr_rs.specs.Field.{times_x}
 use Rattle.dmr_rs.specs.Word.{IsRsWord, octet_distance}
-use Rattle.dmr_rs.proofs.Field.{xor_swap, xor_twice, xor_none}
+use Rattle.dmr_rs.proofs.Field.{xor_twice, xor_none}
 use Rattle.dmr_rs.proofs.Powers.{shifted, shifted_linear, shifted-lt, shifted-add, shifted_none, horner, at_power, at_power-cons}
 use Rattle.dmr_rs.proofs.Roots.{words_are_octets, zero_at_powers, word_from_powers}
-use Rattle.dmr_rs.proofs.Near.{set_distance, one_apart}
+use Rattle.dmr_rs.proofs.Near.{one_apart}
 
 horner-lt : (m s : ℕ) (w : List ℕ) → s < 256 → All (λ octet. octet < 256) w → horner (shifted m) s w < 256
 horner-lt m s [] h small = h

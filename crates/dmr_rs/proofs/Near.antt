@@ -1,5 +1,5 @@
 -- Lists of octets that differ in few places.
-use Rattle.std.proofs.Common.{◌≡◌, ◌≢◌, ℕ, zero, suc, ◌+◌, ◌-◌, ◌≤◌, ◌<◌, ◌==◌, List, [], ◌∷◌, length, refl, sym, ◌∙◌, ap, arith, get_or, set, ◌⊎◌, inl, inr, eq-eqb, cond, true, false}
+use Rattle.std.proofs.Common.{◌≡◌, ◌≢◌, ℕ, zero, suc, ◌+◌, ◌≤◌, ◌<◌, ◌==◌, List, [], ◌∷◌, length, refl, sym, ◌∙◌, ap, arith, get_or, set, inl, inr, eq-eqb, cond, true, false}
 use Rattle.std.proofs.lemmas.Bool.{cases_eq, cases_lt, ne_eqb}
 use Rattle.dmr_rs.specs.Word.{IsRsWord, octet_distance}
 use Rattle.dmr_rs.proofs.Roots.{four_apart}

@@ -1,13 +1,15 @@
 -- A product of octets is that of their polynomials modulo the field's.
-use Rattle.std.proofs.Common.{◌≡◌, ℕ, zero, suc, ◌+◌, ◌-◌, ◌*◌, ◌/◌, ◌%◌, ◌^◌, ◌<◌, ◌≤◌, ◌==◌, Bool, true, false, List, [], ◌∷◌, ◌++◌, length, replicate, refl, sym, ◌∙◌, ap, subst, arith, cond}
+use Rattle.std.proofs.Common.{◌≡◌, ℕ, ◌*◌, ◌/◌, ◌%◌, ◌<◌, ◌≤◌, ◌==◌, Bool, true, false, List, [], ◌∷◌, ◌++◌, length, replicate, take, drop, refl, sym, ◌∙◌, ap, subst, arith, cond}
 use Rattle.std.specs.Prelude.{bit_xor}
 use Rattle.std.proofs.Math.Bool.{◌&&◌, and-true}
 use Rattle.dmr_bits.specs.Bits.{bits_of, xor, xor_bits}
 use Rattle.dmr_bits.specs.Polynomials.{binary_field, add_front, scale, product, IsMultiple}
-use Rattle.dmr_bits.proofs.Lists.{xor_assoc, xor_self, xor_false, length-bits_of, length-xor_bits}
-use Rattle.dmr_bits.proofs.Numbers.{bits_of_xor, bits_of_mod}
-use Rattle.dmr_bits.proofs.Dividing.{binary_laws, product_step, length-add_front, length-scale, add_front_twice, add_front_joined, add_front_none, add_front_nones, add_front_to_nones, add_front_bits, scale_true, scale_false}
-use Rattle.dmr_rs.specs.Field.{times_x, sum_over, times, field_polynomial, IsProduct}
+use Rattle.dmr_bits.proofs.Lists.{xor_assoc, xor_self, xor_false, length-xor_bits, xor_bits_twice, xor_bits-append}
+use Rattle.dmr_bits.proofs.Numbers.{bits_of_xor, bits_of_mod, bits_of_same}
+use Rattle.dmr_bits.proofs.Dividing.{binary_laws, product_step, add_front_twice, add_front_joined, add_front_none, add_front_to_nones, add_front_bits, scale_true, scale_false, only_completion}
+use Rattle.std.proofs.lemmas.List.{take-append-drop, length-take-le, length-drop}
+use Rattle.dmr_bits.specs.Register.{run}
+use Rattle.dmr_rs.specs.Field.{times_x, sum_over, times, IsProduct}
 use Rattle.dmr_rs.proofs.Field.{low_bits}
 
 -- ---- sums of lists of bits
@@ -108,3 +110,26 @@ product_is a b =
     let m : List Bool = xor_bits (product binary_field (bits_of 8 a) (bits_of 8 (b % 256))) (replicate 7 false ++ bits_of 8 (sum_over (bits_of 8 a) (b % 256) 0)) in
     let long : length m ≡ 15 = refl in
     subst P (bits_of_mod 8 8 b (omega arith)) (without_first m (omega arith) (product_by (b % 256) (bits_of 8 a) 0))
+
+-- ---- no other octet is the product
+remainder_is : (p c : List Bool) → length p ≡ 15 → length c ≡ 8 → IsMultiple binary_field (true ∷ bits_of 8 0x1D) (xor_bits p (replicate 7 false ++ c))
+    → xor_bits (drop 7 p) c ≡ run binary_field (bits_of 8 0x1D) (replicate 8 false) (xor_bits (take 7 p) (replicate 7 false))
+remainder_is p c long eight multiple =
+    let front : length (take 7 p) ≡ 7 = length-take-le 7 p (omega arith) in
+    let back : length (drop 7 p) ≡ 8 = length-drop 7 p ∙ omega arith in
+    let split : xor_bits p (replicate 7 false ++ c) ≡ xor_bits (take 7 p) (replicate 7 false) ++ xor_bits (drop 7 p) c =
+    ap (λ l. xor_bits l (replicate 7 false ++ c)) (sym (take-append-drop 7 p))
+    ∙ xor_bits-append (take 7 p) (drop 7 p) (replicate 7 false) c front in
+    only_completion binary_laws (bits_of 8 0x1D) (xor_bits (take 7 p) (replicate 7 false)) (xor_bits (drop 7 p) c) (omega arith)
+    (length-xor_bits (drop 7 p) c (back ∙ sym eight) ∙ back) (multiple.0, multiple.1 ∙ split)
+
+pub only_product : (a b c d : ℕ) → c < 256 → d < 256 → IsProduct a b c → IsProduct a b d → c ≡ d
+unfolding IsProduct
+only_product a b c d small little is too =
+    let p : List Bool = product binary_field (bits_of 8 a) (bits_of 8 b) in
+    let long : length p ≡ 15 = refl in
+    let back : length (drop 7 p) ≡ 8 = refl in
+    let first = remainder_is p (bits_of 8 c) long refl is in
+    let second = remainder_is p (bits_of 8 d) long refl too in
+    bits_of_same 8 c d small little
+    (sym (xor_bits_twice (drop 7 p) (bits_of 8 c) back) ∙ ap (xor_bits (drop 7 p)) (first ∙ sym second) ∙ xor_bits_twice (drop 7 p) (bits_of 8 d) back)

@@ -1,5 +1,5 @@
 -- Words are the lists of twelve octets that are zero at the roots of the generator, and lie four octets apart.
-use Rattle.std.proofs.Common.{◌≡◌, ◌↔◌, ℕ, zero, suc, ◌+◌, ◌-◌, ◌*◌, ◌%◌, ◌<◌, ◌≤◌, ◌==◌, Bool, true, false, List, [], ◌∷◌, ◌++◌, length, replicate, take, drop, get_or, refl, sym, ◌∙◌, ap, subst, arith, cond, lit<, eq-eqb, inl, inr}
+use Rattle.std.proofs.Common.{◌≡◌, ◌↔◌, ℕ, zero, suc, ◌%◌, ◌<◌, ◌≤◌, ◌==◌, true, false, List, [], ◌∷◌, ◌++◌, length, replicate, take, drop, get_or, refl, sym, ◌∙◌, ap, arith, cond, lit<, eq-eqb, inl, inr}
 use Rattle.std.specs.Prelude.{bit_xor, fold}
 use Rattle.std.specs.Int.Bits.{xor_assoc, xor_self, xor_zero_l, xor_zero_r}
 use Rattle.std.specs.List.{All}
@@ -9,44 +9,44 @@ use Rattle.std.proofs.lemmas.List.{take-append-drop, length-drop}
 use Rattle.std.proofs.lemmas.List.Elements.{All-nil, All-cons, All-head, All-tail, All-take, All-drop, All-same}
 use Rattle.dmr_bits.specs.Polynomials.{add_front, product}
 use Rattle.dmr_bits.specs.Register.{run}
-use Rattle.dmr_bits.proofs.Dividing.{completes, only_completion, length-run, length-add_front, All-run, All-add_front, All-product, add_front_self}
+use Rattle.dmr_bits.proofs.Dividing.{completes, only_completion, length-run, length-add_front, All-run, All-add_front, All-product}
 use Rattle.dmr_rs.specs.Field.{times_x, times, octet_field}
-use Rattle.dmr_rs.specs.Word.{generator, IsRsWord, value_at, power, IsZeroAtRoots, octet_distance}
-use Rattle.dmr_rs.proofs.Field.{IsLinear, none_is, times_x-mod, times-xor, times-lt, xor_swap, xor_twice, xor_none, octet_laws}
+use Rattle.dmr_rs.specs.Word.{generator, generator_low, IsRsWord, value_at, power, IsZeroAtRoots, octet_distance}
+use Rattle.dmr_rs.proofs.Field.{IsLinear, none_is, times_x-mod, times-xor, times-lt, xor_swap, xor_none, octet_laws}
 use Rattle.dmr_rs.proofs.Powers.{shifted, shifted_linear, shifted-times, horner, horner-append, horner-xor, horner-none, at_power, wrong, all_zero}
 
 -- ---- a word by its register
 pub check : List ℕ → List ℕ
-check message = run octet_field (0x0E ∷ 0x38 ∷ 0x40 ∷ []) (0 ∷ 0 ∷ 0 ∷ []) message
+check message = run octet_field generator_low (0 ∷ 0 ∷ 0 ∷ []) message
 
 pub word_is_completed : (message : List ℕ) → All (λ octet. octet < 256) message → IsRsWord (message ++ check message)
 unfolding check
-word_is_completed message small = completes octet_laws (0x0E ∷ 0x38 ∷ 0x40 ∷ []) message (omega arith) small
+word_is_completed message small = completes octet_laws generator_low message (omega arith) small
 
 pub only_check : (message parity : List ℕ) → length parity ≡ 3 → IsRsWord (message ++ parity) → parity ≡ check message
 unfolding check
-only_check message parity long word = only_completion octet_laws (0x0E ∷ 0x38 ∷ 0x40 ∷ []) message parity (omega arith) long word
+only_check message parity long word = only_completion octet_laws generator_low message parity (omega arith) long word
 
 pub length-check : (message : List ℕ) → length (check message) ≡ 3
 unfolding check
-length-check message = length-run octet_field (0x0E ∷ 0x38 ∷ 0x40 ∷ []) (0 ∷ 0 ∷ 0 ∷ []) message
+length-check message = length-run octet_field generator_low (0 ∷ 0 ∷ 0 ∷ []) message
 
-pub check_is : (message : List ℕ) → run octet_field (0x0E ∷ 0x38 ∷ 0x40 ∷ []) (0 ∷ 0 ∷ 0 ∷ []) message ≡ check message
+pub check_is : (message : List ℕ) → run octet_field generator_low (0 ∷ 0 ∷ 0 ∷ []) message ≡ check message
 unfolding check
 check_is message = refl
 
-pub three_octets : (octets : List ℕ) (p q r : ℕ) → length octets ≡ 3 → octets ≡ get_or octets 0 p ∷ get_or octets 1 q ∷ get_or octets 2 r ∷ []
-three_octets [] p q r e = absurd (omega arith)
-three_octets (a ∷ []) p q r e = absurd (omega arith)
-three_octets (a ∷ b ∷ []) p q r e = absurd (omega arith)
-three_octets (a ∷ b ∷ c ∷ []) p q r e = refl
-three_octets (a ∷ b ∷ c ∷ d ∷ octets) p q r e = absurd (omega arith)
+pub three_octets : (octets : List ℕ) (a b c p q r : ℕ) → length octets ≡ 3 → a ≡ get_or octets 0 p → b ≡ get_or octets 1 q → c ≡ get_or octets 2 r → octets ≡ a ∷ b ∷ c ∷ []
+three_octets [] a b c p q r e x y z = absurd (omega arith)
+three_octets (k ∷ []) a b c p q r e x y z = absurd (omega arith)
+three_octets (k ∷ l ∷ []) a b c p q r e x y z = absurd (omega arith)
+three_octets (k ∷ l ∷ m ∷ []) a b c p q r e x y z = cc
+three_octets (k ∷ l ∷ m ∷ n ∷ octets) a b c p q r e x y z = absurd (omega arith)
 
 All-check : (message : List ℕ) → All (λ octet. octet < 256) (check message)
 unfolding check
 All-check message =
     let Small : ℕ → Type 0 = λ octet. octet < 256 in
-    All-run octet_laws (0x0E ∷ 0x38 ∷ 0x40 ∷ []) (0 ∷ 0 ∷ 0 ∷ []) message
+    All-run octet_laws generator_low (0 ∷ 0 ∷ 0 ∷ []) message
     (All-cons Small 0 (0 ∷ 0 ∷ []) (lit< tt) (All-cons Small 0 (0 ∷ []) (lit< tt) (All-cons Small 0 [] (lit< tt) (All-nil Small))))
 
 pub words_are_octets : (word : List ℕ) → IsRsWord word → All (λ octet. octet < 256) word
@@ -114,7 +114,7 @@ step_value f R h a b new small little =
 
 -- the register's value is that of the message, three places on
 run_value : (f : ℕ → ℕ) → IsRoot f → (message : List ℕ) (h a b s : ℕ) → h < 256 → a < 256 → b < 256 → All (λ octet. octet < 256) message
-    → three f h a b ≡ f (f (f s)) → horner f 0 (run octet_field (0x0E ∷ 0x38 ∷ 0x40 ∷ []) (h ∷ a ∷ b ∷ []) message) ≡ f (f (f (horner f s message)))
+    → three f h a b ≡ f (f (f s)) → horner f 0 (run octet_field generator_low (h ∷ a ∷ b ∷ []) message) ≡ f (f (f (horner f s message)))
 run_value f R [] h a b s small little least all e = three_is f R.linear h a b ∙ e
 run_value f R (new ∷ message) h a b s small little least all e =
     let Small : ℕ → Type 0 = λ octet. octet < 256 in

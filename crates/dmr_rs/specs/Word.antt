@@ -3,9 +3,13 @@ use Rattle.std.specs.Prelude.{◌≡◌, ℕ, zero, suc, ◌+◌, ◌==◌, ◌<
 use Rattle.dmr_bits.specs.Polynomials.{IsMultiple}
 use Rattle.dmr_rs.specs.Field.{times, octet_field}
 
+-- the coefficients of the generator below its highest
+abbrev pub generator_low : List ℕ
+generator_low = 0x0E ∷ 0x38 ∷ 0x40 ∷ []
+
 -- x^3 + 0E x^2 + 38 x + 40
 abbrev pub generator : List ℕ
-generator = 1 ∷ 0x0E ∷ 0x38 ∷ 0x40 ∷ []
+generator = 1 ∷ generator_low
 
 -- octets are a word where they are the coefficients of a multiple of the generator
 abbrev pub IsRsWord : List ℕ → Type 0

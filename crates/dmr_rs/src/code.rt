@@ -1,14 +1,14 @@
 //! Words of the code: their parity, and the correction of one wrong octet.
-ghost use Rattle.std.specs.Prelude.{◌≡◌, ℕ, ◌<◌, ◌≤◌, ◌++◌, ◌∷◌, [], List, length, IfSome, Some};
-ghost use Rattle.dmr_bits.specs.Register.{shift_in, run};
+ghost use Rattle.std.specs.Prelude.{◌≡◌, ℕ, ◌<◌, ◌≤◌, ◌++◌, List, length, IfSome};
+ghost use Rattle.dmr_bits.specs.Register.{shift_in};
 ghost use Rattle.dmr_rs.specs.Field.{octet_field};
-ghost use Rattle.dmr_rs.specs.Word.{generator, IsRsWord, value_at, power, octet_distance};
+ghost use Rattle.dmr_rs.specs.Word.{generator_low, IsRsWord, value_at, octet_distance};
 
 use crate::octet::Octet;
 
 /// What three octets of a division's register become after one octet more.
 fn next_register(register: [Octet; 3], octet: Octet) -> [Octet; 3]
-    ensures value { result ≡ shift_in octet_field (0x0E ∷ 0x38 ∷ 0x40 ∷ []) register octet }
+    ensures value { result ≡ shift_in octet_field generator_low register octet }
 {
     let factor = register[0] + octet;
     [

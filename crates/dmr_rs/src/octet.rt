@@ -1,5 +1,5 @@
 //! Octets as the elements of a field of 256.
-ghost use Rattle.std.specs.Prelude.{◌≡◌, ◌<◌, bit_xor};
+ghost use Rattle.std.specs.Prelude.{◌≡◌, ℕ, ◌<◌, bit_xor};
 ghost use Rattle.dmr_bits.specs.Bits.{bits_of, xor_bits};
 ghost use Rattle.dmr_rs.specs.Field.{times_x, times, IsProduct};
 
@@ -66,6 +66,7 @@ impl Mul for Octet {
     fn mul(self, other: Octet) -> Octet
         ensures value { result ≡ times self other }
         ensures product { IsProduct self other result }
+        ensures only { (octet : ℕ) → octet < 256 → IsProduct self other octet → octet ≡ result }
         ensures bound { result < 256 }
     {
         Octet {

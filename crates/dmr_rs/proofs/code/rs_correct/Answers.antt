@@ -1,10 +1,10 @@
-use Rattle.std.proofs.Common.{◌≡◌, ℕ, ◌-◌, ◌<◌, ◌≤◌, List, length, sym, ◌∙◌, ap, arith, set, get_or, eqb-true, eq-eqb}
+use Rattle.std.proofs.Common.{◌≡◌, ℕ, ◌-◌, ◌<◌, List, length, sym, ◌∙◌, ap, arith, set, get_or, eqb-true, eq-eqb}
 use Rattle.std.specs.Prelude.{bit_xor, Some}
 use Rattle.std.specs.List.{All}
 use Rattle.std.proofs.lemmas.List.{length-set}
 use Rattle.std.proofs.lemmas.List.Elements.{All-from_get_or}
 use Rattle.dmr_rs.specs.Field.{times_x}
-use Rattle.dmr_rs.specs.Word.{IsRsWord, value_at, power, octet_distance}
+use Rattle.dmr_rs.specs.Word.{IsRsWord, value_at}
 use Rattle.dmr_rs.proofs.Correcting.{searched_none, searched_more, found, none_near}
 use Rattle.dmr_rs.proofs.Near.{set_distance, one_within}
 use Rattle.dmr_rs.proofs.Roots.{values}

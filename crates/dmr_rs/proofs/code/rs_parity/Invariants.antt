@@ -1,9 +1,10 @@
 use Rattle.std.proofs.Common.{◌≡◌, [], ◌∷◌, drop}
 use Rattle.dmr_bits.specs.Register.{run}
 use Rattle.dmr_rs.specs.Field.{octet_field}
+use Rattle.dmr_rs.specs.Word.{generator_low}
 use Rattle.dmr_rs.proofs.code.rs_parity.Given as goal
 
 abbrev pub invariant-loop-octet : goal.invariant-loop-octet
 invariant-loop-octet l =
-    run octet_field (0x0E ∷ 0x38 ∷ 0x40 ∷ []) l.register (drop l.octet-index l.octets)
-    ≡ run octet_field (0x0E ∷ 0x38 ∷ 0x40 ∷ []) (0 ∷ 0 ∷ 0 ∷ []) l.octets
+    run octet_field generator_low l.register (drop l.octet-index l.octets)
+    ≡ run octet_field generator_low (0 ∷ 0 ∷ 0 ∷ []) l.octets
