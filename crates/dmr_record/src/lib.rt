@@ -32,6 +32,7 @@ pub use head::{
 pub use octets::{DATAGRAM_LIMIT, Octets};
 pub use outgoing::{Outgoing, RECORD_LIMIT, read_outgoing};
 pub use received::{ReceivedKind, write_received};
+pub use transfer::put;
 pub use uplink::{FRAME_LIMIT, read_frame};
 
 #[cfg(test)]

@@ -1,0 +1,21 @@
+-- The octets of lines.
+use Rattle.std.specs.Prelude.{ℕ, List, [], ◌∷◌, ◌++◌, Option, codes}
+use Rattle.std.specs.Io.KnownBytes.{Appends}
+
+-- a text and a line feed
+abbrev pub line_octets : List ℕ → List ℕ
+line_octets text = text ++ codes "\n"
+
+-- a line that begins with `error: `
+abbrev pub error_octets : List ℕ → List ℕ
+error_octets message = codes "error: " ++ line_octets message
+
+-- One line was put, of some text.
+pub record PutsLine (old new : Option (List ℕ)) : Type 0 where
+  pub text : List ℕ
+  pub octets : Appends old new (line_octets text)
+
+-- One line was put that begins with `error: `.
+pub record PutsError (old new : Option (List ℕ)) : Type 0 where
+  pub message : List ℕ
+  pub octets : Appends old new (error_octets message)

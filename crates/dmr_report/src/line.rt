@@ -1,0 +1,74 @@
+//! Lines of text.
+ghost use Rattle.std.specs.Prelude.{◌≡◌, false, true, OnOk, OnErr};
+ghost use Rattle.std.specs.Io.KnownBytes.{Appends};
+ghost use Rattle.dmr_record.specs.Devices.{Tears};
+ghost use Rattle.dmr_report.specs.Line.{error_octets, line_octets};
+
+use crate::status::FAILURE;
+use arrayvec::ArrayString;
+use dmr_record::{RecordFault, Sink, put};
+use std::fmt::{Display, Write};
+
+/// The text of a line.
+pub type Text = ArrayString<256>;
+
+/// The text that a value prints.
+pub fn text_of<T: Display>(value: &T) -> Text {
+    let mut text = Text::new();
+    // There is room for every text of this crate, and nothing else makes this fail.
+    let _ = write!(text, "{value}");
+    text
+}
+
+/// Puts a text and the end of its line.
+fn put_line<K: Sink>(sink: &mut K, text: &str) -> Result<(), RecordFault>
+    requires well { K.has_failed sink.old ≡ false }
+    ensures octets { OnOk result (Appends (K.held sink.old) (K.held sink.new) (line_octets text.now)) }
+    ensures well { OnOk result (K.has_failed sink.new ≡ false) }
+    ensures failed { OnErr result (K.has_failed sink.new ≡ true) }
+{
+    put(sink, text.as_bytes())?;
+    put(sink, b"\n")
+}
+
+/// Puts a line that tells an error.
+fn put_error<K: Sink>(sink: &mut K, message: &str) -> Result<(), RecordFault>
+    requires well { K.has_failed sink.old ≡ false }
+    ensures octets { OnOk result (Appends (K.held sink.old) (K.held sink.new) (error_octets message.now)) }
+    ensures well { OnOk result (K.has_failed sink.new ≡ false) }
+    ensures failed { OnErr result (K.has_failed sink.new ≡ true) }
+{
+    put(sink, b"error: ")?;
+    put_line(sink, message)
+}
+
+/// The status, where what was to be printed was.
+fn status_after(printed: Result<(), RecordFault>, status: u8) -> u8
+    ensures ok { OnOk printed (result ≡ status) }
+    ensures err { OnErr printed (result ≡ FAILURE) }
+{
+    match printed {
+        Ok(()) => status,
+        Err(_) => FAILURE,
+    }
+}
+
+/// Prints a line, and answers the status that is to follow it.
+pub fn print_line<K: Sink>(sink: &mut K, text: &str, status: u8) -> u8
+    requires well { K.has_failed sink.old ≡ false }
+    ensures octets { K.has_failed sink.new ≡ false → Appends (K.held sink.old) (K.held sink.new) (line_octets text.now) }
+    ensures status { K.has_failed sink.new ≡ false → result ≡ status }
+    ensures failed { K.has_failed sink.new ≡ true → result ≡ FAILURE }
+{
+    status_after(put_line(sink, text), status)
+}
+
+/// Prints a line that tells an error, and answers the status that is to follow it.
+pub fn print_error<K: Sink>(sink: &mut K, message: &str, status: u8) -> u8
+    requires well { K.has_failed sink.old ≡ false }
+    ensures octets { K.has_failed sink.new ≡ false → Appends (K.held sink.old) (K.held sink.new) (error_octets message.now) }
+    ensures status { K.has_failed sink.new ≡ false → result ≡ status }
+    ensures failed { K.has_failed sink.new ≡ true → result ≡ FAILURE }
+{
+    status_after(put_error(sink, message), status)
+}
