@@ -79,7 +79,7 @@ pub tells_base : (found : Sync) (bits : List Bool) → ((s : Sync) → HasSync s
 tells_base found bits only e = (
   λ t. absurd (let bad : false ≡ true = t in cc),
   λ want. absurd (let same = ap (λ (s : Sync). s.side) (same_sync found (record { side = Ms; voice = false }) (only (record { side = Ms; voice = false }) want)) in
-  let bad : Bs ≡ Ms = sym e ∙ same in cc),
+      let bad : Bs ≡ Ms = sym e ∙ same in cc),
 )
 
 pub tells_no_sync : (wanted : Sync) (bits : List Bool) → ((s : Sync) → HasSync s bits → None ≡ Some s)

@@ -67,11 +67,7 @@ impl Repeater {
     ghost use Rattle.std.specs.Prelude.{[], ◌∷◌};
 
     /// Takes what is heard in a frame, and writes the frame that is decided then.
-    pub fn send<D: Sink>(
-        &mut self,
-        downlink: &mut D,
-        heard: HeardFrame,
-    ) -> Result<(), RecordFault>
+    pub fn send<D: Sink>(&mut self, downlink: &mut D, heard: HeardFrame) -> Result<(), RecordFault>
         requires well { D.has_failed downlink.old ≡ false }
         requires frames { self.old.frames < 2 ^ 30 }
         requires repeated { self.old.repeated ≤ 2 * self.old.frames }

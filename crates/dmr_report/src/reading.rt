@@ -55,9 +55,7 @@ fn read_data(side: Side, burst: &[u8; 33]) -> Reading
     ensures read { IsReadAs (bits_of_octets burst.now) result }
 {
     match read_slot_type(burst) {
-        Some(slot_type) => {
-            Reading::Data(side, slot_type, information_of(slot_type.kind, burst))
-        }
+        Some(slot_type) => { Reading::Data(side, slot_type, information_of(slot_type.kind, burst)) }
         None => Reading::Untyped(side),
     }
 }
@@ -98,7 +96,10 @@ impl fmt::Display for Reading {
             Reading::Data(side, slot_type, information) => {
                 let side = letters_of(*side);
                 let SlotType { colour, kind } = *slot_type;
-                write!(f, "data {side}, colour {colour}, type {kind}, information {information}")
+                write!(
+                    f,
+                    "data {side}, colour {colour}, type {kind}, information {information}"
+                )
             }
             Reading::Untyped(side) => {
                 let side = letters_of(*side);

@@ -47,7 +47,10 @@ fn write_summary<W: fmt::Write>(summary: &Summary, f: &mut fmt::Formatter<W>) ->
         refused,
         unoffered,
     } = *summary;
-    write!(f, "frames {frames} repeated {repeated} received {received} ")?;
+    write!(
+        f,
+        "frames {frames} repeated {repeated} received {received} "
+    )?;
     write!(f, "delivered {delivered} sent {sent} given-up {given_up} ")?;
     write!(f, "refused {refused} unoffered {unoffered}")
 }

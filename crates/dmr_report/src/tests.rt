@@ -40,7 +40,8 @@ fn summary_line(rt: HostRuntime) {
         refused: 0,
         unoffered: 0,
     };
-    let line = "frames 7 repeated 1 received 0 delivered 0 sent 0 given-up 0 refused 0 unoffered 0\n";
+    let line =
+        "frames 7 repeated 1 received 0 delivered 0 sent 0 given-up 0 refused 0 unoffered 0\n";
     expect_end(&rt, RunEnd::Done(summary), 0, line, "");
 }
 
@@ -57,25 +58,72 @@ fn longest_summary_line(rt: HostRuntime) {
         refused: 4294967289,
         unoffered: 4294967288,
     };
-    let line = "frames 4294967295 repeated 4294967294 received 4294967293 delivered 4294967292 sent 4294967291 given-up 4294967290 refused 4294967289 unoffered 4294967288\n";
+    let line =
+        "frames 4294967295 repeated 4294967294 received 4294967293 delivered 4294967292 sent 4294967291 given-up 4294967290 refused 4294967289 unoffered 4294967288\n";
     expect_end(&rt, RunEnd::Done(summary), 0, line, "");
 }
 
 #[test]
 fn faults_of_files(rt: HostRuntime) {
     for (stream, fault, line) in [
-        (Stream::Uplink, RecordFault::Magic, "error: uplink: bad magic\n"),
-        (Stream::Outgoing, RecordFault::Version, "error: outgoing: bad version\n"),
-        (Stream::Uplink, RecordFault::CutRecord, "error: uplink: cut record\n"),
-        (Stream::Outgoing, RecordFault::BadTag, "error: outgoing: bad tag\n"),
-        (Stream::Uplink, RecordFault::HalfFrame, "error: uplink: half frame\n"),
-        (Stream::Outgoing, RecordFault::FrameOrder, "error: outgoing: frame order\n"),
-        (Stream::Uplink, RecordFault::TooLong, "error: uplink: too long\n"),
-        (Stream::Outgoing, RecordFault::Read, "error: outgoing: read failed\n"),
-        (Stream::Downlink, RecordFault::Write, "error: downlink: write failed\n"),
-        (Stream::Received, RecordFault::Write, "error: received: write failed\n"),
+        (
+            Stream::Uplink,
+            RecordFault::Magic,
+            "error: uplink: bad magic\n",
+        ),
+        (
+            Stream::Outgoing,
+            RecordFault::Version,
+            "error: outgoing: bad version\n",
+        ),
+        (
+            Stream::Uplink,
+            RecordFault::CutRecord,
+            "error: uplink: cut record\n",
+        ),
+        (
+            Stream::Outgoing,
+            RecordFault::BadTag,
+            "error: outgoing: bad tag\n",
+        ),
+        (
+            Stream::Uplink,
+            RecordFault::HalfFrame,
+            "error: uplink: half frame\n",
+        ),
+        (
+            Stream::Outgoing,
+            RecordFault::FrameOrder,
+            "error: outgoing: frame order\n",
+        ),
+        (
+            Stream::Uplink,
+            RecordFault::TooLong,
+            "error: uplink: too long\n",
+        ),
+        (
+            Stream::Outgoing,
+            RecordFault::Read,
+            "error: outgoing: read failed\n",
+        ),
+        (
+            Stream::Downlink,
+            RecordFault::Write,
+            "error: downlink: write failed\n",
+        ),
+        (
+            Stream::Received,
+            RecordFault::Write,
+            "error: received: write failed\n",
+        ),
     ] {
-        expect_end(&rt, RunEnd::Fault(RunFault::File(stream, fault)), 1, "", line);
+        expect_end(
+            &rt,
+            RunEnd::Fault(RunFault::File(stream, fault)),
+            1,
+            "",
+            line,
+        );
     }
 }
 
@@ -93,13 +141,22 @@ fn files_that_cannot_be_opened(rt: HostRuntime) {
 
 #[test]
 fn want_of_memory(rt: HostRuntime) {
-    expect_end(&rt, RunEnd::Fault(RunFault::Memory), 1, "", "error: out of memory\n");
+    expect_end(
+        &rt,
+        RunEnd::Fault(RunFault::Memory),
+        1,
+        "",
+        "error: out of memory\n",
+    );
 }
 
 #[test]
 fn refused_settings(rt: HostRuntime) {
     for (fault, line) in [
-        (ConfigFault::Hang, "error: call hang is longer than channel hang\n"),
+        (
+            ConfigFault::Hang,
+            "error: call hang is longer than channel hang\n",
+        ),
         (ConfigFault::Colour, "error: bad setting\n"),
         (ConfigFault::Llid, "error: bad setting\n"),
         (ConfigFault::Queue, "error: bad setting\n"),
@@ -173,9 +230,27 @@ fn printed_voice_burst(rt: HostRuntime) {
 fn texts_that_are_no_burst(rt: HostRuntime) {
     let line = "error: a burst is 66 hexadecimal digits\n";
     expect_slot(&rt, "", 2, "", line);
-    expect_slot(&rt, "53C25EABA8671DC7383BD936065DFF57D75DF5D92BF6E465171B48CA6D4FC610B", 2, "", line);
-    expect_slot(&rt, "53C25EABA8671DC7383BD936065DFF57D75DF5D92BF6E465171B48CA6D4FC610B40", 2, "", line);
-    expect_slot(&rt, "53C25EABA8671DC7383BD936065DFF57D75DF5D92BF6E465171B48CA6D4FC610BG", 2, "", line);
+    expect_slot(
+        &rt,
+        "53C25EABA8671DC7383BD936065DFF57D75DF5D92BF6E465171B48CA6D4FC610B",
+        2,
+        "",
+        line,
+    );
+    expect_slot(
+        &rt,
+        "53C25EABA8671DC7383BD936065DFF57D75DF5D92BF6E465171B48CA6D4FC610B40",
+        2,
+        "",
+        line,
+    );
+    expect_slot(
+        &rt,
+        "53C25EABA8671DC7383BD936065DFF57D75DF5D92BF6E465171B48CA6D4FC610BG",
+        2,
+        "",
+        line,
+    );
 }
 
 /// A sink with room for four octets fails, and the other stays empty.
