@@ -4,7 +4,8 @@ ghost use Rattle.std.specs.Prelude.{◌≡◌, ◌%◌, ◌↔◌, ℕ, IsTrue, 
 use bitflags::{Flag, Flags, bitflag_items};
 
 /// The service options octet of a voice call (ETSI TS 102 361-2, clause 7.2.1): named bits, and a priority in the two
-/// lowest. All eight bits are carried, the reserved ones too.
+/// lowest. All eight bits are carried, the reserved ones too. The trait `bitflags::Flags` has the operations of sets
+/// with contracts; the operators `|`, `&` and the like, which the kit's macro writes, have none.
 #[derive(Clone, Copy, Debug, PartialEq, Eq)]
 pub struct ServiceOptions(pub u8);
 
@@ -53,7 +54,7 @@ impl ServiceOptions {
         Flags::contains(&self, option)
     }
 
-    /// The priority of the call, 0 to 3; 3 is the highest.
+    /// The priority of the call, from 0, no priority, to 3, the highest.
     pub fn priority(self) -> u8
         ensures value { result ≡ self.0 % 4 }
     {
