@@ -1,0 +1,105 @@
+//! A run over files.
+ghost use Rattle.std.specs.Prelude.{◌≡◌, false, IfOk, IfErr};
+ghost use Rattle.std.specs.Io.KnownBytes.{Keeps};
+
+use crate::command::Paths;
+use dmr_gateway::Config;
+use dmr_record::{FromRead, RecordFault, Sink, Source, ToWrite};
+use dmr_report::RunEnd;
+use dmr_repeater::{RunFault, Stream, Summary, run};
+use std::alloc::Global;
+use std::fs;
+use std::io::{BufReader, BufWriter, Read, Write};
+use std::rt::Files;
+
+/// Opens the files in their order, and runs over them.
+pub fn run_files<R: Files>(rt: &R, alloc: Global, config: Config, paths: &Paths<'_>) -> RunEnd {
+    let Ok(uplink) = fs::open(rt, paths.uplink) else {
+        return RunEnd::CannotOpen(Stream::Uplink);
+    };
+    let Ok(outgoing) = fs::open(rt, paths.outgoing) else {
+        return RunEnd::CannotOpen(Stream::Outgoing);
+    };
+    let Ok(downlink) = fs::create(rt, paths.downlink) else {
+        return RunEnd::CannotOpen(Stream::Downlink);
+    };
+    let Ok(received) = fs::create(rt, paths.received) else {
+        return RunEnd::CannotOpen(Stream::Received);
+    };
+    match run_buffered(alloc, config, uplink, outgoing, downlink, received) {
+        Ok(summary) => RunEnd::Done(summary),
+        Err(fault) => RunEnd::Fault(fault),
+    }
+}
+
+/// Runs over readers and writers, each behind a buffer. What is written before a fault is written out too, and the fault of
+/// the run goes before one of writing out.
+fn run_buffered<U: Read + Drop, O: Read + Drop, D: Write + Drop, R: Write + Drop>(
+    alloc: Global,
+    config: Config,
+    uplink: U,
+    outgoing: O,
+    downlink: D,
+    received: R,
+) -> Result<Summary, RunFault> {
+    let mut uplink = buffered_source(alloc, uplink)?;
+    let mut outgoing = buffered_source(alloc, outgoing)?;
+    let mut downlink = buffered_sink(alloc, downlink)?;
+    let mut received = buffered_sink(alloc, received)?;
+    let end = run(
+        alloc,
+        config,
+        &mut uplink,
+        &mut outgoing,
+        &mut downlink,
+        &mut received,
+    );
+    let downlink_end = write_out(downlink, Stream::Downlink);
+    let received_end = write_out(received, Stream::Received);
+    let summary = end?;
+    downlink_end?;
+    received_end?;
+    Ok(summary)
+}
+
+/// A source that reads through a buffer.
+fn buffered_source<R: Read + Drop>(
+    alloc: Global,
+    reader: R,
+) -> Result<FromRead<BufReader<R>>, RunFault>
+    ensures well { IfOk result (λ source. ⟦<FromRead<BufReader<R>> as Source>⟧.has_failed source ≡ false) }
+    ensures fault { IfErr result (λ e. e ≡ RunFault.Memory) }
+{
+    match BufReader::new(alloc, reader) {
+        Ok(reader) => Ok(FromRead::new(reader)),
+        Err(_) => Err(RunFault::Memory),
+    }
+}
+
+/// A sink that writes through a buffer.
+fn buffered_sink<W: Write + Drop>(
+    alloc: Global,
+    writer: W,
+) -> Result<ToWrite<BufWriter<W>>, RunFault>
+    ensures well { IfOk result (λ sink. ⟦<ToWrite<BufWriter<W>> as Sink>⟧.has_failed sink ≡ false) }
+    ensures fault { IfErr result (λ e. e ≡ RunFault.Memory) }
+{
+    match BufWriter::new(alloc, writer) {
+        Ok(writer) => Ok(ToWrite::new(writer)),
+        Err(_) => Err(RunFault::Memory),
+    }
+}
+
+/// Writes out what a buffer still holds, and hands back the writer, which then has all that the sink has.
+fn write_out<W: Write + Drop>(
+    sink: ToWrite<BufWriter<W>>,
+    stream: Stream,
+) -> Result<W, RunFault>
+    ensures octets { IfOk result (λ writer. Keeps (⟦<ToWrite<BufWriter<W>> as Sink>⟧.held sink) (W.contents writer)) }
+    ensures fault { IfErr result (λ e. e ≡ RunFault.File stream RecordFault.Write) }
+{
+    match sink.into_inner().into_inner() {
+        Ok(writer) => Ok(writer),
+        Err(_) => Err(RunFault::File(stream, RecordFault::Write)),
+    }
+}
