@@ -5,8 +5,8 @@ ghost use Rattle.std.specs.Io.KnownBytes.{Keeps};
 use crate::command::Paths;
 use dmr_gateway::Config;
 use dmr_record::{FromRead, RecordFault, Sink, Source, ToWrite};
-use dmr_report::RunEnd;
 use dmr_repeater::{RunFault, Stream, Summary, run};
+use dmr_report::RunEnd;
 use std::alloc::Global;
 use std::fs;
 use std::io::{BufReader, BufWriter, Read, Write};
@@ -91,10 +91,7 @@ fn buffered_sink<W: Write + Drop>(
 }
 
 /// Writes out what a buffer still holds, and hands back the writer, which then has all that the sink has.
-fn write_out<W: Write + Drop>(
-    sink: ToWrite<BufWriter<W>>,
-    stream: Stream,
-) -> Result<W, RunFault>
+fn write_out<W: Write + Drop>(sink: ToWrite<BufWriter<W>>, stream: Stream) -> Result<W, RunFault>
     ensures octets { IfOk result (λ writer. Keeps (⟦<ToWrite<BufWriter<W>> as Sink>⟧.held sink) (W.contents writer)) }
     ensures fault { IfErr result (λ e. e ≡ RunFault.File stream RecordFault.Write) }
 {
