@@ -14,34 +14,41 @@ pub struct Paths<'a> {
 }
 
 /// An option that takes the path of a file.
-fn file<'a>(alloc: Global, name: &'a str) -> Arg<'a> {
+fn file<'a>(alloc: Global, name: &'a str, help: &'a str) -> Arg<'a> {
     Arg::new(alloc, name)
         .long(name)
         .value_name("FILE")
+        .help(help)
         .required(true)
         .action(ArgAction::Set)
 }
 
 /// An option that takes a number.
-fn number<'a>(alloc: Global, name: &'a str) -> Arg<'a> {
+fn number<'a>(alloc: Global, name: &'a str, help: &'a str) -> Arg<'a> {
     Arg::new(alloc, name)
         .long(name)
         .value_name("N")
+        .help(help)
         .action(ArgAction::Set)
 }
 
 /// `run`, with its files and its settings.
 fn run_command<'a>(alloc: Global) -> Result<Command<'a>, AllocError> {
-    let llid = number(alloc, "llid").required(true);
-    let colour = number(alloc, "colour").default_value("1");
-    let call_hang = number(alloc, "call-hang").default_value("3");
-    let channel_hang = number(alloc, "channel-hang").default_value("5");
-    let queue = number(alloc, "queue").default_value("9");
+    let uplink = file(alloc, "uplink", "The recording of the uplink, to read");
+    let outgoing = file(alloc, "outgoing", "The datagrams to send, to read");
+    let downlink = file(alloc, "downlink", "The downlink, to write");
+    let received = file(alloc, "received", "The datagrams received, to write");
+    let llid = number(alloc, "llid", "The gateway's address on the air").required(true);
+    let colour = number(alloc, "colour", "The colour code").default_value("1");
+    let call_hang = number(alloc, "call-hang", "Frames that a call is held").default_value("3");
+    let channel_hang = number(alloc, "channel-hang", "Frames on air when idle").default_value("5");
+    let queue = number(alloc, "queue", "Datagrams that may wait in a slot").default_value("9");
     Command::new(alloc, "run")
-        .arg(file(alloc, "uplink"))?
-        .arg(file(alloc, "outgoing"))?
-        .arg(file(alloc, "downlink"))?
-        .arg(file(alloc, "received"))?
+        .about("Repeats a recording of the uplink into the downlink")
+        .arg(uplink)?
+        .arg(outgoing)?
+        .arg(downlink)?
+        .arg(received)?
         .arg(llid.value_parser(value_parser!(u32).range(1..16_777_216)))?
         .arg(colour.value_parser(value_parser!(u8).range(0..16)))?
         .arg(call_hang.value_parser(value_parser!(u16)))?
@@ -53,9 +60,12 @@ fn run_command<'a>(alloc: Global) -> Result<Command<'a>, AllocError> {
 fn slot_command<'a>(alloc: Global) -> Result<Command<'a>, AllocError> {
     let burst = Arg::new(alloc, "burst")
         .value_name("HEX")
+        .help("A burst of 66 hexadecimal digits")
         .required(true)
         .action(ArgAction::Set);
-    Command::new(alloc, "slot").arg(burst)
+    Command::new(alloc, "slot")
+        .about("Says what one burst is")
+        .arg(burst)
 }
 
 /// The whole command line.
@@ -63,6 +73,7 @@ pub fn command<'a>(alloc: Global) -> Result<Command<'a>, AllocError> {
     let run = run_command(alloc)?;
     let slot = slot_command(alloc)?;
     Command::new(alloc, "dmrgate")
+        .about("A two-slot DMR repeater with an IP data gateway, run on recordings")
         .subcommand_required(true)
         .subcommand(run)?
         .subcommand(slot)
