@@ -1,10 +1,10 @@
 -- A block and its bits decide each other.
-use Rattle.std.proofs.Common.{◌≡◌, ℕ, ◌≤◌, ◌<◌, ◌^◌, List, Bool, ◌∷◌, ◌++◌, length, take, drop, sym, ap, ◌∙◌, subst, arith}
+use Rattle.std.proofs.Common.{◌≡◌, ℕ, ◌≤◌, ◌<◌, List, Bool, ◌∷◌, ◌++◌, length, take, sym, ap, ◌∙◌, subst, arith}
 use Rattle.std.specs.List.{All}
-use Rattle.std.proofs.lemmas.List.{take_at, drop_at, length-take-le, length-append, append_assoc}
+use Rattle.std.proofs.lemmas.List.{take_at, length-take-le, length-append, append_assoc}
 use Rattle.std.proofs.lemmas.List.Elements.{All-take}
-use Rattle.dmr_bits.specs.Bits.{number_of, bits_of, bits_of_octets, octets_of}
-use Rattle.dmr_bits.proofs.Lists.{length-bits_of, number_of-bits_of}
+use Rattle.dmr_bits.specs.Bits.{bits_of, bits_of_octets, octets_of}
+use Rattle.dmr_bits.proofs.Spelled.{same_number, same_octets}
 use Rattle.dmr_bits.proofs.Octets.{octets_of-bits_of_octets, bits_of_octets-octets_of}
 use Rattle.dmr_bits.proofs.OctetFronts.{length-bits_of_octets, bits_of_octets-take, length-octets_of, octets_of-small}
 use Rattle.dmr_checks.specs.Sealed.{IsSealed}
@@ -12,20 +12,6 @@ use Rattle.dmr_checks.proofs.Blocks.{sealed_alike}
 use Rattle.dmr_checks.specs.declared.sealing.Mask.TheVariants as mask
 use Rattle.dmr_csbk.specs.declared.block.Csbk.{Csbk}
 use Rattle.dmr_csbk.specs.Block.{field_bits, IsFit, IsBlock}
-
--- bits that begin with a number's decide it
-same_number : (width a b : ℕ) (x y : List Bool) → a < 2 ^ width → b < 2 ^ width → bits_of width a ++ x ≡ bits_of width b ++ y → (a ≡ b) × (x ≡ y)
-same_number width a b x y p q e =
-    let fronts : bits_of width a ≡ bits_of width b =
-    sym (take_at (bits_of width a) x width (length-bits_of width a)) ∙ ap (take width) e ∙ take_at (bits_of width b) y width (length-bits_of width b) in (
-      sym (number_of-bits_of width a p) ∙ ap number_of fronts ∙ number_of-bits_of width b q,
-      sym (drop_at (bits_of width a) x width (length-bits_of width a)) ∙ ap (drop width) e ∙ drop_at (bits_of width b) y width (length-bits_of width b),
-    )
-
--- octets are decided by their bits
-pub same_octets : (xs ys : List ℕ) → All (λ octet. octet < 256) xs → All (λ octet. octet < 256) ys → length xs ≡ length ys → bits_of_octets xs ≡ bits_of_octets ys → xs ≡ ys
-same_octets xs ys p q long e =
-    sym (octets_of-bits_of_octets xs p) ∙ ap (octets_of (length xs)) e ∙ ap (λ n. octets_of n (bits_of_octets ys)) long ∙ octets_of-bits_of_octets ys q
 
 -- the fields are decided by their bits
 pub same_fields : (a b : Csbk) → IsFit a → IsFit b → field_bits a ≡ field_bits b → a ≡ b

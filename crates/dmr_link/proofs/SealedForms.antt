@@ -15,7 +15,8 @@ use Rattle.dmr_link.specs.declared.full_lc.FullLc.{FullLc}
 use Rattle.dmr_link.specs.declared.sealing.LcUse.{LcUse}
 use Rattle.dmr_link.specs.FullLc.{field_bits, IsFit}
 use Rattle.dmr_link.specs.Sealed.{masked, IsSealedLc, IsLc, IsWithinOctet, IsRead}
-use Rattle.dmr_link.proofs.Fields.{same_fields, same_octets}
+use Rattle.dmr_bits.proofs.Spelled.{same_octets}
+use Rattle.dmr_link.proofs.Fields.{same_fields}
 use Rattle.dmr_link.proofs.Masks.{length-masked, take-masked, masked_twice, small-masked, distance-append, distance-masked}
 
 -- the octets that the bits of octets spell

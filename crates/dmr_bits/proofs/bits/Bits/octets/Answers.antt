@@ -1,4 +1,4 @@
-use Rattle.std.proofs.Common.{◌≡◌, ℕ, ◌*◌, ◌∙◌, Bool, List, ap, sym, arith, take, drop, length-set}
+use Rattle.std.proofs.Common.{ℕ, ◌*◌, ◌∙◌, ap, sym, arith, take, drop, length-set}
 use Rattle.std.proofs.lemmas.List.Edits.{fill_by_more}
 use Rattle.std.proofs.lemmas.List.FromFn.{fill_by_all}
 use Rattle.dmr_bits.proofs.Lists.{octets_more}
