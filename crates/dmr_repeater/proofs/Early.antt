@@ -1,5 +1,5 @@
 -- What is written of a recording, in whole or in part.
-use Rattle.std.proofs.Common.{◌≡◌, ℕ, zero, suc, ◌+◌, ◌-◌, ◌*◌, ◌≤◌, List, [], ◌∷◌, ◌++◌, length, take, drop, replicate, Option, Some, None, IfSome, Bool, true, false, refl, sym, ap, ◌∙◌, subst, arith, append-nil, append_assoc, take-append-drop, inl, inr, ◌⊎◌}
+use Rattle.std.proofs.Common.{◌≡◌, ℕ, zero, suc, ◌+◌, ◌-◌, ◌≤◌, List, [], ◌∷◌, ◌++◌, length, take, drop, replicate, Option, Some, None, IfSome, Bool, true, false, refl, sym, ap, ◌∙◌, subst, arith, append-nil, append_assoc, take-append-drop, inl, inr, ◌⊎◌}
 use Rattle.std.specs.List.{AllByRecursion}
 use Rattle.std.proofs.lemmas.List.{take_at, take-append-le, length-append, replicate-append-replicate}
 use Rattle.std.specs.Io.KnownBytes.{Consumes, Appends, IsAtEnd}
@@ -11,10 +11,8 @@ use Rattle.dmr_record.specs.Head.{head_octets}
 use Rattle.dmr_record.specs.Uplink.{IsFrame, uplink_file, frames_octets}
 use Rattle.dmr_csbk.specs.Block.{IsSealedMessage}
 use Rattle.dmr_repeater.specs.declared.line.LineSlot.{LineSlot}
-use Rattle.dmr_repeater.specs.declared.line.LineSlot.TheVariants.{Repeated, Idle, Silent}
 use Rattle.dmr_repeater.specs.Clean.{IsSealedSlot}
 use Rattle.dmr_repeater.specs.Damage.{Hears, AreHeardAs, AreRecordedAs, IsRecordedAs}
-use Rattle.dmr_repeater.specs.Heard.{HoldsControl}
 use Rattle.dmr_repeater.specs.Line.{silence, line_slot, line_frame, line_frames, line_of, delayed, slots_of, has_burst_within}
 use Rattle.dmr_repeater.specs.Pairs.{Pairwise}
 use Rattle.dmr_repeater.specs.Push.{Memory, start, pushes, after_pushes, after_push, handed}

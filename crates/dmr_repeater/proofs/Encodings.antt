@@ -1,5 +1,5 @@
 -- The octets of slots: there is one encoding, and it is clean.
-use Rattle.std.proofs.Common.{◌≡◌, ℕ, suc, ◌+◌, ◌*◌, ◌-◌, ◌<◌, Bool, true, false, List, [], ◌∷◌, ◌++◌, length, Option, Some, None, refl, sym, ap, ◌∙◌, arith, inl, inr, replicate, ◌==◌, ◌%◌}
+use Rattle.std.proofs.Common.{◌≡◌, ℕ, suc, ◌+◌, ◌<◌, Bool, true, false, List, [], ◌∷◌, ◌++◌, length, Option, Some, None, refl, sym, ap, ◌∙◌, arith, inl, inr, replicate, ◌==◌, ◌%◌}
 use Rattle.std.specs.List.{All, AllByRecursion}
 use Rattle.std.proofs.lemmas.List.{length-append}
 use Rattle.dmr_bits.specs.Bits.{bits_of_octets, part}
@@ -11,7 +11,7 @@ use Rattle.dmr_burst.specs.declared.burst.Burst.TheVariants.{Data}
 use Rattle.dmr_burst.specs.declared.burst.Side.TheVariants.{Bs}
 use Rattle.dmr_burst.proofs.Same as same
 use Rattle.dmr_burst.proofs.Interleaving.{one_announcement}
-use Rattle.dmr_csbk.proofs.Blocks.{same_octets}
+use Rattle.dmr_bits.proofs.Spelled.{same_octets}
 use Rattle.dmr_repeater.specs.declared.line.LineSlot.{LineSlot}
 use Rattle.dmr_repeater.specs.declared.line.LineSlot.TheVariants.{Repeated, Idle, Silent}
 use Rattle.dmr_repeater.specs.Sent.{lcss_of, IsCachOf, IsBurstOf, idle_message, IsSentAs, AreSentAs, AreOctets}

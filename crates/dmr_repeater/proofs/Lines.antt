@@ -1,11 +1,10 @@
 -- The line, push by push.
-use Rattle.std.proofs.Common.{◌≡◌, ℕ, zero, suc, ◌+◌, ◌-◌, ◌≤◌, Bool, true, false, List, [], ◌∷◌, ◌++◌, take, drop, length, replicate, refl, sym, ap, ◌∙◌, subst, arith, append_assoc, length-append, Option, get_or}
+use Rattle.std.proofs.Common.{◌≡◌, ℕ, zero, suc, ◌+◌, ◌-◌, ◌≤◌, Bool, true, false, List, [], ◌∷◌, ◌++◌, take, drop, length, replicate, refl, sym, ap, ◌∙◌, arith, append_assoc, length-append, Option, get_or}
 use Rattle.std.specs.Prelude.{nat_lt, ◌||◌}
 use Rattle.std.proofs.lemmas.Bool.{lt-ltb}
 use Rattle.std.proofs.lemmas.List.{take_at}
-use Rattle.dmr_repeater.specs.declared.line.LineSlot.{LineSlot}
-use Rattle.dmr_repeater.specs.Line.{silence, has_burst, has_burst_within, line_frame, line_frames, line_of, delayed}
-use Rattle.dmr_repeater.specs.Push.{Memory, start, recent_after, decided, left_after, push_out, after_push, pushes, after_pushes, handed, LineByPushes}
+use Rattle.dmr_repeater.specs.Line.{silence, has_burst, has_burst_within, line_frame, line_frames}
+use Rattle.dmr_repeater.specs.Push.{Memory, start, decided, left_after, push_out, after_push, pushes, after_pushes, handed, LineByPushes}
 
 -- What is left of the hang agrees with a look back, now and in the frames to come.
 record Agrees (hang left : ℕ) (back : List (List (Option (List Bool)))) : Type 0 where

@@ -1,5 +1,5 @@
 -- What a burst is heard as.
-use Rattle.std.proofs.Common.{◌≡◌, ◌≢◌, ℕ, List, Bool, true, false, not, Option, Some, None, IfSome, IsTrue, nat_eq, sym, ap, ◌∙◌, subst, eqb-true, eq-eqb, refl}
+use Rattle.std.proofs.Common.{◌≡◌, ℕ, List, Bool, true, false, not, Option, Some, None, IfSome, IsTrue, nat_eq, sym, ap, ◌∙◌, subst, eqb-true, eq-eqb, refl}
 use Rattle.dmr_bits.specs.Bits.{bits_of_octets}
 use Rattle.dmr_bptc.specs.Decoding.{IsDecoded}
 use Rattle.dmr_bptc.proofs.Decoded.{one_decoded}

@@ -1,5 +1,5 @@
 -- Slots of the downlink that may be transmitted.
-use Rattle.std.specs.Prelude.{ℕ, ◌≡◌, ◌⊎◌, Bool, List, Option, Some, None, length}
+use Rattle.std.specs.Prelude.{ℕ, ◌≡◌, ◌⊎◌, Bool, List, Option, Some, None}
 use Rattle.dmr_bits.specs.Bits.{bits_of_octets}
 use Rattle.dmr_bptc.specs.ProductWord.{IsWritten}
 use Rattle.dmr_burst.specs.Cach.{IsCach}

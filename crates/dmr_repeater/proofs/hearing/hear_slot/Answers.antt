@@ -1,4 +1,4 @@
-use Rattle.std.proofs.Common.{List, ℕ, Option, Some, sym, subst}
+use Rattle.std.proofs.Common.{List, ℕ, Option, sym, subst}
 use Rattle.dmr_repeater.specs.Damage.{Hears}
 use Rattle.dmr_repeater.proofs.Messages.{hears_burst}
 use Rattle.dmr_repeater.proofs.hearing.hear_slot.Goals as goal

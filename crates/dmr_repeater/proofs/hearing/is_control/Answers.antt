@@ -1,4 +1,3 @@
-use Rattle.std.proofs.Common.{sym, ◌∙◌}
 use Rattle.dmr_bits.specs.Bits.{bits_of_octets}
 use Rattle.dmr_repeater.proofs.Messages.{tells_kind, tells_colour, tells_no_slot_type}
 use Rattle.dmr_repeater.proofs.hearing.is_control.Goals as goal

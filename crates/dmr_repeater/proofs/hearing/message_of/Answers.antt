@@ -1,4 +1,4 @@
-use Rattle.std.proofs.Common.{◌≡◌, List, Bool, Some, sym, ap, ◌∙◌, subst}
+use Rattle.std.proofs.Common.{List, Bool, Some, ap, ◌∙◌, subst}
 use Rattle.dmr_bptc.specs.Decoding.{IsDecoded}
 use Rattle.dmr_csbk.proofs.Blocks.{same_message}
 use Rattle.dmr_repeater.proofs.Messages.{one_message, no_fault}

@@ -1,6 +1,5 @@
-use Rattle.std.proofs.Common.{List, ℕ, [], ◌++◌, refl, ◌∙◌, sym, ap, append-nil, Some}
+use Rattle.std.proofs.Common.{[], refl}
 use Rattle.dmr_record.specs.declared.head.TheConstants.{UPLINK_MAGIC, OUTGOING_MAGIC}
-use Rattle.dmr_record.specs.Head.{head_octets}
 use Rattle.dmr_record.specs.Uplink.{frames_octets}
 use Rattle.dmr_repeater.proofs.Files.{no_fault_ahead}
 use Rattle.dmr_repeater.proofs.running.read_heads.Goals as goal

@@ -1,4 +1,4 @@
-use Rattle.std.proofs.Common.{rules, ◌≡◌, ◌+◌, ◌*◌, ◌≤◌, ℕ, List, Bool, Option, [], ◌∷◌, ◌++◌, length, refl, sym, ap, ◌∙◌, subst, arith, append-nil}
+use Rattle.std.proofs.Common.{rules, ◌≡◌, ◌+◌, ◌*◌, ℕ, [], ◌∷◌, ◌++◌, length, refl, sym, ap, ◌∙◌, subst, arith, append-nil}
 use Rattle.std.proofs.lemmas.List.{length_push}
 use Rattle.std.specs.Io.KnownBytes.{Consumes}
 use Rattle.dmr_record.specs.declared.uplink.TheConstants.{FRAME_LIMIT}
@@ -7,7 +7,7 @@ use Rattle.dmr_repeater.specs.Damage.{Hears}
 use Rattle.dmr_repeater.specs.Line.{silence}
 use Rattle.dmr_repeater.specs.Pairs.{Pairwise}
 use Rattle.dmr_repeater.specs.Push.{push_out}
-use Rattle.dmr_repeater.specs.Runs.{IsAfter, Reads, Sends, SendsFront, repeated_count}
+use Rattle.dmr_repeater.specs.Runs.{Sends, SendsFront, repeated_count}
 use Rattle.dmr_repeater.proofs.Files.{no_fault_behind}
 use Rattle.dmr_repeater.proofs.Transcripts.{IsAfter-none, IsAfter-more, Sends-more, SendsFront-more, SendsFront-whole, Reads-none, Reads-more, Reads-part}
 use Rattle.dmr_repeater.proofs.running.repeat_uplink.Goals as goal

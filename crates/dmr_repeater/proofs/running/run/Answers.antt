@@ -1,4 +1,4 @@
-use Rattle.std.proofs.Common.{◌≡◌, List, ℕ, Option, subst}
+use Rattle.std.proofs.Common.{subst}
 use Rattle.dmr_record.specs.declared.head.TheConstants.{DOWNLINK_MAGIC}
 use Rattle.dmr_record.specs.Head.{head_octets}
 use Rattle.dmr_repeater.specs.Push.{Memory}

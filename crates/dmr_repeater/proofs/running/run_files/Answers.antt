@@ -1,8 +1,7 @@
-use Rattle.std.proofs.Common.{◌≡◌, ◌++◌, ◌∷◌, [], replicate, refl}
+use Rattle.std.proofs.Common.{◌∷◌, replicate, refl}
 use Rattle.dmr_record.specs.declared.head.TheConstants.{DOWNLINK_MAGIC, RECEIVED_MAGIC}
 use Rattle.dmr_record.specs.Head.{head_octets}
 use Rattle.dmr_repeater.specs.Line.{silence}
-use Rattle.dmr_repeater.specs.Runs.{IsAfter}
 use Rattle.dmr_repeater.proofs.Early.{nothing, everything, ends_ahead, ends_in_uplink, ends_past_uplink, ends_well}
 use Rattle.dmr_repeater.proofs.Transcripts.{Sends-rest, SendsFront-rest, IsAfter-trans}
 use Rattle.dmr_repeater.proofs.running.run_files.Goals as goal

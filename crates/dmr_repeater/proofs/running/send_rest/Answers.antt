@@ -1,6 +1,5 @@
-use Rattle.std.proofs.Common.{rules, ◌≡◌, ◌+◌, ◌*◌, ◌≤◌, ℕ, suc, List, [], ◌∷◌, ◌++◌, replicate, refl, sym, ap, ◌∙◌, subst, arith}
+use Rattle.std.proofs.Common.{◌+◌, ◌*◌, ℕ, replicate, refl, ◌∙◌, arith}
 use Rattle.dmr_repeater.specs.Line.{silence}
-use Rattle.dmr_repeater.specs.Runs.{IsAfter, Sends, SendsFront}
 use Rattle.dmr_repeater.proofs.Transcripts.{IsAfter-more, Sends-more, SendsFront-more}
 use Rattle.std.proofs.lemmas.List.{replicate_more}
 use Rattle.dmr_repeater.proofs.running.send_rest.Goals as goal
