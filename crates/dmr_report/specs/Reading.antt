@@ -1,5 +1,5 @@
 -- What a burst is read as.
-use Rattle.std.specs.Prelude.{◌≡◌, ◌==◌, ◌||◌, ℕ, Bool, true, false, not, List, Option}
+use Rattle.std.specs.Prelude.{◌≡◌, ◌==◌, ◌||◌, ℕ, Bool, true, false, not, List}
 use Rattle.dmr_bptc.specs.Decoding.{IsDecoded}
 use Rattle.dmr_burst.specs.Layout.{HasEmb, HasSlotType, HasSync, information_field}
 use Rattle.dmr_burst.specs.declared.burst.Emb.{Emb}
