@@ -61,7 +61,7 @@ sealed_append : (xs ys : List LineSlot) → AllByRecursion IsSealedSlot xs → A
 sealed_append [] ys u v = v
 sealed_append (x ∷ xs) ys u v = (u.0, sealed_append xs ys u.1 v)
 
-sealed_first : (count : ℕ) (frames : List (List LineSlot)) → AllByRecursion (AllByRecursion IsSealedSlot) frames → AllByRecursion IsSealedSlot (slots_of (take count frames))
+pub sealed_first : (count : ℕ) (frames : List (List LineSlot)) → AllByRecursion (AllByRecursion IsSealedSlot) frames → AllByRecursion IsSealedSlot (slots_of (take count frames))
 sealed_first zero frames u = tt
 sealed_first (suc n) [] u = tt
 sealed_first (suc n) (f ∷ fs) u = sealed_append f (slots_of (take n fs)) u.0 (sealed_first n fs u.1)
@@ -70,7 +70,7 @@ sealed_all : (frames : List (List LineSlot)) → AllByRecursion (AllByRecursion 
 sealed_all [] u = tt
 sealed_all (f ∷ fs) u = sealed_append f (slots_of fs) u.0 (sealed_all fs u.1)
 
-sealed_line_of : (colour hang : ℕ) (frames : List (List (Option (List ℕ)))) (heard : List (List (Option (List Bool)))) → AreHeardAs colour frames heard
+pub sealed_line_of : (colour hang : ℕ) (frames : List (List (Option (List ℕ)))) (heard : List (List (Option (List Bool)))) → AreHeardAs colour frames heard
     → AllByRecursion (AllByRecursion IsSealedSlot) (line_of hang heard)
 sealed_line_of colour hang frames heard u =
     let quiet : IsSealedFrame silence = (tt, (tt, tt)) in
@@ -87,7 +87,7 @@ decided_front hang count xs ys heard e h =
     ap (take count) (sym (line_by_pushes hang heard) ∙ ap (pushes (start hang)) e ∙ pushes-append (start hang) xs ys)
     ∙ take-append-le count (pushes (start hang) xs) (pushes (after_pushes (start hang) xs) ys) (omega (arith, length-pushes (start hang) xs))
 
-decided : (hang : ℕ) (xs ys heard : List (List (Option (List Bool)))) → handed heard ≡ xs ++ ys → take (length xs) (line_of hang heard) ≡ pushes (start hang) xs
+pub decided : (hang : ℕ) (xs ys heard : List (List (Option (List Bool)))) → handed heard ≡ xs ++ ys → take (length xs) (line_of hang heard) ≡ pushes (start hang) xs
 decided hang xs ys heard e =
     ap (take (length xs)) (sym (line_by_pushes hang heard) ∙ ap (pushes (start hang)) e ∙ pushes-append (start hang) xs ys)
     ∙ take_at (pushes (start hang) xs) (pushes (after_pushes (start hang) xs) ys) (length xs) (length-pushes (start hang) xs)
@@ -253,18 +253,28 @@ ends_ahead colour hang a b c d front = record {
 pub torn_front : (whole : List ℕ) (a b : Option (List ℕ)) → Tears a b whole → FrontOf a b whole
 torn_front whole a b torn = (take torn.count whole, (drop torn.count whole, sym (take-append-drop torn.count whole)), torn.front)
 
+-- what is handed past the end of the uplink, as far as so many silent frames
+pub handed_split : (heard : List (List (Option (List Bool)))) (count : ℕ) → count ≤ 5 → handed heard ≡ ((silence ∷ heard) ++ replicate count silence) ++ replicate (5 - count) silence
+handed_split heard count few =
+    let five : count + (5 - count) ≡ 5 = omega arith in
+    ap (λ l. silence ∷ l) (ap (λ l. heard ++ l) (ap (λ n. replicate n silence) (sym five) ∙ sym (replicate-append-replicate count (5 - count) silence)) ∙ sym (append_assoc heard (replicate count silence) (replicate (5 - count) silence)))
+
 module _ (colour hang : ℕ) (m : Memory) (fresh : m ≡ start hang) (frames : List (List (Option (List ℕ)))) (heard : List (List (Option (List Bool)))) where
-  -- while the uplink lasts
-  pub ends_in_uplink : (part : List ℕ) (a b c h d e : Option (List ℕ)) → Consumes a b (head_octets UPLINK_MAGIC) → Reads colour frames heard part b c → Appends h d (head_octets DOWNLINK_MAGIC)
-      → SendsFront colour 0 m (silence ∷ heard) d e → EndsEarly colour hang a c h e
-  ends_in_uplink part a b c h d e read reads head front = record {
-    frames = frames;
-    heard = heard;
-    count = length (silence ∷ heard);
-    reads = reads_front colour frames heard part a b c read reads;
-    writes = writes_front colour hang frames heard (silence ∷ heard) (replicate 5 silence) h d e reads.hears refl head (subst (λ (l : Memory). SendsFront colour 0 l (silence ∷ heard) d e) fresh front);
-    reach = inl (omega arith);
-  }
+  -- while the uplink lasts, with a front of the frames handed over
+  pub ends_in_uplink : (part : List ℕ) (given rest : List (List (Option (List Bool)))) (a b c h d e : Option (List ℕ)) → silence ∷ heard ≡ given ++ rest → Consumes a b (head_octets UPLINK_MAGIC)
+      → Reads colour frames heard part b c → Appends h d (head_octets DOWNLINK_MAGIC) → SendsFront colour 0 m given d e → EndsEarly colour hang a c h e
+  ends_in_uplink part given rest a b c h d e split read reads head front =
+      let whole : handed heard ≡ given ++ (rest ++ replicate 5 silence) = ap (λ l. l ++ replicate 5 silence) split ∙ append_assoc given rest (replicate 5 silence) in
+      let counts = ap length split in
+      let long = length-append given rest in
+      record {
+        frames = frames;
+        heard = heard;
+        count = length given;
+        reads = reads_front colour frames heard part a b c read reads;
+        writes = writes_front colour hang frames heard given (rest ++ replicate 5 silence) h d e reads.hears whole head (subst (λ (l : Memory). SendsFront colour 0 l given d e) fresh front);
+        reach = inl (omega arith);
+      }
 
   -- past its end
   pub ends_past_uplink : (count : ℕ) (a b c h d e : Option (List ℕ)) → count ≤ 5 → Consumes a b (head_octets UPLINK_MAGIC) → Reads colour frames heard [] b c → IsAtEnd c → Appends h d (head_octets DOWNLINK_MAGIC)
@@ -272,9 +282,7 @@ module _ (colour hang : ℕ) (m : Memory) (fresh : m ≡ start hang) (frames : L
   ends_past_uplink count a b c h d e few read reads end head front =
       let xs : List (List (Option (List Bool))) = (silence ∷ heard) ++ replicate count silence in
       let ys : List (List (Option (List Bool))) = replicate (5 - count) silence in
-      let five : count + (5 - count) ≡ 5 = omega arith in
-      let split : handed heard ≡ xs ++ ys =
-      ap (λ l. silence ∷ l) (ap (λ l. heard ++ l) (ap (λ n. replicate n silence) (sym five) ∙ sym (replicate-append-replicate count (5 - count) silence)) ∙ sym (append_assoc heard (replicate count silence) ys)) in
+      let split : handed heard ≡ xs ++ ys = handed_split heard count few in
       record {
         frames = frames;
         heard = heard;

@@ -5,4 +5,5 @@ pub mod Line
 pub mod Pairs
 pub mod Push
 pub mod Runs
+pub mod Schedule
 pub mod Sent

@@ -1,10 +1,15 @@
 -- Runs from file to file.
-use Rattle.std.specs.Prelude.{◌≡◌, ℕ, ◌+◌, ◌*◌, ◌≤◌, List, [], ◌++◌, ◌⊎◌, Option, Some, Bool, true, false, length, take, count_by}
+use Rattle.std.specs.Prelude.{◌≡◌, ℕ, ◌+◌, ◌*◌, ◌<◌, ◌≤◌, List, [], ◌∷◌, ◌++◌, ◌⊎◌, Option, Some, Bool, true, false, length, take, replicate, count_by}
 use Rattle.std.specs.List.{AllByRecursion}
 use Rattle.std.specs.Io.KnownBytes.{Consumes, Appends, IsAtEnd}
+use Rattle.dmr_record.specs.declared.fault.RecordFault.{RecordFault}
 use Rattle.dmr_record.specs.declared.fault.RecordFault.TheVariants.{Write}
+use Rattle.dmr_record.specs.declared.head.TheConstants.{UPLINK_MAGIC, OUTGOING_MAGIC}
+use Rattle.dmr_record.specs.declared.outgoing.TheConstants.{RECORD_LIMIT}
 use Rattle.dmr_record.specs.Downlink.{downlink_octets, downlink_file}
 use Rattle.dmr_record.specs.Faults.{is_device_fault}
+use Rattle.dmr_record.specs.Head.{head_octets, ShowsHeadFault}
+use Rattle.dmr_record.specs.Outgoing.{Sending, IsSending, AreInOrder, outgoing_file, ShowsOutgoingFault}
 use Rattle.dmr_record.specs.Uplink.{IsFrame, frames_octets, uplink_file}
 use Rattle.dmr_repeater.specs.declared.fault.Stream.TheVariants.{Uplink, Outgoing, Downlink, Received}
 use Rattle.dmr_repeater.specs.declared.fault.RunFault.{RunFault}
@@ -13,8 +18,9 @@ use Rattle.dmr_repeater.specs.declared.line.LineSlot.{LineSlot}
 use Rattle.dmr_repeater.specs.declared.line.LineSlot.TheVariants.{Repeated, Idle, Silent}
 use Rattle.dmr_repeater.specs.Clean.{IsCleanSlot}
 use Rattle.dmr_repeater.specs.Damage.{AreHeardAs, AreRecordedAs}
-use Rattle.dmr_repeater.specs.Line.{line_of, slots_of}
+use Rattle.dmr_repeater.specs.Line.{line_of, slots_of, silence}
 use Rattle.dmr_repeater.specs.Push as push
+use Rattle.dmr_repeater.specs.Schedule.{Progress, StopsIn, last_frame}
 use Rattle.dmr_repeater.specs.Sent.{AreSentAs}
 
 abbrev pub is_repeated : LineSlot → Bool
@@ -63,6 +69,26 @@ pub record Reads (colour : ℕ) (frames : List (List (Option (List ℕ)))) (hear
   pub hears : AreHeardAs colour frames heard
   pub read : Consumes left_old left_new (frames_octets frames ++ part)
 
+-- A fault of the outgoing file is found while the uplink lasts: in the frame that comes once this many frames are read and as many
+-- are written.
+pub record StopsWithUplink (colour : ℕ) (memory : push.Memory) (fault : RecordFault) (before : Progress) (left_old left_new held_old held_new outgoing_old outgoing_new : Option (List ℕ)) : Type 0 where
+  pub frames : List (List (Option (List ℕ)))
+  pub heard : List (List (Option (List Bool)))
+  pub reads : Reads colour frames heard [] left_old left_new
+  pub handed : List (List (Option (List Bool)))
+  pub rest : List (List (Option (List Bool)))
+  pub split : silence ∷ heard ≡ handed ++ rest
+  pub step : length handed ≡ length frames
+  pub sends : Sends colour 0 memory handed held_old held_new
+  pub stops : StopsIn (length frames) fault before outgoing_old outgoing_new
+
+-- It is found past the end of the uplink, once so many silent frames are written.
+pub record StopsPastUplink (colour before_frames : ℕ) (memory : push.Memory) (fault : RecordFault) (before : Progress) (held_old held_new outgoing_old outgoing_new : Option (List ℕ)) : Type 0 where
+  pub count : ℕ
+  pub few : count < 5
+  pub sends : Sends colour (2 * before_frames) memory (replicate count silence) held_old held_new
+  pub stops : StopsIn (before_frames + count) fault before outgoing_old outgoing_new
+
 -- ---- from head to end
 -- The whole file of what the line sends was written.
 pub record WritesFile (colour hang : ℕ) (heard : List (List (Option (List Bool)))) (held_old held_new : Option (List ℕ)) : Type 0 where
@@ -80,6 +106,13 @@ pub record WritesFront (colour hang : ℕ) (heard : List (List (Option (List Boo
   pub is_front : IsFront front (downlink_file sent)
   pub written : Appends held_old held_new front
 
+-- The file of the first so many frames of it was written.
+pub record WritesFirst (colour hang : ℕ) (heard : List (List (Option (List Bool)))) (count : ℕ) (held_old held_new : Option (List ℕ)) : Type 0 where
+  pub sent : List (Option (List ℕ × List ℕ))
+  pub slots : AreSentAs colour 0 (slots_of (take count (line_of hang heard))) sent
+  pub clean : AllByRecursion (IsCleanSlot colour) sent
+  pub written : Appends held_old held_new (downlink_file sent)
+
 -- The whole uplink file of these frames was read.
 pub record ReadsFile (colour : ℕ) (frames : List (List (Option (List ℕ)))) (heard : List (List (Option (List Bool)))) (left_old left_new : Option (List ℕ)) : Type 0 where
   pub each : AllByRecursion IsFrame frames
@@ -92,6 +125,44 @@ pub record ReadsFront (colour : ℕ) (frames : List (List (Option (List ℕ)))) 
   pub each : AllByRecursion IsFrame frames
   pub hears : AreHeardAs colour frames heard
   pub read : (frames ≡ []) ⊎ ((part : List ℕ) × Consumes left_old left_new (uplink_file frames ++ part))
+
+-- The head of the outgoing file and these records were read, no more than may be and in the order of their frames, and a part of
+-- what follows them.
+pub record ReadsRecords (sendings : List Sending) (part : List ℕ) (left_old left_new : Option (List ℕ)) : Type 0 where
+  pub each : AllByRecursion IsSending sendings
+  pub order : AreInOrder 0 sendings
+  pub few : length sendings ≤ RECORD_LIMIT
+  pub read : Consumes left_old left_new (outgoing_file sendings ++ part)
+
+-- Nothing of the outgoing file was read, or its head and whole records.
+abbrev pub ReadsWholeRecords : Option (List ℕ) → Option (List ℕ) → Type 0
+ReadsWholeRecords left_old left_new = Consumes left_old left_new [] ⊎ ((sendings : List Sending) × ReadsRecords sendings [] left_old left_new)
+
+-- A fault of the outgoing file is found in its head: octets show it, once the head of the uplink is read, and nothing is written.
+pub record FindsHeadFault (fault : RecordFault) (left_old left_new held_old held_new outgoing_old outgoing_new : Option (List ℕ)) : Type 0 where
+  pub uplink : Consumes left_old left_new (head_octets UPLINK_MAGIC)
+  pub taken : List ℕ
+  pub read : Consumes outgoing_old outgoing_new taken
+  pub shown : ShowsHeadFault OUTGOING_MAGIC fault taken
+  pub unwritten : held_new ≡ held_old
+
+-- A fault of the outgoing file behind its head is found in a frame of the downlink: the frames before it are written, and the
+-- uplink is read up to it, the frame before it last, or to its end. The records before the fault are due in that frame; past the
+-- last frame of the downlink they may be of any frame.
+pub record FindsFault (colour hang : ℕ) (fault : RecordFault) (left_old left_new held_old held_new outgoing_old outgoing_new : Option (List ℕ)) : Type 0 where
+  pub frames : List (List (Option (List ℕ)))
+  pub heard : List (List (Option (List Bool)))
+  pub each : AllByRecursion IsFrame frames
+  pub hears : AreHeardAs colour frames heard
+  pub uplink : Consumes left_old left_new (uplink_file frames)
+  pub frame : ℕ
+  pub step : (frame ≡ length frames) ⊎ (IsAtEnd left_new × (length frames < frame) × (frame ≤ length frames + 6))
+  pub writes : WritesFirst colour hang heard frame held_old held_new
+  pub sendings : List Sending
+  pub part : List ℕ
+  pub reads : ReadsRecords sendings part outgoing_old outgoing_new
+  pub due : frame < length frames + 6 → AllByRecursion (λ s. s.frame ≤ frame) sendings
+  pub shown : ShowsOutgoingFault RECORD_LIMIT (length sendings) (last_frame 0 sendings) fault part
 
 -- A run that ended early had read these frames and written a front of what the line sends of them, as far as it is decided
 -- while the uplink lasts, or further where that was read to its end.
@@ -110,7 +181,19 @@ pub record HasRecording (colour : ℕ) (meant : List (List (Option (List Bool)))
   pub recorded : AreRecordedAs colour meant frames
   pub has : left ≡ Some (uplink_file frames)
 
+-- A source that tells its octets has the file of these records, no more than may be and in the order of their frames.
+pub record HasOutgoing (sendings : List Sending) (left : Option (List ℕ)) : Type 0 where
+  pub each : AllByRecursion IsSending sendings
+  pub order : AreInOrder 0 sendings
+  pub few : length sendings ≤ RECORD_LIMIT
+  pub has : left ≡ Some (outgoing_file sendings)
+
 -- ---- which device a fault blames
+-- one thing of a fault of the outgoing file, and another of any other
+abbrev pub IfOutgoing : RunFault → (RecordFault → Type 0) → Type 0 → Type 0
+IfOutgoing (File Outgoing fault) Found others = Found fault
+IfOutgoing e Found others = others
+
 abbrev pub is_uplink_failure : RunFault → Bool
 is_uplink_failure (File Uplink e) = is_device_fault e
 is_uplink_failure e = false

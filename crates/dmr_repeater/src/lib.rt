@@ -13,6 +13,7 @@ pub mod laws;
 mod line;
 mod repeater;
 mod running;
+mod schedule;
 mod sending;
 mod summary;
 

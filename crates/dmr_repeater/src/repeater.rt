@@ -90,12 +90,13 @@ impl Repeater {
         write_frame(downlink, frame)
     }
 
-    /// What was done so far.
-    pub fn summary(&self) -> Summary
+    /// What was done so far, where so many records of the outgoing file were read and none is offered.
+    pub fn summary(&self, unoffered: u32) -> Summary
         ensures frames { result.frames ≡ self.now.frames }
         ensures repeated { result.repeated ≡ self.now.repeated }
         ensures others { (result.received ≡ 0) × (result.delivered ≡ 0) × (result.sent ≡ 0) × (result.given_up ≡ 0)
-            × (result.refused ≡ 0) × (result.unoffered ≡ 0) }
+            × (result.refused ≡ 0) }
+        ensures unoffered { result.unoffered ≡ unoffered }
     {
         Summary {
             frames: self.frames,
@@ -105,7 +106,7 @@ impl Repeater {
             sent: 0,
             given_up: 0,
             refused: 0,
-            unoffered: 0,
+            unoffered,
         }
     }
 }

@@ -1,19 +1,20 @@
 //! A run from file to file.
-ghost use Rattle.std.specs.Prelude.{◌≡◌, ◌+◌, ◌*◌, ◌^◌, ◌<◌, ◌≤◌, ◌++◌, ◌∷◌, [], ℕ, Bool, List, Option, Some, false, true, length, replicate, ◌⊎◌, IfOk, IfErr, OnOk, OnErr};
+ghost use Rattle.std.specs.Prelude.{⊤, ◌≡◌, ◌+◌, ◌*◌, ◌^◌, ◌<◌, ◌≤◌, ◌++◌, ◌∷◌, [], ℕ, Bool, List, Option, Some, false, true, length, replicate, ◌⊎◌, IfOk, IfErr, OnOk, OnErr};
 ghost use Rattle.std.specs.List.{AllByRecursion};
 ghost use Rattle.std.specs.Io.KnownBytes.{Appends, Consumes, IsAtEnd};
-ghost use Rattle.dmr_record.specs.Devices.{Tears};
-ghost use Rattle.dmr_record.specs.Head.{head_octets};
+ghost use Rattle.dmr_record.specs.Head.{head_octets, ShowsHeadFault};
+ghost use Rattle.dmr_record.specs.Outgoing.{Sending, outgoing_file};
 ghost use Rattle.dmr_record.specs.Uplink.{IsFrame, frames_octets, uplink_file};
 ghost use Rattle.dmr_repeater.specs.Line.{line_of, slots_of, silence};
-ghost use Rattle.dmr_record.specs.Faults.{is_device_fault};
 ghost use Rattle.dmr_repeater.specs.Push.{start};
-ghost use Rattle.dmr_repeater.specs.Runs.{EndsEarly, FrontOf, HasRecording, IsAfter, Reads, ReadsFile, ReadsFront, Sends, SendsFront, WritesFile, WritesFront, is_downlink_failure, is_failure, is_outgoing_failure, is_received_failure, is_uplink_failure, repeated_count};
+ghost use Rattle.dmr_repeater.specs.Schedule.{GivesDue, HasRecords};
+ghost use Rattle.dmr_repeater.specs.Runs.{EndsEarly, FindsFault, FindsHeadFault, FrontOf, HasOutgoing, HasRecording, IfOutgoing, IsAfter, Reads, ReadsFile, ReadsFront, ReadsRecords, ReadsWholeRecords, Sends, SendsFront, StopsPastUplink, StopsWithUplink, WritesFile, WritesFront, is_downlink_failure, is_failure, is_outgoing_failure, is_received_failure, is_uplink_failure, repeated_count};
 
 use crate::fault::{RunFault, Stream};
 use crate::hearing::hear_frame;
 use crate::line::Line;
 use crate::repeater::{Repeater, SILENCE};
+use crate::schedule::Schedule;
 use crate::summary::Summary;
 use dmr_gateway::Config;
 use dmr_record::{
@@ -22,15 +23,20 @@ use dmr_record::{
 };
 use std::alloc::Global;
 
-/// Repeats the frames of the uplink behind its head, as far as they are decided while it lasts.
-fn repeat_uplink<U: Source, D: Sink>(
+/// Repeats the frames of the uplink behind its head, as far as they are decided while it lasts. In each frame of the downlink the
+/// uplink is read first, then the records that are due, and then the frame is written.
+fn repeat_uplink<U: Source, O: Source, D: Sink>(
     repeater: &mut Repeater,
+    schedule: &mut Schedule,
     uplink: &mut U,
+    outgoing: &mut O,
     downlink: &mut D,
 ) -> Result<(), RunFault>
     requires uplink { U.has_failed uplink.old ≡ false }
+    requires outgoing { O.has_failed outgoing.old ≡ false }
     requires downlink { D.has_failed downlink.old ≡ false }
     requires fresh { (repeater.old.frames ≡ 0) × (repeater.old.repeated ≡ 0) }
+    requires met { schedule.old.at_end ≡ true → IsAtEnd (O.left outgoing.old) }
     ensures colour { repeater.new.colour ≡ repeater.old.colour }
     ensures all { OnOk result ((frames : List (List (Option (List ℕ)))) × (heard : List (List (Option (List Bool))))
         × Reads repeater.old.colour frames heard [] (U.left uplink.old) (U.left uplink.new)
@@ -38,27 +44,36 @@ fn repeat_uplink<U: Source, D: Sink>(
         × IsAfter repeater.old.line 0 0 (silence ∷ heard) repeater.new.line repeater.new.frames repeater.new.repeated) }
     ensures end { OnOk result (IsAtEnd (U.left uplink.new)) }
     ensures few { OnOk result ((repeater.new.frames ≤ FRAME_LIMIT + 1) × (repeater.new.repeated ≤ 2 * repeater.new.frames)) }
+    ensures given { OnOk result (GivesDue repeater.new.frames schedule.old schedule.new (O.left outgoing.old) (O.left outgoing.new)) }
+    ensures met { OnOk result (schedule.new.at_end ≡ true → IsAtEnd (O.left outgoing.new)) }
     ensures part { OnErr result ((frames : List (List (Option (List ℕ)))) × (heard : List (List (Option (List Bool)))) × (part : List ℕ)
+        × (handed : List (List (Option (List Bool)))) × (rest : List (List (Option (List Bool)))) × (silence ∷ heard ≡ handed ++ rest)
         × Reads repeater.old.colour frames heard part (U.left uplink.old) (U.left uplink.new)
-        × SendsFront repeater.old.colour 0 repeater.old.line (silence ∷ heard) (D.held downlink.old) (D.held downlink.new)) }
-    ensures well { OnOk result ((U.has_failed uplink.new ≡ false) × (D.has_failed downlink.new ≡ false)) }
-    ensures device { IfErr result (λ e. (U.has_failed uplink.new ≡ is_uplink_failure e) × (D.has_failed downlink.new ≡ is_downlink_failure e)) }
-    ensures others { IfErr result (λ e. (is_outgoing_failure e ≡ false) × (is_received_failure e ≡ false)) }
+        × SendsFront repeater.old.colour 0 repeater.old.line handed (D.held downlink.old) (D.held downlink.new)) }
+    ensures stopped { IfErr result (λ e. IfOutgoing e (λ fault. StopsWithUplink repeater.old.colour repeater.old.line fault schedule.old
+        (U.left uplink.old) (U.left uplink.new) (D.held downlink.old) (D.held downlink.new) (O.left outgoing.old) (O.left outgoing.new))
+        ((frame : ℕ) × GivesDue frame schedule.old schedule.new (O.left outgoing.old) (O.left outgoing.new))) }
+    ensures well { OnOk result ((U.has_failed uplink.new ≡ false) × (O.has_failed outgoing.new ≡ false) × (D.has_failed downlink.new ≡ false)) }
+    ensures device { IfErr result (λ e. (U.has_failed uplink.new ≡ is_uplink_failure e) × (O.has_failed outgoing.new ≡ is_outgoing_failure e)
+        × (D.has_failed downlink.new ≡ is_downlink_failure e)) }
+    ensures others { IfErr result (λ e. is_received_failure e ≡ false) }
     ensures honest { IfErr result (λ e. (frames : List (List (Option (List ℕ)))) → AllByRecursion IsFrame frames → length frames ≤ FRAME_LIMIT
-        → U.left uplink.old ≡ Some (frames_octets frames) → is_failure e ≡ true) }
+        → U.left uplink.old ≡ Some (frames_octets frames) → (sendings : List Sending) → HasRecords schedule.old sendings (O.left outgoing.old)
+        → is_failure e ≡ true) }
 {
-    if let Err(fault) = repeater.send(downlink, SILENCE) {
-        return Err(RunFault::File(Stream::Downlink, fault));
-    }
+    let mut heard = SILENCE;
     let mut before = 0;
     loop {
+        if let Err(fault) = schedule.pass_due(outgoing, repeater.frames) {
+            return Err(RunFault::File(Stream::Outgoing, fault));
+        }
+        if let Err(fault) = repeater.send(downlink, heard) {
+            return Err(RunFault::File(Stream::Downlink, fault));
+        }
         match read_frame(uplink, before) {
             Ok(None) => return Ok(()),
             Ok(Some(frame)) => {
-                let heard = hear_frame(repeater.colour, &frame);
-                if let Err(fault) = repeater.send(downlink, heard) {
-                    return Err(RunFault::File(Stream::Downlink, fault));
-                }
+                heard = hear_frame(repeater.colour, &frame);
                 before += 1;
             }
             Err(fault) => return Err(RunFault::File(Stream::Uplink, fault)),
@@ -66,28 +81,44 @@ fn repeat_uplink<U: Source, D: Sink>(
     }
 }
 
-/// Sends what is left to decide once the uplink is silent.
-fn send_rest<D: Sink>(repeater: &mut Repeater, downlink: &mut D) -> Result<(), RecordFault>
-    requires well { D.has_failed downlink.old ≡ false }
+/// Sends what is left to decide once the uplink is silent, each frame behind the records that are due in it.
+fn send_rest<O: Source, D: Sink>(
+    repeater: &mut Repeater,
+    schedule: &mut Schedule,
+    outgoing: &mut O,
+    downlink: &mut D,
+) -> Result<(), RunFault>
+    requires outgoing { O.has_failed outgoing.old ≡ false }
+    requires downlink { D.has_failed downlink.old ≡ false }
     requires frames { repeater.old.frames < 2 ^ 29 }
     requires repeated { repeater.old.repeated ≤ 2 * repeater.old.frames }
+    requires met { schedule.old.at_end ≡ true → IsAtEnd (O.left outgoing.old) }
     ensures sent { OnOk result (Sends repeater.old.colour (2 * repeater.old.frames) repeater.old.line (replicate 5 silence) (D.held downlink.old) (D.held downlink.new)) }
     ensures after { OnOk result (IsAfter repeater.old.line repeater.old.frames repeater.old.repeated (replicate 5 silence) repeater.new.line repeater.new.frames repeater.new.repeated) }
+    ensures given { OnOk result (GivesDue (repeater.old.frames + 5) schedule.old schedule.new (O.left outgoing.old) (O.left outgoing.new)) }
+    ensures met { OnOk result (schedule.new.at_end ≡ true → IsAtEnd (O.left outgoing.new)) }
     ensures torn { OnErr result ((count : ℕ) × (count ≤ 5)
         × SendsFront repeater.old.colour (2 * repeater.old.frames) repeater.old.line (replicate count silence) (D.held downlink.old) (D.held downlink.new)) }
-    ensures well { OnOk result (D.has_failed downlink.new ≡ false) }
-    ensures fault { IfErr result (λ e. e ≡ RecordFault.Write) }
-    ensures failed { OnErr result (D.has_failed downlink.new ≡ true) }
+    ensures stopped { IfErr result (λ e. IfOutgoing e (λ fault. StopsPastUplink repeater.old.colour repeater.old.frames repeater.old.line fault schedule.old
+        (D.held downlink.old) (D.held downlink.new) (O.left outgoing.old) (O.left outgoing.new))
+        ((frame : ℕ) × GivesDue frame schedule.old schedule.new (O.left outgoing.old) (O.left outgoing.new))) }
+    ensures well { OnOk result ((O.has_failed outgoing.new ≡ false) × (D.has_failed downlink.new ≡ false)) }
+    ensures device { IfErr result (λ e. (O.has_failed outgoing.new ≡ is_outgoing_failure e) × (D.has_failed downlink.new ≡ is_downlink_failure e)) }
+    ensures others { IfErr result (λ e. (is_uplink_failure e ≡ false) × (is_received_failure e ≡ false)) }
+    ensures honest { IfErr result (λ e. (sendings : List Sending) → HasRecords schedule.old sendings (O.left outgoing.old) → is_failure e ≡ true) }
 {
     for _past in 0..5u8 {
+        if let Err(fault) = schedule.pass_due(outgoing, repeater.frames) {
+            return Err(RunFault::File(Stream::Outgoing, fault));
+        }
         if let Err(fault) = repeater.send(downlink, SILENCE) {
-            return Err(fault);
+            return Err(RunFault::File(Stream::Downlink, fault));
         }
     }
     Ok(())
 }
 
-/// Reads the heads of both inputs, and tests that the outgoing file holds nothing behind its own.
+/// Reads the heads of both inputs.
 fn read_heads<U: Source, O: Source>(uplink: &mut U, outgoing: &mut O) -> Result<(), RunFault>
     requires uplink { U.has_failed uplink.old ≡ false }
     requires outgoing { O.has_failed outgoing.old ≡ false }
@@ -96,8 +127,11 @@ fn read_heads<U: Source, O: Source>(uplink: &mut U, outgoing: &mut O) -> Result<
     ensures well { OnOk result ((U.has_failed uplink.new ≡ false) × (O.has_failed outgoing.new ≡ false)) }
     ensures device { IfErr result (λ e. (U.has_failed uplink.new ≡ is_uplink_failure e) × (O.has_failed outgoing.new ≡ is_outgoing_failure e)) }
     ensures others { IfErr result (λ e. (is_downlink_failure e ≡ false) × (is_received_failure e ≡ false)) }
+    ensures stopped { IfErr result (λ e. IfOutgoing e (λ fault. (taken : List ℕ) × Consumes (U.left uplink.old) (U.left uplink.new) (head_octets UPLINK_MAGIC)
+        × Consumes (O.left outgoing.old) (O.left outgoing.new) taken × ShowsHeadFault OUTGOING_MAGIC fault taken)
+        (Consumes (O.left outgoing.old) (O.left outgoing.new) [])) }
     ensures honest { IfErr result (λ e. (frames : List (List (Option (List ℕ)))) → U.left uplink.old ≡ Some (uplink_file frames)
-        → O.left outgoing.old ≡ Some (head_octets OUTGOING_MAGIC) → is_failure e ≡ true) }
+        → (sendings : List Sending) → O.left outgoing.old ≡ Some (outgoing_file sendings) → is_failure e ≡ true) }
 {
     if let Err(fault) = read_head(uplink, UPLINK_MAGIC) {
         return Err(RunFault::File(Stream::Uplink, fault));
@@ -119,6 +153,7 @@ fn write_heads<D: Sink, R: Sink>(downlink: &mut D, received: &mut R) -> Result<(
     ensures part { OnErr result (FrontOf (R.held received.old) (R.held received.new) (head_octets RECEIVED_MAGIC)) }
     ensures device { IfErr result (λ e. (D.has_failed downlink.new ≡ is_downlink_failure e) × (R.has_failed received.new ≡ is_received_failure e)) }
     ensures others { IfErr result (λ e. (is_uplink_failure e ≡ false) × (is_outgoing_failure e ≡ false)) }
+    ensures elsewhere { IfErr result (λ e. IfOutgoing e (λ _. ⊥) ⊤) }
     ensures honest { IfErr result (λ e. is_failure e ≡ true) }
 {
     if let Err(fault) = write_head(downlink, DOWNLINK_MAGIC) {
@@ -130,32 +165,14 @@ fn write_heads<D: Sink, R: Sink>(downlink: &mut D, received: &mut R) -> Result<(
     Ok(())
 }
 
-/// Tests that a source is at its end. Records of the outgoing file are not read yet: an octet behind its head is a bad tag.
-fn expect_end<O: Source>(outgoing: &mut O) -> Result<(), RecordFault>
-    requires well { O.has_failed outgoing.old ≡ false }
-    ensures end { OnOk result (Consumes (O.left outgoing.old) (O.left outgoing.new) [] × IsAtEnd (O.left outgoing.new)) }
-    ensures well { OnOk result (O.has_failed outgoing.new ≡ false) }
-    ensures tag { IfErr result (λ e. e ≡ RecordFault.BadTag → (octet : ℕ) × Consumes (O.left outgoing.old) (O.left outgoing.new) (octet ∷ [])) }
-    ensures fault { IfErr result (λ e. (e ≡ RecordFault.BadTag) ⊎ (e ≡ RecordFault.Read)) }
-    ensures device { IfErr result (λ e. O.has_failed outgoing.new ≡ is_device_fault e) }
-    ensures honest { IfErr result (λ e. O.left outgoing.old ≡ Some [] → is_device_fault e ≡ true) }
-{
-    let mut octet = [0];
-    match outgoing.read(&mut octet) {
-        Ok(0) => Ok(()),
-        Ok(_) => Err(RecordFault::BadTag),
-        Err(_) => Err(RecordFault::Read),
-    }
-}
-
-/// Goes from the heads of the files to their ends.
+/// Goes from the heads of the files to their ends, and answers how many records the outgoing file has.
 fn run_files<U: Source, O: Source, D: Sink, R: Sink>(
     repeater: &mut Repeater,
     uplink: &mut U,
     outgoing: &mut O,
     downlink: &mut D,
     received: &mut R,
-) -> Result<(), RunFault>
+) -> Result<u32, RunFault>
     requires uplink { U.has_failed uplink.old ≡ false }
     requires outgoing { O.has_failed outgoing.old ≡ false }
     requires downlink { D.has_failed downlink.old ≡ false }
@@ -167,14 +184,20 @@ fn run_files<U: Source, O: Source, D: Sink, R: Sink>(
         × WritesFile repeater.old.colour repeater.old.line.hang heard (D.held downlink.old) (D.held downlink.new)
         × (repeater.new.frames ≡ length frames + 6)
         × (repeater.new.repeated ≡ repeated_count (slots_of (line_of repeater.old.line.hang heard)))) }
-    ensures outgoing { OnOk result (Consumes (O.left outgoing.old) (O.left outgoing.new) (head_octets OUTGOING_MAGIC) × IsAtEnd (O.left outgoing.new)) }
+    ensures outgoing { IfOk result (λ count. (sendings : List Sending) × ReadsRecords sendings [] (O.left outgoing.old) (O.left outgoing.new)
+        × IsAtEnd (O.left outgoing.new) × (count ≡ length sendings)) }
+    ensures stopped { IfErr result (λ e. IfOutgoing e
+        (λ fault. FindsHeadFault fault (U.left uplink.old) (U.left uplink.new) (D.held downlink.old) (D.held downlink.new) (O.left outgoing.old) (O.left outgoing.new)
+        ⊎ FindsFault repeater.old.colour repeater.old.line.hang fault (U.left uplink.old) (U.left uplink.new)
+        (D.held downlink.old) (D.held downlink.new) (O.left outgoing.old) (O.left outgoing.new))
+        (ReadsWholeRecords (O.left outgoing.old) (O.left outgoing.new))) }
     ensures received { OnOk result (Appends (R.held received.old) (R.held received.new) (head_octets RECEIVED_MAGIC)) }
     ensures part { OnErr result (EndsEarly repeater.old.colour repeater.old.line.hang (U.left uplink.old) (U.left uplink.new) (D.held downlink.old) (D.held downlink.new)) }
     ensures torn { OnErr result (FrontOf (R.held received.old) (R.held received.new) (head_octets RECEIVED_MAGIC)) }
     ensures device { IfErr result (λ e. (U.has_failed uplink.new ≡ is_uplink_failure e) × (O.has_failed outgoing.new ≡ is_outgoing_failure e)
         × (D.has_failed downlink.new ≡ is_downlink_failure e) × (R.has_failed received.new ≡ is_received_failure e)) }
     ensures honest { IfErr result (λ e. (frames : List (List (Option (List ℕ)))) → AllByRecursion IsFrame frames → length frames ≤ FRAME_LIMIT
-        → U.left uplink.old ≡ Some (uplink_file frames) → O.left outgoing.old ≡ Some (head_octets OUTGOING_MAGIC) → is_failure e ≡ true) }
+        → U.left uplink.old ≡ Some (uplink_file frames) → (sendings : List Sending) → HasOutgoing sendings (O.left outgoing.old) → is_failure e ≡ true) }
 {
     if let Err(fault) = read_heads(uplink, outgoing) {
         return Err(fault);
@@ -182,22 +205,24 @@ fn run_files<U: Source, O: Source, D: Sink, R: Sink>(
     if let Err(fault) = write_heads(downlink, received) {
         return Err(fault);
     }
-    if let Err(fault) = expect_end(outgoing) {
-        return Err(RunFault::File(Stream::Outgoing, fault));
-    }
-    if let Err(fault) = repeat_uplink(repeater, uplink, downlink) {
+    let mut schedule = Schedule::new();
+    if let Err(fault) = repeat_uplink(repeater, &mut schedule, uplink, outgoing, downlink) {
         return Err(fault);
     }
-    if let Err(fault) = send_rest(repeater, downlink) {
-        return Err(RunFault::File(Stream::Downlink, fault));
+    if let Err(fault) = send_rest(repeater, &mut schedule, outgoing, downlink) {
+        return Err(fault);
     }
-    Ok(())
+    if let Err(fault) = schedule.rest(outgoing) {
+        return Err(RunFault::File(Stream::Outgoing, fault));
+    }
+    Ok(schedule.records())
 }
 
 /// Repeats a recording of the uplink on the downlink, frame by frame: a control signalling block of the colour code goes out
-/// six frames after it came, and the repeater stays on the air for the channel hang after it. It keeps no list that grows, and
-/// takes memory once, before it reads or writes anything. An `Err` says which file it could not read or write; what was
-/// written before stays.
+/// six frames after it came, and the repeater stays on the air for the channel hang after it. Frame f goes out once uplink frame
+/// f-1 is read, and then the records of the outgoing file up to frame f, with one read ahead; the rest of them is read behind the
+/// last frame. No record is offered yet. It keeps no list that grows, and takes memory once, before it reads or writes anything.
+/// An `Err` says which file it could not read or write; what was written before stays.
 pub fn run<U: Source, O: Source, D: Sink, R: Sink>(
     alloc: Global,
     config: Config,
@@ -230,20 +255,32 @@ pub fn run<U: Source, O: Source, D: Sink, R: Sink>(
         × (summary.repeated ≡ repeated_count (slots_of (line_of config.channel_hang heard)))) }
     ensures part { OnErr result (EndsEarly config.colour config.channel_hang (U.left uplink.old) (U.left uplink.new) (D.held downlink.old) (D.held downlink.new)) }
 
-    // The outgoing file is its head, and so is the received one.
-    ensures outgoing { OnOk result (Consumes (O.left outgoing.old) (O.left outgoing.new) (head_octets OUTGOING_MAGIC) × IsAtEnd (O.left outgoing.new)) }
+    // All of the outgoing file is read, the file of some records, and none of them is offered.
+    ensures outgoing { IfOk result (λ summary. (sendings : List Sending) × ReadsRecords sendings [] (O.left outgoing.old) (O.left outgoing.new)
+        × IsAtEnd (O.left outgoing.new) × (summary.unoffered ≡ length sendings)) }
+
+    // A fault of the outgoing file is found in its head or in a frame, before that is written; where the run ends early for another
+    // reason, whole records were read.
+    ensures stopped { IfErr result (λ e. IfOutgoing e
+        (λ fault. FindsHeadFault fault (U.left uplink.old) (U.left uplink.new) (D.held downlink.old) (D.held downlink.new) (O.left outgoing.old) (O.left outgoing.new)
+        ⊎ FindsFault config.colour config.channel_hang fault (U.left uplink.old) (U.left uplink.new)
+        (D.held downlink.old) (D.held downlink.new) (O.left outgoing.old) (O.left outgoing.new))
+        (ReadsWholeRecords (O.left outgoing.old) (O.left outgoing.new))) }
+
+    // The received file is its head.
     ensures received { OnOk result (Appends (R.held received.old) (R.held received.new) (head_octets RECEIVED_MAGIC)) }
     ensures torn { OnErr result (FrontOf (R.held received.old) (R.held received.new) (head_octets RECEIVED_MAGIC)) }
     ensures idle { IfOk result (λ summary. (summary.received ≡ 0) × (summary.delivered ≡ 0) × (summary.sent ≡ 0) × (summary.given_up ≡ 0)
-        × (summary.refused ≡ 0) × (summary.unoffered ≡ 0)) }
+        × (summary.refused ≡ 0)) }
 
     // A device is blamed exactly where it failed.
     ensures device { IfErr result (λ e. (U.has_failed uplink.new ≡ is_uplink_failure e) × (O.has_failed outgoing.new ≡ is_outgoing_failure e)
         × (D.has_failed downlink.new ≡ is_downlink_failure e) × (R.has_failed received.new ≡ is_received_failure e)) }
 
-    // Of the file of any frames, no more than may be, nothing is answered but that a device failed or that room was refused.
+    // Of the files of any frames and records, no more than may be, nothing is answered but that a device failed or that room was
+    // refused.
     ensures honest { IfErr result (λ e. (frames : List (List (Option (List ℕ)))) → AllByRecursion IsFrame frames → length frames ≤ FRAME_LIMIT
-        → U.left uplink.old ≡ Some (uplink_file frames) → O.left outgoing.old ≡ Some (head_octets OUTGOING_MAGIC) → is_failure e ≡ true) }
+        → U.left uplink.old ≡ Some (uplink_file frames) → (sendings : List Sending) → HasOutgoing sendings (O.left outgoing.old) → is_failure e ≡ true) }
 {
     let Ok(line) = Line::new(alloc, config.channel_hang) else {
         return Err(RunFault::Memory);
@@ -254,8 +291,8 @@ pub fn run<U: Source, O: Source, D: Sink, R: Sink>(
         frames: 0,
         repeated: 0,
     };
-    if let Err(fault) = run_files(&mut repeater, uplink, outgoing, downlink, received) {
-        return Err(fault);
+    match run_files(&mut repeater, uplink, outgoing, downlink, received) {
+        Ok(unoffered) => Ok(repeater.summary(unoffered)),
+        Err(fault) => Err(fault),
     }
-    Ok(repeater.summary())
 }

@@ -1,19 +1,71 @@
-use Rattle.std.proofs.Common.{◌+◌, ◌*◌, ℕ, replicate, refl, ◌∙◌, arith}
+use Rattle.std.proofs.Common.{rules, ◌+◌, ◌*◌, ℕ, replicate, refl, ◌∙◌, subst, arith}
 use Rattle.dmr_repeater.specs.Line.{silence}
-use Rattle.dmr_repeater.proofs.Transcripts.{IsAfter-more, Sends-more, SendsFront-more}
+use Rattle.dmr_repeater.specs.Schedule.{StopsIn}
+use Rattle.dmr_repeater.proofs.Finding.{no_fault_stops}
+use Rattle.dmr_repeater.proofs.Records.{GivesDue-none, GivesDue-later, GivesDue-trans, StopsIn-after}
+use Rattle.dmr_repeater.proofs.Transcripts.{IsAfter-none, IsAfter-more, Sends-none, Sends-more, SendsFront-more, SendsFront-whole}
 use Rattle.std.proofs.lemmas.List.{replicate_more}
 use Rattle.dmr_repeater.proofs.running.send_rest.Goals as goal
 
+pub loop-past-init : goal.loop-past-init
+loop-past-init g c =
+    let old = c.args.repeater.now in
+    record {
+      outgoing = c.requires.outgoing;
+      downlink = c.requires.downlink;
+      met = c.requires.met;
+      colour = refl;
+      frames = omega arith;
+      repeated = c.requires.repeated;
+      given = GivesDue-none (old.frames + 0) c.args.schedule.now _;
+      sent = Sends-none old.colour (2 * old.frames) old.line _;
+      after = IsAfter-none old.line old.frames old.repeated;
+    }
+
 pub returns-in-Err-clause-torn : goal.returns-in-Err-clause-torn
 returns-in-Err-clause-torn g c =
+    let old = c.args.repeater.now in (
+      c.loop-past._past,
+      search rules,
+      SendsFront-whole old.colour (2 * old.frames) old.line (replicate c.loop-past._past silence) _ _ c.loop-past.invariant.sent,
+    )
+
+pub returns-in-Err-clause-stopped : goal.returns-in-Err-clause-stopped
+returns-in-Err-clause-stopped g c =
+    let inv = c.loop-past.invariant in
+    let frame : ℕ = c.args.repeater.now.frames + c.loop-past._past in
+    let stops = subst (λ (n : ℕ). StopsIn n c.in-Err.fault c.loop-past.schedule (g.O.Source.left c.loop-past.outgoing) (g.O.Source.left c.pass_due.new.source)) inv.frames c.in-Err.ensures.fault in
+    record {
+      count = c.loop-past._past;
+      few = search rules;
+      sends = inv.sent;
+      stops = StopsIn-after frame frame c.in-Err.fault _ _ _ _ _ (omega arith) inv.given stops;
+    }
+
+pub returns-in-Err-clause-honest : goal.returns-in-Err-clause-honest
+unfolding returns-in-Err-clause-stopped
+returns-in-Err-clause-honest g c = λ sendings has.
+    let stops = (returns-in-Err-clause-stopped g c).stops in
+    no_fault_stops (c.args.repeater.now.frames + c.loop-past._past) c.in-Err.fault c.args.schedule.now sendings (g.O.Source.left c.args.outgoing.now) (g.O.Source.left c.pass_due.new.source) stops c.in-Err.ensures.cut has
+
+pub returns-in-Err-send-clause-torn : goal.returns-in-Err-send-clause-torn
+returns-in-Err-send-clause-torn g c =
     let past : ℕ = c.loop-past._past in
     let inv = c.loop-past.invariant in
     let old = c.args.repeater.now in
     let front = SendsFront-more old.colour c.loop-past.repeater.colour (2 * old.frames) old.frames c.loop-past.repeater.frames old.repeated c.loop-past.repeater.repeated
-    old.line c.loop-past.repeater.line (replicate past silence) silence _ _ _ inv.sent inv.after refl inv.colour c.in-Err.ensures.torn in (
+    old.line c.loop-past.repeater.line (replicate past silence) silence _ _ _ inv.sent inv.after refl inv.colour c.in-Err-send.ensures.torn in (
       past + 1,
       omega arith,
       rw (replicate_more past silence) at front,
+    )
+
+pub returns-in-Err-send-clause-stopped : goal.returns-in-Err-send-clause-stopped
+returns-in-Err-send-clause-stopped g c =
+    let inv = c.loop-past.invariant in
+    let frames = inv.frames in (
+      c.loop-past.repeater.frames,
+      GivesDue-trans (c.args.repeater.now.frames + c.loop-past._past) c.loop-past.repeater.frames _ _ _ _ _ _ (omega arith) inv.given c.in_default.ensures.gives,
     )
 
 pub loop-past-preserved : goal.loop-past-preserved
@@ -22,18 +74,23 @@ loop-past-preserved g c =
     let inv = c.loop-past.invariant in
     let old = c.args.repeater.now in
     let sent = Sends-more old.colour c.loop-past.repeater.colour (2 * old.frames) old.frames c.loop-past.repeater.frames old.repeated c.loop-past.repeater.repeated
-    old.line c.loop-past.repeater.line (replicate past silence) silence _ _ _ inv.sent inv.after refl inv.colour c.in_default.ensures.sent in
+    old.line c.loop-past.repeater.line (replicate past silence) silence _ _ _ inv.sent inv.after refl inv.colour c.in_default-send.ensures.sent in
     let after = IsAfter-more old.line c.loop-past.repeater.line old.frames old.repeated c.loop-past.repeater.frames c.loop-past.repeater.repeated
     c.send.new.self.frames c.send.new.self.repeated (replicate past silence) silence c.send.new.self.line inv.after
     c.send.ensures.line c.send.ensures.frames c.send.ensures.repeated c.send.ensures.two in
     let colour = c.send.ensures.colour ∙ inv.colour in
     let few = c.send.ensures.few in
     let count = c.send.ensures.frames in
+    let frames = inv.frames in
     record {
-      well = c.in_default.ensures.well;
+      outgoing = search rules;
+      downlink = c.in_default-send.ensures.well;
+      met = c.pass_due.ensures.end;
       colour = colour;
       frames = let n = inv.frames in omega arith;
       repeated = few;
+      given = GivesDue-later c.loop-past.repeater.frames (old.frames + (past + 1)) _ _ _ _ (omega arith)
+          (GivesDue-trans (old.frames + past) c.loop-past.repeater.frames _ _ _ _ _ _ (omega arith) inv.given c.in_default.ensures.gives);
       sent = rw (replicate_more past silence) at sent;
       after = rw (replicate_more past silence) at after;
     }
