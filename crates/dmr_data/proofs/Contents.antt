@@ -12,7 +12,7 @@ use Rattle.dmr_data.specs.Block.{mask_of, IsConfirmedContent, IsContent, IsFit, 
 use Rattle.dmr_data.specs.declared.block.Block.{Block}
 use Rattle.dmr_data.specs.declared.fault.BlockFault.{BlockFault}
 use Rattle.dmr_data.specs.declared.fault.BlockFault.TheVariants as fault
-use Rattle.dmr_data.proofs.Layouts.{same_octets}
+use Rattle.dmr_bits.proofs.Spelled.{same_octets}
 use Rattle.dmr_data.specs.declared.rate.Rate.{Rate}
 use Rattle.dmr_data.specs.declared.rate.Rate.TheVariants.{Half, Full}
 

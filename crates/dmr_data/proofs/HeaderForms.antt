@@ -15,7 +15,7 @@ use Rattle.dmr_checks.specs.declared.sealing.Mask.TheVariants as mask
 use Rattle.dmr_data.specs.Header.{layout, written, Fits, Spells}
 use Rattle.dmr_data.specs.HeaderForms.{IsWrittenForm, IsReadForm, IsRead}
 use Rattle.dmr_data.specs.declared.header.Header.{Header}
-use Rattle.dmr_data.proofs.Layouts.{same_octets}
+use Rattle.dmr_bits.proofs.Spelled.{same_octets}
 use Rattle.dmr_data.proofs.Headers.{written_spells, same_header}
 
 pub same_some : (a b : List Bool) → Some a ≡ Some b → a ≡ b

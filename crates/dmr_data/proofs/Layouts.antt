@@ -1,9 +1,7 @@
 -- Pieces of a header, read from the front of its bits.
 use Rattle.std.proofs.Common.{◌≡◌, ℕ, ◌+◌, ◌*◌, ◌/◌, ◌%◌, ◌<◌, ◌^◌, List, Bool, [], ◌∷◌, ◌++◌, length, take, refl, sym, ap, ◌∙◌, arith}
 use Rattle.std.proofs.lemmas.List.{take_at, drop_at}
-use Rattle.std.specs.List.{All}
-use Rattle.dmr_bits.specs.Bits.{number_of, bits_of, bits_of_octets, octets_of}
-use Rattle.dmr_bits.proofs.Octets.{octets_of-bits_of_octets}
+use Rattle.dmr_bits.specs.Bits.{number_of, bits_of}
 use Rattle.dmr_bits.proofs.Lists.{length-bits_of, number_of-bits_of}
 use Rattle.dmr_data.specs.Header.{field}
 
@@ -32,8 +30,3 @@ low_part high low fits = omega arith
 pub none_left : (bits : List Bool) → length bits ≡ 0 → bits ≡ []
 none_left [] e = refl
 none_left (b ∷ bits) e = absurd (omega arith)
-
--- octets are decided by their bits
-pub same_octets : (xs ys : List ℕ) → All (λ octet. octet < 256) xs → All (λ octet. octet < 256) ys → length xs ≡ length ys → bits_of_octets xs ≡ bits_of_octets ys → xs ≡ ys
-same_octets xs ys p q long e =
-    sym (octets_of-bits_of_octets xs p) ∙ ap (octets_of (length xs)) e ∙ ap (λ n. octets_of n (bits_of_octets ys)) long ∙ octets_of-bits_of_octets ys q

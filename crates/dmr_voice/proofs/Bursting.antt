@@ -7,7 +7,7 @@ use Rattle.dmr_embedded.specs.EmbeddedWord.{IsEmbedded, lc_bits}
 use Rattle.dmr_embedded.specs.Table.{bits_of_fields}
 use Rattle.dmr_embedded.proofs.Unique.{one_embedded}
 use Rattle.dmr_link.specs.declared.full_lc.FullLc.{FullLc}
-use Rattle.dmr_link.proofs.Fields.{same_octets}
+use Rattle.dmr_bits.proofs.Spelled.{same_octets}
 use Rattle.dmr_voice.specs.declared.place.Place.{Place}
 use Rattle.dmr_voice.specs.declared.said.Content.{Content}
 use Rattle.dmr_voice.specs.declared.said.Content.TheVariants.{Data, First, Middle, Last}
