@@ -17,11 +17,11 @@ use Rattle.dmr_repeater.specs.Line.{silence, line_slot, line_frame, line_frames,
 use Rattle.dmr_repeater.specs.Pairs.{Pairwise}
 use Rattle.dmr_repeater.specs.Push.{Memory, start, pushes, after_pushes, after_push, handed}
 use Rattle.dmr_repeater.specs.Runs.{FrontOf, IsAfter, repeated_count, Sends, SendsFront, Reads, WritesFile, WritesFront, ReadsFile, ReadsFront, EndsEarly, HasRecording}
-use Rattle.dmr_repeater.specs.Sent.{AreSentAs}
-use Rattle.dmr_repeater.proofs.Encodings.{clean_slots}
+use Rattle.dmr_repeater.specs.Bursts.{IsLineSentAs}
+use Rattle.dmr_repeater.proofs.Encodings.{IsLineSentAs-none, clean_slots}
 use Rattle.dmr_repeater.proofs.Files.{read_front}
 use Rattle.dmr_repeater.proofs.Lines.{line_by_pushes, pushes-append}
-use Rattle.dmr_repeater.proofs.Transcripts.{length-Pairwise}
+use Rattle.dmr_repeater.proofs.Pairs.{length-Pairwise}
 
 -- ---- all that is heard is sealed
 abbrev IsSealedFrame : List (Option (List Bool)) → Type 0
@@ -97,7 +97,7 @@ decided hang xs ys heard e =
 pub writes_front : (colour hang : ℕ) (frames : List (List (Option (List ℕ)))) (heard xs ys : List (List (Option (List Bool)))) (a b c : Option (List ℕ)) → AreHeardAs colour frames heard
     → handed heard ≡ xs ++ ys → Appends a b (head_octets DOWNLINK_MAGIC) → SendsFront colour 0 (start hang) xs b c → WritesFront colour hang heard (length xs) a c
 writes_front colour hang frames heard xs ys a b c hears e head u =
-    let slots = subst (λ (l : List (List LineSlot)). AreSentAs colour 0 (slots_of l) u.sent) (sym (decided hang xs ys heard e)) u.slots in
+    let slots = subst (λ (l : List (List LineSlot)). IsLineSentAs colour 0 (slots_of l) u.sent) (sym (decided hang xs ys heard e)) u.slots in
     record {
       sent = u.sent;
       slots = slots;
@@ -111,7 +111,7 @@ writes_front colour hang frames heard xs ys a b c hears e head u =
 pub writes_head : (colour hang : ℕ) (heard : List (List (Option (List Bool)))) (a b : Option (List ℕ)) → FrontOf a b (head_octets DOWNLINK_MAGIC) → WritesFront colour hang heard 0 a b
 writes_head colour hang heard a b (front, is_front, written) = record {
   sent = [];
-  slots = tt;
+  slots = IsLineSentAs-none colour 0;
   clean = tt;
   front = front;
   is_front = (is_front.0, append-nil (head_octets DOWNLINK_MAGIC) ∙ is_front.1);
@@ -127,7 +127,7 @@ everything whole a b written = (whole, ([], sym (append-nil whole)), written)
 pub writes_file : (colour hang : ℕ) (frames : List (List (Option (List ℕ)))) (heard : List (List (Option (List Bool)))) (a b c : Option (List ℕ)) → AreHeardAs colour frames heard
     → Appends a b (head_octets DOWNLINK_MAGIC) → Sends colour 0 (start hang) (handed heard) b c → WritesFile colour hang heard a c
 writes_file colour hang frames heard a b c hears head u =
-    let slots = subst (λ (l : List (List LineSlot)). AreSentAs colour 0 (slots_of l) u.sent) (line_by_pushes hang heard) u.slots in
+    let slots = subst (λ (l : List (List LineSlot)). IsLineSentAs colour 0 (slots_of l) u.sent) (line_by_pushes hang heard) u.slots in
     record {
       sent = u.sent;
       slots = slots;
@@ -213,7 +213,7 @@ longer_front colour hang count heard rest c d h w =
     decided_front hang count xs five heard refl within ∙ sym (decided_front hang count xs (rest ++ five) (heard ++ rest) split within) in
     record {
       sent = w.sent;
-      slots = subst (λ (l : List (List LineSlot)). AreSentAs colour 0 (slots_of l) w.sent) same w.slots;
+      slots = subst (λ (l : List (List LineSlot)). IsLineSentAs colour 0 (slots_of l) w.sent) same w.slots;
       clean = w.clean;
       front = w.front;
       is_front = w.is_front;

@@ -26,11 +26,11 @@ use Rattle.dmr_repeater.specs.Pairs.{Pairwise}
 use Rattle.dmr_repeater.specs.Push.{Memory as Past, start, handed}
 use Rattle.dmr_repeater.specs.Runs.{IfOutgoing, Reads, Sends, ReadsRecords, WritesFirst, FindsFault, StopsWithUplink, HasOutgoing}
 use Rattle.dmr_repeater.specs.Schedule.{Progress, unread, last_frame, IsReadFrom, Gives, AreDue, GivesDue, StopsIn, HasRecords}
-use Rattle.dmr_repeater.specs.Sent.{AreSentAs}
+use Rattle.dmr_repeater.specs.Bursts.{IsLineSentAs}
 use Rattle.dmr_repeater.proofs.Early.{decided, handed_split, sealed_first, sealed_line_of}
 use Rattle.dmr_repeater.proofs.Encodings.{clean_slots}
 use Rattle.dmr_repeater.proofs.Files.{consumed, left_behind}
-use Rattle.dmr_repeater.proofs.Transcripts.{length-Pairwise}
+use Rattle.dmr_repeater.proofs.Pairs.{length-Pairwise}
 
 pub IfOutgoing-map : (e : RunFault) (P Q : RecordFault → Type 0) (X Y : Type 0) → ((fault : RecordFault) → P fault → Q fault) → (X → Y) → IfOutgoing e P X → IfOutgoing e Q Y
 IfOutgoing-map (File outgoing fault) P Q X Y found others u = found fault u
@@ -127,7 +127,7 @@ shown_behind frame e b c u =
 writes_first : (colour hang : ℕ) (frames : List (List (Option (List ℕ)))) (heard xs ys : List (List (Option (List Bool)))) (a b c : Option (List ℕ)) → AreHeardAs colour frames heard
     → handed heard ≡ xs ++ ys → Appends a b (head_octets DOWNLINK_MAGIC) → Sends colour 0 (start hang) xs b c → WritesFirst colour hang heard (length xs) a c
 writes_first colour hang frames heard xs ys a b c hears e head u =
-    let slots = subst (λ (l : List (List LineSlot)). AreSentAs colour 0 (slots_of l) u.sent) (sym (decided hang xs ys heard e)) u.slots in
+    let slots = subst (λ (l : List (List LineSlot)). IsLineSentAs colour 0 (slots_of l) u.sent) (sym (decided hang xs ys heard e)) u.slots in
     record {
       sent = u.sent;
       slots = slots;

@@ -4,5 +4,6 @@ pub mod Files
 pub mod Finding
 pub mod Lines
 pub mod Messages
+pub mod Pairs
 pub mod Records
 pub mod Transcripts

@@ -14,9 +14,10 @@ use Rattle.dmr_repeater.specs.Line.{slots_of}
 use Rattle.dmr_repeater.specs.Pairs.{Pairwise}
 use Rattle.dmr_repeater.specs.Push.{Memory, push_out, after_push, pushes, after_pushes}
 use Rattle.dmr_repeater.specs.Runs.{IsAfter, Sends, SendsFront, Reads, is_repeated, repeated_count}
-use Rattle.dmr_repeater.specs.Sent.{AreSentAs}
-use Rattle.dmr_repeater.proofs.Encodings.{AreSentAs-append}
+use Rattle.dmr_repeater.specs.Bursts.{IsLineSentAs}
+use Rattle.dmr_repeater.proofs.Encodings.{IsLineSentAs-append, IsLineSentAs-none}
 use Rattle.dmr_repeater.proofs.Lines.{pushes-append, after_pushes-append}
+use Rattle.dmr_repeater.proofs.Pairs.{Pairwise-append}
 
 pub two_slots : {X : Type 0} (frame : List (Option X)) → length frame ≡ 2 → frame ≡ slice_index_or frame 0 None ∷ slice_index_or frame 1 None ∷ []
 two_slots [] e = absurd (omega arith)
@@ -41,14 +42,14 @@ downlink_octets-append a b = flat_map-append sent_octets a b
 
 -- one part after another
 module _ (colour : ℕ) (m : Memory) (xs ys : List (List (Option (List Bool)))) (place next : ℕ) (a b c : Option (List ℕ)) where
-  slots_join : (sent more : List (Option (List ℕ × List ℕ))) → next ≡ place + length (slots_of (pushes m xs)) → AreSentAs colour place (slots_of (pushes m xs)) sent
-      → AreSentAs colour next (slots_of (pushes (after_pushes m xs) ys)) more → AreSentAs colour place (slots_of (pushes m (xs ++ ys))) (sent ++ more)
+  slots_join : (sent more : List (Option (List ℕ × List ℕ))) → next ≡ place + length (slots_of (pushes m xs)) → IsLineSentAs colour place (slots_of (pushes m xs)) sent
+      → IsLineSentAs colour next (slots_of (pushes (after_pushes m xs) ys)) more → IsLineSentAs colour place (slots_of (pushes m (xs ++ ys))) (sent ++ more)
   slots_join sent more e u v =
       let split : slots_of (pushes m (xs ++ ys)) ≡ slots_of (pushes m xs) ++ slots_of (pushes (after_pushes m xs) ys) =
       ap slots_of (pushes-append m xs ys) ∙ slots_of-append (pushes m xs) (pushes (after_pushes m xs) ys) in
-      subst (λ (l : List LineSlot). AreSentAs colour place l (sent ++ more)) (sym split)
-      (AreSentAs-append colour place (slots_of (pushes m xs)) (slots_of (pushes (after_pushes m xs) ys)) sent more u
-      (subst (λ (p : ℕ). AreSentAs colour p (slots_of (pushes (after_pushes m xs) ys)) more) e v))
+      subst (λ (l : List LineSlot). IsLineSentAs colour place l (sent ++ more)) (sym split)
+      (IsLineSentAs-append colour place (slots_of (pushes m xs)) (slots_of (pushes (after_pushes m xs) ys)) sent more u
+      (subst (λ (p : ℕ). IsLineSentAs colour p (slots_of (pushes (after_pushes m xs) ys)) more) e v))
 
   pub Sends-trans : Sends colour place m xs a b → next ≡ place + length (slots_of (pushes m xs)) → Sends colour next (after_pushes m xs) ys b c → Sends colour place m (xs ++ ys) a c
   Sends-trans u e v = record {
@@ -81,7 +82,7 @@ SendsFront-whole colour place m xs a b u = record {
 
 -- nothing was sent of nothing
 pub Sends-none : (colour place : ℕ) (m : Memory) (a : Option (List ℕ)) → Sends colour place m [] a a
-Sends-none colour place m a = record { sent = []; slots = tt; written = Appends-nil a }
+Sends-none colour place m a = record { sent = []; slots = IsLineSentAs-none colour place; written = Appends-nil a }
 
 -- ---- the counts
 pub IsAfter-none : (m : Memory) (frames repeated : ℕ) → IsAfter m frames repeated [] m frames repeated
@@ -107,12 +108,6 @@ IsAfter-more m line f r f1 r1 f2 r2 hs h line' u e1 e2 e3 two =
     }
 
 -- ---- what was read
-Pairwise-push : {X Y : Type 0} (R : X → Y → Type 0) (xs : List X) (ys : List Y) (x : X) (y : Y) → Pairwise R xs ys → R x y → Pairwise R (xs ++ x ∷ []) (ys ++ y ∷ [])
-Pairwise-push R [] [] x y p q = (q, tt)
-Pairwise-push R [] (b ∷ ys) x y p q = absurd p
-Pairwise-push R (a ∷ xs) [] x y p q = absurd p
-Pairwise-push R (a ∷ xs) (b ∷ ys) x y p q = (p.0, Pairwise-push R xs ys x y p.1 q)
-
 pub Reads-none : (colour : ℕ) (a : Option (List ℕ)) → Reads colour [] [] [] a a
 Reads-none colour a = record { each = tt; hears = tt; read = Consumes-nil a }
 
@@ -124,7 +119,7 @@ Reads-more colour frames heard frame h a b c u is_frame hears read =
     let before = subst (Consumes a b) (append-nil (frames_octets frames)) u.read in
     record {
       each = All-push IsFrame frames frame u.each is_frame;
-      hears = Pairwise-push (Pairwise (Hears colour)) frames heard frame h u.hears hears;
+      hears = Pairwise-append (Pairwise (Hears colour)) frames (frame ∷ []) heard (h ∷ []) u.hears (hears, tt);
       read = subst (Consumes a c) (sym (append-nil (frames_octets (frames ++ frame ∷ [])) ∙ one)) (Consumes-trans a b c (frames_octets frames) (frame_octets frame) before read);
     }
 
@@ -180,9 +175,3 @@ IsAfter-trans m l n f r f1 r1 f2 r2 hs ys u v =
           let counts = ap repeated_count same in
           let before = u.repeated in let after = v.repeated in omega arith;
     }
-
-pub length-Pairwise : {X Y : Type 0} (R : X → Y → Type 0) (xs : List X) (ys : List Y) → Pairwise R xs ys → length ys ≡ length xs
-length-Pairwise R [] [] u = refl
-length-Pairwise R [] (y ∷ ys) u = absurd u
-length-Pairwise R (x ∷ xs) [] u = absurd u
-length-Pairwise R (x ∷ xs) (y ∷ ys) u = let e = length-Pairwise R xs ys u.1 in omega arith

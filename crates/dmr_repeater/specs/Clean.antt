@@ -8,7 +8,7 @@ use Rattle.dmr_burst.specs.declared.burst.Side.TheVariants.{Bs}
 use Rattle.dmr_csbk.specs.Block.{IsSealedMessage}
 use Rattle.dmr_repeater.specs.declared.line.LineSlot.{LineSlot}
 use Rattle.dmr_repeater.specs.declared.line.LineSlot.TheVariants.{Repeated, Idle, Silent}
-use Rattle.dmr_repeater.specs.Sent.{idle_message}
+use Rattle.dmr_repeater.specs.Bursts.{idle_message}
 
 -- the data types that go out: a control block that is sealed, and the idle message
 abbrev pub IsCleanMessage : ℕ → List Bool → Type 0

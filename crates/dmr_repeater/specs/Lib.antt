@@ -1,3 +1,4 @@
+pub mod Bursts
 pub mod Clean
 pub mod Damage
 pub mod Heard

@@ -21,7 +21,7 @@ use Rattle.dmr_repeater.specs.Damage.{AreHeardAs, AreRecordedAs}
 use Rattle.dmr_repeater.specs.Line.{line_of, slots_of, silence}
 use Rattle.dmr_repeater.specs.Push as push
 use Rattle.dmr_repeater.specs.Schedule.{Progress, StopsIn, last_frame}
-use Rattle.dmr_repeater.specs.Sent.{AreSentAs}
+use Rattle.dmr_repeater.specs.Bursts.{IsLineSentAs}
 
 abbrev pub is_repeated : LineSlot → Bool
 is_repeated (Repeated message) = true
@@ -44,13 +44,13 @@ FrontOf held_old held_new whole = (front : List ℕ) × IsFront front whole × A
 -- What the line sends of these frames, pushed after what it remembers, was written, from the record at this place on.
 pub record Sends (colour place : ℕ) (memory : push.Memory) (heard : List (List (Option (List Bool)))) (held_old held_new : Option (List ℕ)) : Type 0 where
   pub sent : List (Option (List ℕ × List ℕ))
-  pub slots : AreSentAs colour place (slots_of (push.pushes memory heard)) sent
+  pub slots : IsLineSentAs colour place (slots_of (push.pushes memory heard)) sent
   pub written : Appends held_old held_new (downlink_octets sent)
 
 -- A front of it was written.
 pub record SendsFront (colour place : ℕ) (memory : push.Memory) (heard : List (List (Option (List Bool)))) (held_old held_new : Option (List ℕ)) : Type 0 where
   pub sent : List (Option (List ℕ × List ℕ))
-  pub slots : AreSentAs colour place (slots_of (push.pushes memory heard)) sent
+  pub slots : IsLineSentAs colour place (slots_of (push.pushes memory heard)) sent
   pub front : List ℕ
   pub is_front : IsFront front (downlink_octets sent)
   pub written : Appends held_old held_new front
@@ -93,14 +93,14 @@ pub record StopsPastUplink (colour before_frames : ℕ) (memory : push.Memory) (
 -- The whole file of what the line sends was written.
 pub record WritesFile (colour hang : ℕ) (heard : List (List (Option (List Bool)))) (held_old held_new : Option (List ℕ)) : Type 0 where
   pub sent : List (Option (List ℕ × List ℕ))
-  pub slots : AreSentAs colour 0 (slots_of (line_of hang heard)) sent
+  pub slots : IsLineSentAs colour 0 (slots_of (line_of hang heard)) sent
   pub clean : AllByRecursion (IsCleanSlot colour) sent
   pub written : Appends held_old held_new (downlink_file sent)
 
 -- A front of the file of the first so many frames of it was written.
 pub record WritesFront (colour hang : ℕ) (heard : List (List (Option (List Bool)))) (count : ℕ) (held_old held_new : Option (List ℕ)) : Type 0 where
   pub sent : List (Option (List ℕ × List ℕ))
-  pub slots : AreSentAs colour 0 (slots_of (take count (line_of hang heard))) sent
+  pub slots : IsLineSentAs colour 0 (slots_of (take count (line_of hang heard))) sent
   pub clean : AllByRecursion (IsCleanSlot colour) sent
   pub front : List ℕ
   pub is_front : IsFront front (downlink_file sent)
@@ -109,7 +109,7 @@ pub record WritesFront (colour hang : ℕ) (heard : List (List (Option (List Boo
 -- The file of the first so many frames of it was written.
 pub record WritesFirst (colour hang : ℕ) (heard : List (List (Option (List Bool)))) (count : ℕ) (held_old held_new : Option (List ℕ)) : Type 0 where
   pub sent : List (Option (List ℕ × List ℕ))
-  pub slots : AreSentAs colour 0 (slots_of (take count (line_of hang heard))) sent
+  pub slots : IsLineSentAs colour 0 (slots_of (take count (line_of hang heard))) sent
   pub clean : AllByRecursion (IsCleanSlot colour) sent
   pub written : Appends held_old held_new (downlink_file sent)
 

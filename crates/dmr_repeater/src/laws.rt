@@ -2,6 +2,8 @@
 ghost use Rattle.std.specs.Prelude.{◌≡◌, ℕ, Bool, List, Option};
 ghost use Rattle.std.specs.List.{AllByRecursion};
 ghost use Rattle.dmr_repeater.specs.declared.line.LineSlot.{LineSlot};
+ghost use Rattle.dmr_repeater.specs.declared.sending.DownlinkBurst.{DownlinkBurst};
+ghost use Rattle.dmr_repeater.specs.Bursts.{IsLineSentAs};
 ghost use Rattle.dmr_repeater.specs.Clean.{IsSealedSlot, IsCleanSlot};
 ghost use Rattle.dmr_repeater.specs.Heard.{IsHeardAs};
 ghost use Rattle.dmr_repeater.specs.Push.{LineByPushes};
@@ -12,16 +14,22 @@ pub fn one_hearing()
     ensures law { (colour : ℕ) (slot : Option (List ℕ)) (a b : Option (List Bool)) → IsHeardAs colour slot a → IsHeardAs colour slot b → a ≡ b }
 {}
 
-/// Slots of the line have one encoding.
+/// What slots of the downlink send has one encoding.
 pub fn one_encoding()
+    ensures law { (place : ℕ) (slots : List (Option DownlinkBurst)) (a b : List (Option (List ℕ × List ℕ)))
+        → AllByRecursion AreOctets a → AllByRecursion AreOctets b → AreSentAs place slots a → AreSentAs place slots b → a ≡ b }
+{}
+
+/// So have slots of the line.
+pub fn one_encoding_of_the_line()
     ensures law { (colour place : ℕ) (slots : List LineSlot) (a b : List (Option (List ℕ × List ℕ)))
-        → AllByRecursion AreOctets a → AllByRecursion AreOctets b → AreSentAs colour place slots a → AreSentAs colour place slots b → a ≡ b }
+        → AllByRecursion AreOctets a → AllByRecursion AreOctets b → IsLineSentAs colour place slots a → IsLineSentAs colour place slots b → a ≡ b }
 {}
 
 /// Whatever the line sends of sealed messages may be transmitted.
 pub fn sent_slots_are_clean()
     ensures law { (colour place : ℕ) (slots : List LineSlot) (sent : List (Option (List ℕ × List ℕ)))
-        → AllByRecursion IsSealedSlot slots → AreSentAs colour place slots sent → AllByRecursion (IsCleanSlot colour) sent }
+        → AllByRecursion IsSealedSlot slots → IsLineSentAs colour place slots sent → AllByRecursion (IsCleanSlot colour) sent }
 {}
 
 /// The line of a whole recording, push by push.

@@ -5,6 +5,7 @@ ghost use Rattle.dmr_record.specs.Devices.{Tears};
 ghost use Rattle.dmr_record.specs.Downlink.{downlink_octets};
 ghost use Rattle.dmr_repeater.specs.Runs.{is_repeated as slot_is_repeated, repeated_count};
 
+use crate::bursts::bursts_of_frame;
 use crate::line::{Line, LineSlot};
 use crate::sending::encode_frame;
 use crate::summary::Summary;
@@ -84,7 +85,8 @@ impl Repeater {
         ensures torn { OnErr result (SendsFront self.old.colour (2 * self.old.frames) self.old.line (heard ∷ []) (D.held downlink.old) (D.held downlink.new)) }
     {
         let slots = self.line.push(heard);
-        let frame = encode_frame(self.colour, 2 * self.frames, &slots);
+        let bursts = bursts_of_frame(self.colour, &slots);
+        let frame = encode_frame(2 * self.frames, &bursts);
         self.frames += 1;
         self.repeated += count_repeated(&slots);
         write_frame(downlink, frame)

@@ -10,7 +10,8 @@ use Rattle.dmr_repeater.specs.Schedule.{StopsIn}
 use Rattle.dmr_repeater.proofs.Files.{no_fault_behind}
 use Rattle.dmr_repeater.proofs.Finding.{no_fault_stops}
 use Rattle.dmr_repeater.proofs.Records.{GivesDue-none, GivesDue-later, GivesDue-trans, StopsIn-after}
-use Rattle.dmr_repeater.proofs.Transcripts.{IsAfter-none, IsAfter-more, Sends-none, Sends-more, SendsFront-more, SendsFront-whole, Reads-none, Reads-more, Reads-part, length-Pairwise}
+use Rattle.dmr_repeater.proofs.Pairs.{length-Pairwise}
+use Rattle.dmr_repeater.proofs.Transcripts.{IsAfter-none, IsAfter-more, Sends-none, Sends-more, SendsFront-more, SendsFront-whole, Reads-none, Reads-more, Reads-part}
 use Rattle.dmr_repeater.proofs.running.repeat_uplink.Goals as goal
 
 pub loop-fault-init : goal.loop-fault-init

@@ -1,0 +1,15 @@
+pub mod Bitmap
+pub mod Completing
+pub mod Counting
+pub mod Delivery
+pub mod Hands
+pub mod Hearing
+pub mod Line
+pub mod Opening
+pub mod Placing
+pub mod Sends
+pub mod SerialLists
+pub mod Shape
+pub mod Sound
+pub mod Sources
+pub mod Steps
