@@ -27,3 +27,8 @@ pub use sender::{
 };
 pub use serials::{Selection, Serials};
 pub use table::{Entry, MOST_PARTNERS, Table};
+
+#[cfg(test)]
+mod cells_tests;
+#[cfg(test)]
+mod tests;

@@ -18,7 +18,8 @@ use Rattle.dmr_repeater.specs.Pairs.{Pairwise}
 use Rattle.dmr_repeater.specs.Push.{Memory, start, pushes, after_pushes, after_push, handed}
 use Rattle.dmr_repeater.specs.Runs.{FrontOf, IsAfter, repeated_count, Sends, SendsFront, Reads, WritesFile, WritesFront, ReadsFile, ReadsFront, EndsEarly, HasRecording}
 use Rattle.dmr_repeater.specs.Bursts.{IsLineSentAs}
-use Rattle.dmr_repeater.proofs.Encodings.{IsLineSentAs-none, clean_slots}
+use Rattle.dmr_repeater.proofs.Cleaning.{IsCleanDownlink-none, clean_slots}
+use Rattle.dmr_repeater.proofs.Encodings.{IsLineSentAs-none}
 use Rattle.dmr_repeater.proofs.Files.{read_front}
 use Rattle.dmr_repeater.proofs.Lines.{line_by_pushes, pushes-append}
 use Rattle.dmr_repeater.proofs.Pairs.{length-Pairwise}
@@ -112,7 +113,7 @@ pub writes_head : (colour hang : ℕ) (heard : List (List (Option (List Bool))))
 writes_head colour hang heard a b (front, is_front, written) = record {
   sent = [];
   slots = IsLineSentAs-none colour 0;
-  clean = tt;
+  clean = IsCleanDownlink-none colour;
   front = front;
   is_front = (is_front.0, append-nil (head_octets DOWNLINK_MAGIC) ∙ is_front.1);
   written = written;

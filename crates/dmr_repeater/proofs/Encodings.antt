@@ -1,5 +1,5 @@
--- The octets of slots: there is one encoding, and it is clean.
-use Rattle.std.proofs.Common.{◌≡◌, ℕ, suc, ◌+◌, ◌<◌, Bool, true, false, List, [], ◌∷◌, ◌++◌, length, Option, Some, None, refl, sym, ap, ◌∙◌, subst, arith, inl, inr, replicate, ◌==◌, ◌%◌}
+-- The octets of slots: there is one encoding.
+use Rattle.std.proofs.Common.{◌≡◌, ℕ, suc, ◌+◌, ◌<◌, Bool, false, List, [], ◌∷◌, ◌++◌, length, Option, Some, None, refl, sym, ap, ◌∙◌, subst, arith, replicate, ◌==◌, ◌%◌}
 use Rattle.std.specs.List.{All, AllByRecursion}
 use Rattle.std.proofs.lemmas.List.{length-append}
 use Rattle.dmr_bits.specs.Bits.{bits_of_octets, part}
@@ -19,7 +19,6 @@ use Rattle.dmr_repeater.specs.declared.sending.DownlinkBurst.{DownlinkBurst}
 use Rattle.dmr_repeater.specs.Bursts.{idle_message, IsDataOf, GoesOutAs, IsLineSentAs}
 use Rattle.dmr_repeater.specs.Pairs.{Pairwise}
 use Rattle.dmr_repeater.specs.Sent.{lcss_of, IsCachOf, IsSentAs, AreSentAs, AreOctets}
-use Rattle.dmr_repeater.specs.Clean.{IsSealedSlot, IsCleanMessage, IsCleanCach, IsCleanBurst, IsCleanSlot}
 use Rattle.dmr_repeater.proofs.Pairs.{length-Pairwise, Pairwise-append}
 
 octets_from_bits : (xs ys : List ℕ) → All (λ octet. octet < 256) xs → All (λ octet. octet < 256) ys → bits_of_octets xs ≡ bits_of_octets ys → xs ≡ ys
@@ -113,45 +112,6 @@ pub one_encoding_of_the_line : (colour place : ℕ) (slots : List LineSlot) (a b
 one_encoding_of_the_line colour place slots a b p q u v =
     let same = one_line_out colour place slots u.out v.out a b u.bursts v.bursts u.encoded v.encoded in
     one_encoding place u.out a b p q u.encoded (subst (λ (l : List (Option DownlinkBurst)). AreSentAs place l b) (sym same) v.encoded)
-
--- ---- clean
-clean_cach : (busy : Bool) (place : ℕ) (octets : List ℕ) → IsCachOf busy place octets → IsCleanCach octets
-clean_cach busy place octets u = record { at = busy; tc = (place % 2 == 1); lcss = lcss_of place; fragment = replicate 17 false; fields = u }
-
-clean_burst : (colour kind : ℕ) (message : List Bool) (burst : Burst) (octets : List ℕ) → IsCleanMessage kind message → IsDataOf colour kind message burst
-    → IsEncoding burst Bs (bits_of_octets octets) → IsCleanBurst colour octets
-clean_burst colour kind message burst octets clean u v = record {
-  kind = kind;
-  information = u.information;
-  message = message;
-  clean = clean;
-  written = u.written;
-  fields = subst (λ (b : Burst). IsEncoding b Bs (bits_of_octets octets)) u.is v;
-}
-
-clean_slot : (colour place : ℕ) (slot : LineSlot) (out : Option DownlinkBurst) (sent : Option (List ℕ × List ℕ)) → IsSealedSlot slot → GoesOutAs colour slot out → IsSentAs place out sent
-    → IsCleanSlot colour sent
-clean_slot colour place slot out None sealed u v = tt
-clean_slot colour place slot None (Some sent) sealed u v = absurd (cc)
-clean_slot colour place (Repeated message) (Some d) (Some sent) sealed u v =
-    (clean_cach d.is_repeated place sent.0 v.0, clean_burst colour 3 message d.burst sent.1 (inl (refl, sealed)) u.0 v.1)
-clean_slot colour place Idle (Some d) (Some sent) sealed u v =
-    (clean_cach d.is_repeated place sent.0 v.0, clean_burst colour 9 idle_message d.burst sent.1 (inr (refl, refl)) u.0 v.1)
-clean_slot colour place Silent (Some d) (Some sent) sealed u v = absurd (cc)
-
-clean_out : (colour place : ℕ) (slots : List LineSlot) (out : List (Option DownlinkBurst)) (sent : List (Option (List ℕ × List ℕ))) → AllByRecursion IsSealedSlot slots
-    → Pairwise (GoesOutAs colour) slots out → AreSentAs place out sent → AllByRecursion (IsCleanSlot colour) sent
-clean_out colour place [] [] [] p u v = tt
-clean_out colour place [] (d ∷ ds) sent p u v = absurd u
-clean_out colour place [] [] (s ∷ more) p u v = absurd v
-clean_out colour place (slot ∷ slots) [] sent p u v = absurd u
-clean_out colour place (slot ∷ slots) (d ∷ ds) [] p u v = absurd v
-clean_out colour place (slot ∷ slots) (d ∷ ds) (s ∷ more) p u v =
-    (clean_slot colour place slot d s p.0 u.0 v.0, clean_out colour (place + 1) slots ds more p.1 u.1 v.1)
-
-pub clean_slots : (colour place : ℕ) (slots : List LineSlot) (sent : List (Option (List ℕ × List ℕ))) → AllByRecursion IsSealedSlot slots
-    → IsLineSentAs colour place slots sent → AllByRecursion (IsCleanSlot colour) sent
-clean_slots colour place slots sent p u = clean_out colour place slots u.out sent p u.bursts u.encoded
 
 -- ---- slots one after the other
 pub IsLineSentAs-none : (colour place : ℕ) → IsLineSentAs colour place [] []

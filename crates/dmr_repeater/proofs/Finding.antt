@@ -28,7 +28,7 @@ use Rattle.dmr_repeater.specs.Runs.{IfOutgoing, Reads, Sends, ReadsRecords, Writ
 use Rattle.dmr_repeater.specs.Schedule.{Progress, unread, last_frame, IsReadFrom, Gives, AreDue, GivesDue, StopsIn, HasRecords}
 use Rattle.dmr_repeater.specs.Bursts.{IsLineSentAs}
 use Rattle.dmr_repeater.proofs.Early.{decided, handed_split, sealed_first, sealed_line_of}
-use Rattle.dmr_repeater.proofs.Encodings.{clean_slots}
+use Rattle.dmr_repeater.proofs.Cleaning.{clean_slots}
 use Rattle.dmr_repeater.proofs.Files.{consumed, left_behind}
 use Rattle.dmr_repeater.proofs.Pairs.{length-Pairwise}
 

@@ -1,3 +1,4 @@
+pub mod Cleaning
 pub mod Early
 pub mod Encodings
 pub mod Files
@@ -5,5 +6,6 @@ pub mod Finding
 pub mod Lines
 pub mod Messages
 pub mod Pairs
+pub mod Readings
 pub mod Records
 pub mod Transcripts

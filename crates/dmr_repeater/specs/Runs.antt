@@ -16,7 +16,7 @@ use Rattle.dmr_repeater.specs.declared.fault.RunFault.{RunFault}
 use Rattle.dmr_repeater.specs.declared.fault.RunFault.TheVariants.{File, Memory}
 use Rattle.dmr_repeater.specs.declared.line.LineSlot.{LineSlot}
 use Rattle.dmr_repeater.specs.declared.line.LineSlot.TheVariants.{Repeated, Idle, Silent}
-use Rattle.dmr_repeater.specs.Clean.{IsCleanSlot}
+use Rattle.dmr_repeater.specs.Clean.{IsCleanDownlink}
 use Rattle.dmr_repeater.specs.Damage.{AreHeardAs, AreRecordedAs}
 use Rattle.dmr_repeater.specs.Line.{line_of, slots_of, silence}
 use Rattle.dmr_repeater.specs.Push as push
@@ -94,14 +94,14 @@ pub record StopsPastUplink (colour before_frames : ℕ) (memory : push.Memory) (
 pub record WritesFile (colour hang : ℕ) (heard : List (List (Option (List Bool)))) (held_old held_new : Option (List ℕ)) : Type 0 where
   pub sent : List (Option (List ℕ × List ℕ))
   pub slots : IsLineSentAs colour 0 (slots_of (line_of hang heard)) sent
-  pub clean : AllByRecursion (IsCleanSlot colour) sent
+  pub clean : IsCleanDownlink colour sent
   pub written : Appends held_old held_new (downlink_file sent)
 
 -- A front of the file of the first so many frames of it was written.
 pub record WritesFront (colour hang : ℕ) (heard : List (List (Option (List Bool)))) (count : ℕ) (held_old held_new : Option (List ℕ)) : Type 0 where
   pub sent : List (Option (List ℕ × List ℕ))
   pub slots : IsLineSentAs colour 0 (slots_of (take count (line_of hang heard))) sent
-  pub clean : AllByRecursion (IsCleanSlot colour) sent
+  pub clean : IsCleanDownlink colour sent
   pub front : List ℕ
   pub is_front : IsFront front (downlink_file sent)
   pub written : Appends held_old held_new front
@@ -110,7 +110,7 @@ pub record WritesFront (colour hang : ℕ) (heard : List (List (Option (List Boo
 pub record WritesFirst (colour hang : ℕ) (heard : List (List (Option (List Bool)))) (count : ℕ) (held_old held_new : Option (List ℕ)) : Type 0 where
   pub sent : List (Option (List ℕ × List ℕ))
   pub slots : IsLineSentAs colour 0 (slots_of (take count (line_of hang heard))) sent
-  pub clean : AllByRecursion (IsCleanSlot colour) sent
+  pub clean : IsCleanDownlink colour sent
   pub written : Appends held_old held_new (downlink_file sent)
 
 -- The whole uplink file of these frames was read.

@@ -1,5 +1,5 @@
 -- The line, push by push.
-use Rattle.std.proofs.Common.{◌≡◌, ℕ, zero, suc, ◌+◌, ◌-◌, ◌≤◌, List, [], ◌∷◌, ◌++◌, replicate, Option, Some, None, refl, sym, ap, ◌∙◌, arith}
+use Rattle.std.proofs.Common.{◌≡◌, ℕ, zero, suc, ◌+◌, ◌-◌, ◌≤◌, List, [], ◌∷◌, ◌++◌, replicate, Option, None, refl, sym, ap, ◌∙◌, arith}
 use Rattle.dmr_link.specs.declared.full_lc.FullLc.{FullLc}
 use Rattle.dmr_voice.specs.Rules.{step_of, run, AllCarried}
 use Rattle.dmr_voice.specs.Slots.{silence}
@@ -11,7 +11,7 @@ use Rattle.dmr_voice.specs.declared.said.Said.TheVariants.{Nothing, Repeat}
 use Rattle.dmr_voice.specs.declared.track.Track.{Track}
 use Rattle.dmr_voice.specs.declared.track.Track.TheVariants.{Idle}
 use Rattle.dmr_slot.specs.Line.{LineOut, last_call, held_by, line, lines}
-use Rattle.dmr_slot.specs.Push.{Memory, start, left_after, known_after, still_left, role_of, out_of, moved, decided, push_out, after_push, pushes, AllCarriedAt}
+use Rattle.dmr_slot.specs.Push.{Memory, start, left_after, known_after, still_left, role_of, out_of, moved, decided, after_push, pushes, AllCarriedAt}
 
 -- The hang that is left agrees with what a look back finds, now and in the frames to come.
 record Agrees (call_hang left : ℕ) (lc : Option FullLc) (back : List Said) : Type 0 where

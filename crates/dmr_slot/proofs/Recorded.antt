@@ -1,11 +1,10 @@
 -- The line of a recording, octets in.
-use Rattle.std.proofs.Common.{◌≡◌, ℕ, zero, suc, Bool, List, [], ◌∷◌, ◌++◌, replicate, Option, Some, None, refl, sym, ap, ◌∙◌, subst}
+use Rattle.std.proofs.Common.{◌≡◌, ℕ, zero, suc, List, [], ◌∷◌, ◌++◌, replicate, Option, Some, None, refl, sym, ap, ◌∙◌, subst}
 use Rattle.dmr_link.specs.declared.full_lc.FullLc.{FullLc}
 use Rattle.dmr_voice.specs.Recordings.{AllHeardAs, RepeatsWhatIsMeant}
 use Rattle.dmr_voice.specs.Rules.{run}
 use Rattle.dmr_voice.specs.Slots.{silence, IsHeardAs}
-use Rattle.dmr_voice.specs.Transmissions.{Transmission, Cell, sent_list, meaning}
-use Rattle.dmr_voice.specs.WellFormed.{IsWellFormed}
+use Rattle.dmr_voice.specs.Transmissions.{Cell, sent_list, meaning}
 use Rattle.dmr_voice.specs.declared.heard.Heard.{Heard}
 use Rattle.dmr_voice.specs.declared.said.Said.{Said}
 use Rattle.dmr_voice.specs.declared.said.Said.TheVariants.{Nothing}
@@ -13,8 +12,8 @@ use Rattle.dmr_voice.specs.declared.track.Track.TheVariants.{Idle}
 use Rattle.dmr_slot.specs.declared.line.SlotOut.{SlotOut}
 use Rattle.dmr_slot.specs.Bursts.{AreSlotOuts}
 use Rattle.dmr_slot.specs.Line.{LineOut, lines}
-use Rattle.dmr_slot.specs.Push.{Memory, start, IsHeard, IsPush, ArePushed, pushes, AllCarriedAt}
-use Rattle.dmr_slot.specs.Recordings.{handed, AllHeard, delayed, IsLineOf, LineByPushes, AllRecordedAs, IsRecording, vocoder_of, meant, LineOfWhatIsMeant}
+use Rattle.dmr_slot.specs.Push.{Memory, start, IsHeard, ArePushed, pushes, AllCarriedAt}
+use Rattle.dmr_slot.specs.Recordings.{handed, AllHeard, delayed, IsLineOf, LineByPushes, AllRecordedAs, vocoder_of, meant, LineOfWhatIsMeant}
 use Rattle.dmr_slot.proofs.Lines.{carried_by_pushes, line_by_pushes}
 
 -- ---- pushes, and what is heard in them

@@ -7,16 +7,14 @@ use Rattle.dmr_bptc.proofs.Written.{one_written}
 use Rattle.dmr_link.specs.declared.full_lc.FullLc.{FullLc}
 use Rattle.dmr_link.specs.declared.sealing.LcUse.TheVariants.{Terminator}
 use Rattle.dmr_link.proofs.SealedForms.{same_message}
-use Rattle.dmr_voice.specs.Bursts.{IsContent, IsSaid}
+use Rattle.dmr_voice.specs.Bursts.{IsContent}
 use Rattle.dmr_voice.specs.Carried.{IsCarried}
-use Rattle.dmr_voice.specs.Hearing.{IsDatum, IsHeardBurst, Hears, IsEncoded}
+use Rattle.dmr_voice.specs.Hearing.{IsDatum, Hears}
 use Rattle.dmr_voice.specs.declared.heard.Datum.{Datum}
 use Rattle.dmr_voice.specs.declared.heard.Heard.{Heard}
 use Rattle.dmr_voice.specs.declared.said.Content.{Content}
 use Rattle.dmr_voice.specs.declared.said.Role.{Role}
-use Rattle.dmr_voice.specs.declared.said.Said.{Said}
-use Rattle.dmr_voice.specs.declared.said.Said.TheVariants.{Nothing, Repeat}
-use Rattle.dmr_voice.specs.declared.said.VoiceOut.{VoiceOut}
+use Rattle.dmr_voice.specs.declared.said.Said.TheVariants.{Repeat}
 use Rattle.dmr_voice.specs.declared.said.VoiceOut.TheVariants as out
 use Rattle.dmr_voice.proofs.Bursting.{one_burst}
 use Rattle.dmr_voice.proofs.Carrying.{one_carried}
@@ -93,8 +91,7 @@ one_push before slot a b m n p q =
     let out_is : push_out before p.heard p.carried ≡ push_out before q.heard q.carried =
     ap (λ (h : Heard). push_out before h p.carried) same ∙ ap (push_out before q.heard) lc in
     let after_is : after_push before p.heard p.carried ≡ after_push before q.heard q.carried =
-    ap (λ (h : Heard). after_push before h p.carried) same ∙ ap (after_push before q.heard) lc in
-    (
+    ap (λ (h : Heard). after_push before h p.carried) same ∙ ap (after_push before q.heard) lc in (
       one_slot_out before.colour (push_out before q.heard q.carried) a b (subst (λ (line : LineOut). IsSlotOut before.colour line a) out_is p.gives) q.gives,
       p.remembers ∙ after_is ∙ sym q.remembers,
     )

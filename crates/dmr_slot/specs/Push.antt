@@ -35,7 +35,8 @@ pub record Memory : Type 0 where
 
 -- A line that has heard nothing.
 abbrev pub start : ℕ → ℕ → Memory
-start colour call_hang = record { colour = colour; call_hang = call_hang; window = replicate 6 silence; state = Idle; left = 0; lc = None }
+start colour call_hang =
+    record { colour = colour; call_hang = call_hang; window = replicate 6 silence; state = Idle; left = 0; lc = None }
 
 -- What always holds of a line: its places are six, and what it remembers fits its fields.
 pub record IsSound (colour : ℕ) (track : Tracking) (recent : Buffer Heard) (lc : Option FullLc) : Type 0 where

@@ -1,5 +1,5 @@
 -- Whole recordings: what the line makes of a recording, and what it makes of what was sent.
-use Rattle.std.specs.Prelude.{◌≡◌, ℕ, Bool, false, List, [], ◌∷◌, ◌++◌, replicate, Option, Some, None}
+use Rattle.std.specs.Prelude.{ℕ, Bool, false, List, [], ◌∷◌, ◌++◌, replicate, Option, Some, None}
 use Rattle.dmr_bits.specs.Bits.{bits_of_octets}
 use Rattle.dmr_burst.specs.Layout.{vocoder_field}
 use Rattle.dmr_link.specs.declared.full_lc.FullLc.{FullLc}
@@ -77,7 +77,7 @@ meant (c ∷ cs) (slot ∷ slots) = c.means (vocoder_of slot) ∷ meant cs slots
 -- line gives what it means, or else the call hang.
 abbrev pub LineOfWhatIsMeant : Type 0
 LineOfWhatIsMeant =
-    (colour call_hang lead : ℕ) (ts : List (Transmission × ℕ)) (slots : List (Option (List ℕ))) (outs : List SlotOut) (after : Memory) →
-    IsWellFormed colour ts → IsRecording colour (sent_list colour lead ts) slots →
+    (colour call_hang lead : ℕ) (ts : List (Transmission × ℕ)) (slots : List (Option (List ℕ))) (outs : List SlotOut) →
+    (after : Memory) → IsWellFormed colour ts → IsRecording colour (sent_list colour lead ts) slots →
     ArePushed (start colour call_hang) (handed slots) outs after →
     AreSlotOuts colour (lines call_hang [] (replicate 6 Nothing ++ meant (sent_list colour lead ts) slots)) outs

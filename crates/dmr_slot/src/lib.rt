@@ -16,3 +16,6 @@ mod line;
 
 pub use channel::Channel;
 pub use line::{SlotLine, SlotOut};
+
+#[cfg(test)]
+mod tests;

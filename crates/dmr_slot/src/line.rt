@@ -45,7 +45,14 @@ impl Model for SlotLine {
 
     ghost Value = { Memory };
 
-    ghost view = { λ l. record { colour = l.colour; call_hang = l.hang.frames; window = l.recent.items; state = l.track.state; left = l.hang.left; lc = l.hang.link_control } };
+    ghost view = { λ l. record {
+      colour = l.colour;
+      call_hang = l.hang.frames;
+      window = l.recent.items;
+      state = l.track.state;
+      left = l.hang.left;
+      lc = l.hang.link_control;
+    } };
 
     ghost invariant = { λ l. IsSound l.colour l.track l.recent l.hang.link_control };
 }
