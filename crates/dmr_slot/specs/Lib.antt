@@ -1,5 +1,6 @@
 pub mod Bursts
 pub mod Channel
+pub mod Clean
 pub mod Frames
 pub mod Line
 pub mod Push
