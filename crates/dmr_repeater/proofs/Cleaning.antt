@@ -1,14 +1,20 @@
--- What is sent of clean bursts is clean, and so is what the line sends.
-use Rattle.std.proofs.Common.{ℕ, ◌+◌, ◌%◌, ◌==◌, ◌≤◌, Bool, false, List, [], ◌∷◌, Option, Some, None, IfSome, refl, sym, subst, arith, lit≤, inr, replicate}
-use Rattle.std.specs.List.{AllByRecursion}
+-- What is sent of clean bursts is clean, and so is what the rules make of any frames.
+use Rattle.std.proofs.Common.{◌≡◌, ℕ, suc, ◌+◌, ◌%◌, ◌==◌, Bool, false, List, [], ◌∷◌, Option, Some, None, replicate, length, map}
+use Rattle.std.proofs.Common.{refl, sym, ap, ◌∙◌, subst, arith}
+use Rattle.std.proofs.lemmas.List.{length-map}
 use Rattle.dmr_burst.specs.declared.burst.Burst.{Burst}
-use Rattle.dmr_burst.specs.declared.burst.Burst.TheVariants.{Data, VoiceSync, Voice}
-use Rattle.dmr_csbk.specs.Block.{IsSealedMessage}
-use Rattle.dmr_repeater.specs.declared.line.LineSlot.{LineSlot}
-use Rattle.dmr_repeater.specs.declared.line.LineSlot.TheVariants.{Repeated, Idle, Silent}
+use Rattle.dmr_slot.specs.Channel.{ChannelOut, claims_of, frame_of, frames_of, has_traffic_within}
+use Rattle.dmr_slot.specs.Clean.{AreCleanBursts, burst_of}
+use Rattle.dmr_slot.specs.Frames.{AreSent}
+use Rattle.dmr_slot.specs.Push.{Memory as Line, ArePushed}
+use Rattle.dmr_slot.specs.declared.channel.Claim.{Claim}
+use Rattle.dmr_slot.specs.declared.line.SlotOut.{SlotOut}
+use Rattle.dmr_slot.proofs.CleanLines.{pushed_lines_are_clean}
+use Rattle.dmr_slot.proofs.Cleaning.{ArePairs, AllFramesSent, both_clean_alone, firsts, frame_claims, no_gate_frames, seconds}
 use Rattle.dmr_repeater.specs.declared.sending.DownlinkBurst.{DownlinkBurst}
-use Rattle.dmr_repeater.specs.Bursts.{idle_message, IsDataOf, GoesOutAs, IsLineSentAs}
-use Rattle.dmr_repeater.specs.Clean.{AreCleanBursts, AreCleanFrom, IsCleanBurst, IsCleanCach, IsCleanDownlink, IsCleanMessage, IsEncodedAs, IsSealedSlot, burst_in, bursts_in, first_slots, second_slots}
+use Rattle.dmr_repeater.specs.Clean.{AreCleanSlots, IsCleanCach, IsCleanDownlink, IsEncodedAs, burst_in, bursts_in, first_slots, second_slots}
+use Rattle.dmr_repeater.specs.Downlink.{Makes, slots_of, slots_in, frames_in, claims_in, marked_frames}
+use Rattle.dmr_repeater.specs.Frames.{Settings, slot_in, no_gateway, marked}
 use Rattle.dmr_repeater.specs.Pairs.{Pairwise}
 use Rattle.dmr_repeater.specs.Sent.{lcss_of, IsCachOf, IsSentAs, AreSentAs}
 
@@ -27,93 +33,102 @@ encoded_slots place [] (s ∷ more) u = absurd u
 encoded_slots place (slot ∷ slots) [] u = absurd u
 encoded_slots place (slot ∷ slots) (s ∷ more) u = (encoded_slot place slot s u.0, encoded_slots (place + 1) slots more u.1)
 
-pub sent_bursts_are_clean : (colour place : ℕ) (slots : List (Option DownlinkBurst)) (sent : List (Option (List ℕ × List ℕ))) → AreCleanBursts colour (bursts_in slots)
+pub sent_bursts_are_clean : (colour place : ℕ) (slots : List (Option DownlinkBurst)) (sent : List (Option (List ℕ × List ℕ))) → AreCleanSlots colour (bursts_in slots)
     → AreSentAs place slots sent → IsCleanDownlink colour sent
 sent_bursts_are_clean colour place slots sent clean u = record { bursts = bursts_in slots; encoded = encoded_slots place slots sent u; clean = clean }
 
-pub IsCleanDownlink-none : (colour : ℕ) → IsCleanDownlink colour []
-IsCleanDownlink-none colour = record { bursts = []; encoded = tt; clean = record { each = tt; first = tt; second = tt } }
+-- ---- both slots, side by side
+long_line : (m : Line) (slots : List (Option (List ℕ))) (outs : List SlotOut) (after : Line) → ArePushed m slots outs after → length outs ≡ length slots
+long_line m [] [] after u = refl
+long_line m [] (out ∷ outs) after u = absurd u
+long_line m (slot ∷ slots) [] after u = absurd u
+long_line m (slot ∷ slots) (out ∷ outs) after u = ap suc (long_line u.0 slots outs after u.2)
 
--- ---- the line has no voice
-abbrev IsVoiceless : Option Burst → Type 0
-IsVoiceless None = Unit {0}
-IsVoiceless (Some (Data own kind information)) = Unit {0}
-IsVoiceless (Some (VoiceSync vocoder)) = ⊥
-IsVoiceless (Some (Voice emb embedded vocoder)) = ⊥
+pairs_in : (first second : List SlotOut) → ArePairs (frames_in first second)
+pairs_in [] second = tt
+pairs_in (a ∷ first) [] = tt
+pairs_in (a ∷ first) (b ∷ second) = (refl, pairs_in first second)
 
-no_superframes : (bursts : List (Option Burst)) → AllByRecursion IsVoiceless bursts → AreCleanFrom [] bursts
-no_superframes [] u = tt
-no_superframes (None ∷ bs) u = no_superframes bs u.1
-no_superframes (Some (Data own kind information) ∷ bs) u = no_superframes bs u.1
-no_superframes (Some (VoiceSync vocoder) ∷ bs) u = absurd u.0
-no_superframes (Some (Voice emb embedded vocoder) ∷ bs) u = absurd u.0
+firsts_in : (first second : List SlotOut) → length first ≡ length second → firsts (frames_in first second) ≡ first
+firsts_in [] second e = refl
+firsts_in (a ∷ first) [] e = absurd (omega (arith, e))
+firsts_in (a ∷ first) (b ∷ second) e = ap (λ (outs : List SlotOut). a ∷ outs) (firsts_in first second (omega (arith, e)))
 
-all_first : {X : Type 0} (P : X → Type 0) (xs : List X) → AllByRecursion P xs → AllByRecursion P (first_slots xs)
-all_first P [] u = tt
-all_first P (a ∷ []) u = u
-all_first P (a ∷ b ∷ more) u = (u.0, all_first P more u.1.1)
+seconds_in : (first second : List SlotOut) → length first ≡ length second → seconds (frames_in first second) ≡ second
+seconds_in [] [] e = refl
+seconds_in [] (b ∷ second) e = absurd (omega (arith, e))
+seconds_in (a ∷ first) [] e = absurd (omega (arith, e))
+seconds_in (a ∷ first) (b ∷ second) e = ap (λ (outs : List SlotOut). b ∷ outs) (seconds_in first second (omega (arith, e)))
 
-all_second : {X : Type 0} (P : X → Type 0) (xs : List X) → AllByRecursion P xs → AllByRecursion P (second_slots xs)
-all_second P [] u = tt
-all_second P (a ∷ []) u = tt
-all_second P (a ∷ b ∷ more) u = (u.1.0, all_second P more u.1.1)
+claims_alone : (outs : List (List SlotOut)) → claims_in outs ≡ frame_claims outs (no_gate_frames (length outs))
+claims_alone [] = refl
+claims_alone (slots ∷ outs) = ap (λ (claims : List (List Claim)). claims_of slots no_gateway ∷ claims) (claims_alone outs)
 
-control_message : (message : List Bool) → IsSealedMessage message → IsCleanMessage 3 message
-control_message message sealed = record {
-  header = λ e. absurd (omega (arith, e));
-  terminator = λ e. absurd (omega (arith, e));
-  control = λ e. sealed;
-  data_header = λ e. absurd (omega (arith, e));
-  idle = λ e. absurd (omega (arith, e));
+all_frames_sent : (colour : ℕ) (frames : List (List ChannelOut)) (bursts : List (List (Option Burst))) → Pairwise (AreSent colour) frames bursts → AllFramesSent colour frames bursts
+all_frames_sent colour [] [] u = tt
+all_frames_sent colour [] (sent ∷ bursts) u = absurd u
+all_frames_sent colour (frame ∷ frames) [] u = absurd u
+all_frames_sent colour (frame ∷ frames) (sent ∷ bursts) u = (u.0, all_frames_sent colour frames bursts u.1)
+
+-- ---- what goes out, slot by slot
+burst_in_marked : (out : SlotOut) (burst : Option Burst) → burst_in (marked out burst) ≡ burst
+burst_in_marked out None = refl
+burst_in_marked out (Some burst) = refl
+
+two_sent : (colour : ℕ) (on_air : Bool) (a b : SlotOut) (sent : List (Option Burst)) → AreSent colour (frame_of on_air (claims_of (a ∷ b ∷ []) no_gateway)) sent → length sent ≡ 2
+two_sent colour on_air a b [] u = absurd u
+two_sent colour on_air a b (x ∷ []) u = absurd u.1
+two_sent colour on_air a b (x ∷ y ∷ []) u = refl
+two_sent colour on_air a b (x ∷ y ∷ z ∷ more) u = absurd u.1.1
+
+cons_by : (a b : Option Burst) (more others : List (Option Burst)) → a ≡ b → more ≡ others → a ∷ more ≡ b ∷ others
+cons_by a b more others e f = cc
+
+record SlotBySlot (first second : List SlotOut) (bursts : List (List (Option Burst))) : Type 0 where
+  first_is : first_slots (bursts_in (slots_of (marked_frames (frames_in first second) bursts))) ≡ firsts bursts
+  second_is : second_slots (bursts_in (slots_of (marked_frames (frames_in first second) bursts))) ≡ seconds bursts
+
+one_more : (a b : SlotOut) (first second : List SlotOut) (sent : List (Option Burst)) (bursts : List (List (Option Burst))) → length sent ≡ 2 → SlotBySlot first second bursts
+    → SlotBySlot (a ∷ first) (b ∷ second) (sent ∷ bursts)
+one_more a b first second [] bursts two u = absurd (omega (arith, two))
+one_more a b first second (x ∷ []) bursts two u = absurd (omega (arith, two))
+one_more a b first second (x ∷ y ∷ z ∷ more) bursts two u = absurd (omega (arith, two))
+one_more a b first second (x ∷ y ∷ []) bursts two u = record {
+  first_is = cons_by _ x _ _ (burst_in_marked a x) u.first_is;
+  second_is = cons_by _ y _ _ (burst_in_marked b y) u.second_is;
 }
 
-idle_is_clean : IsCleanMessage 9 idle_message
-idle_is_clean = record {
-  header = λ e. absurd (omega (arith, e));
-  terminator = λ e. absurd (omega (arith, e));
-  control = λ e. absurd (omega (arith, e));
-  data_header = λ e. absurd (omega (arith, e));
-  idle = λ e. refl;
-}
+slot_by_slot : (colour hang : ℕ) (back : List (List Claim)) (first second : List SlotOut) (bursts : List (List (Option Burst)))
+    → Pairwise (AreSent colour) (frames_of hang back (claims_in (frames_in first second))) bursts → SlotBySlot first second bursts
+slot_by_slot colour hang back [] second [] u = record { first_is = refl; second_is = refl }
+slot_by_slot colour hang back [] second (sent ∷ bursts) u = absurd u
+slot_by_slot colour hang back (a ∷ first) [] [] u = record { first_is = refl; second_is = refl }
+slot_by_slot colour hang back (a ∷ first) [] (sent ∷ bursts) u = absurd u
+slot_by_slot colour hang back (a ∷ first) (b ∷ second) [] u = absurd u
+slot_by_slot colour hang back (a ∷ first) (b ∷ second) (sent ∷ bursts) u =
+    let frame : List Claim = claims_of (a ∷ b ∷ []) no_gateway in
+    one_more a b first second sent bursts (two_sent colour (has_traffic_within (suc hang) (frame ∷ back)) a b sent u.0)
+    (slot_by_slot colour hang (frame ∷ back) first second bursts u.1)
 
-clean_data : (colour kind : ℕ) (message : List Bool) (burst : Burst) → kind ≤ 11 → IsCleanMessage kind message → IsDataOf colour kind message burst → IsCleanBurst colour burst
-clean_data colour kind message burst known clean u = subst (IsCleanBurst colour) (sym u.is) (refl, known, inr (inr (message, u.written, clean)))
-
-voiceless_data : (colour kind : ℕ) (message : List Bool) (burst : Burst) → IsDataOf colour kind message burst → IsVoiceless (Some burst)
-voiceless_data colour kind message burst u = subst (λ (b : Burst). IsVoiceless (Some b)) (sym u.is) tt
-
-clean_slot : (colour : ℕ) (slot : LineSlot) (out : Option DownlinkBurst) → IsSealedSlot slot → GoesOutAs colour slot out → IfSome (burst_in out) (IsCleanBurst colour)
-clean_slot colour slot None sealed u = tt
-clean_slot colour (Repeated message) (Some d) sealed u = clean_data colour 3 message d.burst (lit≤ tt) (control_message message sealed) u.0
-clean_slot colour Idle (Some d) sealed u = clean_data colour 9 idle_message d.burst (lit≤ tt) idle_is_clean u.0
-clean_slot colour Silent (Some d) sealed u = absurd (cc)
-
-voiceless_slot : (colour : ℕ) (slot : LineSlot) (out : Option DownlinkBurst) → GoesOutAs colour slot out → IsVoiceless (burst_in out)
-voiceless_slot colour slot None u = tt
-voiceless_slot colour (Repeated message) (Some d) u = voiceless_data colour 3 message d.burst u.0
-voiceless_slot colour Idle (Some d) u = voiceless_data colour 9 idle_message d.burst u.0
-voiceless_slot colour Silent (Some d) u = absurd (cc)
-
-clean_each : (colour : ℕ) (slots : List LineSlot) (out : List (Option DownlinkBurst)) → AllByRecursion IsSealedSlot slots → Pairwise (GoesOutAs colour) slots out
-    → AllByRecursion (λ slot. IfSome slot (IsCleanBurst colour)) (bursts_in out)
-clean_each colour [] [] sealed u = tt
-clean_each colour [] (d ∷ ds) sealed u = absurd u
-clean_each colour (slot ∷ slots) [] sealed u = absurd u
-clean_each colour (slot ∷ slots) (d ∷ ds) sealed u = (clean_slot colour slot d sealed.0 u.0, clean_each colour slots ds sealed.1 u.1)
-
-voiceless_each : (colour : ℕ) (slots : List LineSlot) (out : List (Option DownlinkBurst)) → Pairwise (GoesOutAs colour) slots out → AllByRecursion IsVoiceless (bursts_in out)
-voiceless_each colour [] [] u = tt
-voiceless_each colour [] (d ∷ ds) u = absurd u
-voiceless_each colour (slot ∷ slots) [] u = absurd u
-voiceless_each colour (slot ∷ slots) (d ∷ ds) u = (voiceless_slot colour slot d u.0, voiceless_each colour slots ds u.1)
-
-pub clean_slots : (colour place : ℕ) (slots : List LineSlot) (sent : List (Option (List ℕ × List ℕ))) → AllByRecursion IsSealedSlot slots
-    → IsLineSentAs colour place slots sent → IsCleanDownlink colour sent
-clean_slots colour place slots sent sealed u =
-    let voiceless = voiceless_each colour slots u.out u.bursts in
-    sent_bursts_are_clean colour place u.out sent
+-- ---- what the rules make
+pub clean_made : (s : Settings) (frames : List (List (Option (List ℕ)))) (sending : List (List (Option DownlinkBurst))) → Makes s frames sending
+    → AreCleanSlots s.colour (bursts_in (slots_of sending))
+clean_made s frames sending u =
+    let outs : List (List SlotOut) = frames_in u.first u.second in
+    let bursts = u.downlink.bursts in
+    let long : length u.first ≡ length u.second =
+    long_line _ (slots_in 0 frames) u.first u.first_line.0 u.first_line.1 ∙ length-map frames (slot_in 0)
+    ∙ sym (long_line _ (slots_in 1 frames) u.second u.second_line.0 u.second_line.1 ∙ length-map frames (slot_in 1)) in
+    let clean_first = pushed_lines_are_clean s.colour s.call_hang (slots_in 0 frames) u.first u.first_line.0 u.first_line.1 in
+    let clean_second = pushed_lines_are_clean s.colour s.call_hang (slots_in 1 frames) u.second u.second_line.0 u.second_line.1 in
+    let sent = all_frames_sent s.colour (frames_of s.channel_hang [] (claims_in outs)) bursts u.downlink.channel in
+    let both = both_clean_alone s.colour s.channel_hang [] outs bursts (pairs_in u.first u.second)
+    (subst (λ (line : List SlotOut). AreCleanBursts s.colour (map burst_of line)) (sym (firsts_in u.first u.second long)) clean_first)
+    (subst (λ (line : List SlotOut). AreCleanBursts s.colour (map burst_of line)) (sym (seconds_in u.first u.second long)) clean_second)
+    (subst (λ (claims : List (List Claim)). AllFramesSent s.colour (frames_of s.channel_hang [] claims) bursts) (claims_alone outs) sent) in
+    let slots = slot_by_slot s.colour s.channel_hang [] u.first u.second bursts u.downlink.channel in
+    subst (λ (out : List (List (Option DownlinkBurst))). AreCleanSlots s.colour (bursts_in (slots_of out))) (sym u.downlink.marks)
     (record {
-      each = clean_each colour slots u.out sealed u.bursts;
-      first = no_superframes (first_slots (bursts_in u.out)) (all_first IsVoiceless (bursts_in u.out) voiceless);
-      second = no_superframes (second_slots (bursts_in u.out)) (all_second IsVoiceless (bursts_in u.out) voiceless);
-    }) u.encoded
+      first = subst (AreCleanBursts s.colour) (sym slots.first_is) both.first;
+      second = subst (AreCleanBursts s.colour) (sym slots.second_is) both.second;
+    })

@@ -19,18 +19,13 @@ use Rattle.dmr_record.proofs.Spellings.{front_read, All-right}
 use Rattle.dmr_repeater.specs.declared.fault.RunFault.{RunFault}
 use Rattle.dmr_repeater.specs.declared.fault.RunFault.TheVariants.{File, Memory}
 use Rattle.dmr_repeater.specs.declared.fault.Stream.TheVariants.{Uplink, Outgoing as outgoing, Downlink, Received}
-use Rattle.dmr_repeater.specs.declared.line.LineSlot.{LineSlot}
-use Rattle.dmr_repeater.specs.Damage.{Hears, AreHeardAs}
-use Rattle.dmr_repeater.specs.Line.{silence, line_of, slots_of}
+use Rattle.dmr_repeater.specs.Downlink.{silence, handed}
+use Rattle.dmr_repeater.specs.Frames.{Settings, Memory as Past, start}
 use Rattle.dmr_repeater.specs.Pairs.{Pairwise}
-use Rattle.dmr_repeater.specs.Push.{Memory as Past, start, handed}
-use Rattle.dmr_repeater.specs.Runs.{IfOutgoing, Reads, Sends, ReadsRecords, WritesFirst, FindsFault, StopsWithUplink, HasOutgoing}
+use Rattle.dmr_repeater.specs.Runs.{IfOutgoing, Reads, Sends, ReadsRecords, FindsFault, StopsWithUplink, HasOutgoing}
 use Rattle.dmr_repeater.specs.Schedule.{Progress, unread, last_frame, IsReadFrom, Gives, AreDue, GivesDue, StopsIn, HasRecords}
-use Rattle.dmr_repeater.specs.Bursts.{IsLineSentAs}
-use Rattle.dmr_repeater.proofs.Early.{decided, handed_split, sealed_first, sealed_line_of}
-use Rattle.dmr_repeater.proofs.Cleaning.{clean_slots}
+use Rattle.dmr_repeater.proofs.Early.{handed_split, writes_first}
 use Rattle.dmr_repeater.proofs.Files.{consumed, left_behind}
-use Rattle.dmr_repeater.proofs.Pairs.{length-Pairwise}
 
 pub IfOutgoing-map : (e : RunFault) (P Q : RecordFault → Type 0) (X Y : Type 0) → ((fault : RecordFault) → P fault → Q fault) → (X → Y) → IfOutgoing e P X → IfOutgoing e Q Y
 IfOutgoing-map (File outgoing fault) P Q X Y found others u = found fault u
@@ -123,33 +118,19 @@ shown_behind frame e b c u =
     subst (λ (n : ℕ). ShowsOutgoingFault RECORD_LIMIT (length u.gives.sendings) n e u.part) u.gives.last
     (subst (λ (n : ℕ). ShowsOutgoingFault RECORD_LIMIT n u.new.last e u.part) count u.shown)
 
--- ---- what was written
-writes_first : (colour hang : ℕ) (frames : List (List (Option (List ℕ)))) (heard xs ys : List (List (Option (List Bool)))) (a b c : Option (List ℕ)) → AreHeardAs colour frames heard
-    → handed heard ≡ xs ++ ys → Appends a b (head_octets DOWNLINK_MAGIC) → Sends colour 0 (start hang) xs b c → WritesFirst colour hang heard (length xs) a c
-writes_first colour hang frames heard xs ys a b c hears e head u =
-    let slots = subst (λ (l : List (List LineSlot)). IsLineSentAs colour 0 (slots_of l) u.sent) (sym (decided hang xs ys heard e)) u.slots in
-    record {
-      sent = u.sent;
-      slots = slots;
-      clean = clean_slots colour 0 (slots_of (take (length xs) (line_of hang heard))) u.sent (sealed_first (length xs) (line_of hang heard) (sealed_line_of colour hang frames heard hears)) slots;
-      written = Appends-trans a b c (head_octets DOWNLINK_MAGIC) (downlink_octets u.sent) head u.written;
-    }
-
 -- ---- where a fault is found
-module _ (colour hang : ℕ) (m : Past) (fresh : m ≡ start hang) (e : RecordFault) (a b c h d w o p q : Option (List ℕ)) (uplink : Consumes a b (head_octets UPLINK_MAGIC)) (downlink : Appends h d (head_octets DOWNLINK_MAGIC))
-    (head : Consumes o p (head_octets OUTGOING_MAGIC)) where
-  finds : (frames : List (List (Option (List ℕ)))) (heard xs ys : List (List (Option (List Bool)))) (frame : ℕ) → Reads colour frames heard [] b c → handed heard ≡ xs ++ ys → Sends colour 0 m xs d w
-      → (length xs ≡ length frames) ⊎ (IsAtEnd c × (length frames < length xs) × (length xs ≤ length frames + 6)) → StopsIn frame e unread p q → (length xs < length frames + 6 → frame ≤ length xs)
-      → FindsFault colour hang e a c h w o q
-  finds frames heard xs ys frame reads split sends step u within = record {
+module _ (s : Settings) (m : Past) (fresh : m ≡ start s) (e : RecordFault) (a b c h d w o p q : Option (List ℕ)) (uplink : Consumes a b (head_octets UPLINK_MAGIC))
+    (downlink : Appends h d (head_octets DOWNLINK_MAGIC)) (head : Consumes o p (head_octets OUTGOING_MAGIC)) where
+  finds : (frames xs ys : List (List (Option (List ℕ)))) (after : Past) (r frame : ℕ) → Reads frames [] b c → handed frames ≡ xs ++ ys → Sends 0 m xs after 0 r d w
+      → (length xs ≡ length frames) ⊎ (IsAtEnd c × (length frames < length xs) × (length xs ≤ length frames + 6)) → StopsIn frame e unread p q
+      → (length xs < length frames + 6 → frame ≤ length xs) → FindsFault s e a c h w o q
+  finds frames xs ys after r frame reads split sends step u within = record {
     frames = frames;
-    heard = heard;
     each = reads.each;
-    hears = reads.hears;
     uplink = Consumes-trans a b c (head_octets UPLINK_MAGIC) (frames_octets frames) uplink (subst (Consumes b c) (append-nil (frames_octets frames)) reads.read);
     frame = length xs;
     step = step;
-    writes = writes_first colour hang frames heard xs ys h d w reads.hears split downlink (subst (λ (l : Past). Sends colour 0 l xs d w) fresh sends);
+    writes = writes_first s frames xs ys after r h d w split downlink (subst (λ (l : Past). Sends 0 l xs after 0 r d w) fresh sends);
     sendings = u.gives.sendings;
     part = u.part;
     reads = reads_records u.new u.given u.part o p q head u.gives u.few;
@@ -157,24 +138,25 @@ module _ (colour hang : ℕ) (m : Past) (fresh : m ≡ start hang) (e : RecordFa
     shown = shown_behind frame e p q u;
   }
     where
-      due_later : (g : ℕ) (sendings : List Sending) → frame ≤ g → AllByRecursion (λ s. s.frame ≤ frame) sendings → AllByRecursion (λ s. s.frame ≤ g) sendings
+      due_later : (g : ℕ) (sendings : List Sending) → frame ≤ g → AllByRecursion (λ sending. sending.frame ≤ frame) sendings
+          → AllByRecursion (λ sending. sending.frame ≤ g) sendings
       due_later g [] h p = tt
-      due_later g (s ∷ ss) h p = let first = p.0 in (omega arith, due_later g ss h p.1)
+      due_later g (x ∷ xs) h p = let first = p.0 in (omega arith, due_later g xs h p.1)
 
   -- while the uplink lasts
-  pub finds_with_uplink : StopsWithUplink colour m e unread b c d w p q → FindsFault colour hang e a c h w o q
+  pub finds_with_uplink : StopsWithUplink m e unread b c d w p q → FindsFault s e a c h w o q
   finds_with_uplink u =
-      let split : handed u.heard ≡ u.handed ++ (u.rest ++ replicate 5 silence) =
-      ap (λ l. l ++ replicate 5 silence) u.split ∙ append_assoc u.handed u.rest (replicate 5 silence) in
+      let split : handed u.frames ≡ u.given ++ (u.rest ++ replicate 5 silence) =
+      ap (λ l. l ++ replicate 5 silence) u.split ∙ append_assoc u.given u.rest (replicate 5 silence) in
       let step = u.step in
-      finds u.frames u.heard u.handed (u.rest ++ replicate 5 silence) (length u.frames) u.reads split u.sends (inl u.step) u.stops (λ before. omega arith)
+      finds u.frames u.given (u.rest ++ replicate 5 silence) u.after u.repeated (length u.frames) u.reads split u.sends (inl u.step) u.stops (λ before. omega arith)
 
   -- past its end, in one of the five frames that are left or behind them
-  pub finds_past_uplink : (frames : List (List (Option (List ℕ)))) (heard : List (List (Option (List Bool)))) (count frame : ℕ) → count ≤ 5 → Reads colour frames heard [] b c → IsAtEnd c
-      → Sends colour 0 m ((silence ∷ heard) ++ replicate count silence) d w → StopsIn frame e unread p q → (count < 5 → frame ≡ length (silence ∷ heard) + count) → FindsFault colour hang e a c h w o q
-  finds_past_uplink frames heard count frame few reads end sends u at =
-      let xs : List (List (Option (List Bool))) = (silence ∷ heard) ++ replicate count silence in
-      let long : length xs ≡ length heard + 1 + count = simp (length-append, length-replicate) (omega arith) in
-      let same = length-Pairwise (Pairwise (Hears colour)) frames heard reads.hears in
-      finds frames heard xs (replicate (5 - count) silence) frame reads (handed_split heard count few) sends
+  pub finds_past_uplink : (frames : List (List (Option (List ℕ)))) (after : Past) (r count frame : ℕ) → count ≤ 5 → Reads frames [] b c → IsAtEnd c
+      → Sends 0 m ((silence ∷ frames) ++ replicate count silence) after 0 r d w → StopsIn frame e unread p q → (count < 5 → frame ≡ length (silence ∷ frames) + count)
+      → FindsFault s e a c h w o q
+  finds_past_uplink frames after r count frame few reads end sends u at =
+      let xs : List (List (Option (List ℕ))) = (silence ∷ frames) ++ replicate count silence in
+      let long : length xs ≡ length frames + 1 + count = simp (length-append, length-replicate) (omega arith) in
+      finds frames xs (replicate (5 - count) silence) after r frame reads (handed_split frames count few) sends
       (inr (end, omega arith, omega arith)) u (λ before. let now = at (omega arith) in omega arith)

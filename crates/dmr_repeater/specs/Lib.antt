@@ -1,10 +1,8 @@
-pub mod Bursts
 pub mod Clean
-pub mod Damage
-pub mod Heard
-pub mod Line
+pub mod Downlink
+pub mod Frames
+pub mod Headline
 pub mod Pairs
-pub mod Push
 pub mod Runs
 pub mod Schedule
 pub mod Sent

@@ -1,42 +1,41 @@
 //! The repeater, frame after frame.
-ghost use Rattle.std.specs.Prelude.{◌≡◌, ◌+◌, ◌*◌, ◌^◌, ◌<◌, ◌≤◌, false, true, length, IfErr, OnOk, OnErr};
+ghost use Rattle.std.specs.Prelude.{◌≡◌, ◌+◌, ◌*◌, ◌^◌, ◌<◌, ◌≤◌, false, true, IfErr, OnOk, OnErr};
 ghost use Rattle.std.specs.Io.KnownBytes.{Appends};
 ghost use Rattle.dmr_record.specs.Devices.{Tears};
 ghost use Rattle.dmr_record.specs.Downlink.{downlink_octets};
-ghost use Rattle.dmr_repeater.specs.Runs.{is_repeated as slot_is_repeated, repeated_count};
+ghost use Rattle.dmr_repeater.specs.Downlink.{is_repeated as slot_is_repeated, repeated_count};
 
-use crate::bursts::bursts_of_frame;
-use crate::line::{Line, LineSlot};
-use crate::sending::encode_frame;
+use crate::lines::Lines;
+use crate::sending::{DownlinkBurst, encode_frame};
 use crate::summary::Summary;
-use dmr_bits::Bits;
 use dmr_record::{RecordFault, Sink, write_slot};
 
-/// What is heard in a frame, as the 96 bits of a block in each slot.
-pub type HeardFrame = [Option<Bits<96>>; 2];
+/// A frame of the uplink: a burst in each slot, or nothing.
+pub type UplinkFrame = [Option<[u8; 33]>; 2];
 
-/// A frame in which nothing is heard.
-pub const SILENCE: HeardFrame = [None, None];
+/// A frame in which nothing is received.
+pub const SILENCE: UplinkFrame = [None, None];
 
 /// The repeater between two frames.
 #[derive(Drop)]
 pub struct Repeater {
-    pub colour: u8,
-    pub line: Line,
+    pub lines: Lines,
     pub frames: u32,
     pub repeated: u32,
-    ghost colour_fits: { colour < 16 },
 }
 
 /// Whether a slot repeats a burst.
-fn is_repeated(slot: &LineSlot) -> bool
+fn is_repeated(slot: &Option<DownlinkBurst>) -> bool
     ensures value { result ≡ slot_is_repeated slot.now }
 {
-    matches!(slot, LineSlot::Repeated(_))
+    match slot {
+        Some(sending) => sending.is_repeated,
+        None => false,
+    }
 }
 
 /// How many slots of a frame repeat a burst.
-fn count_repeated(slots: &[LineSlot; 2]) -> u32
+fn count_repeated(slots: &[Option<DownlinkBurst>; 2]) -> u32
     ensures value { result ≡ repeated_count slots.now }
     ensures bound { result ≤ 2 }
 {
@@ -62,34 +61,32 @@ fn write_frame<D: Sink>(
 }
 
 impl Repeater {
-    ghost use Rattle.dmr_repeater.specs.Line.{slots_of};
-    ghost use Rattle.dmr_repeater.specs.Push.{after_push, push_out};
     ghost use Rattle.dmr_repeater.specs.Runs.{Sends, SendsFront};
     ghost use Rattle.std.specs.Prelude.{[], ◌∷◌};
 
-    /// Takes what is heard in a frame, and writes the frame that is decided then.
-    pub fn send<D: Sink>(&mut self, downlink: &mut D, heard: HeardFrame) -> Result<(), RecordFault>
+    /// Takes a frame of the uplink, and writes the frame of the downlink that is decided then.
+    pub fn send<D: Sink>(
+        &mut self,
+        downlink: &mut D,
+        frame: &UplinkFrame,
+    ) -> Result<(), RecordFault>
         requires well { D.has_failed downlink.old ≡ false }
         requires frames { self.old.frames < 2 ^ 30 }
         requires repeated { self.old.repeated ≤ 2 * self.old.frames }
-        ensures colour { self.new.colour ≡ self.old.colour }
-        ensures line { self.new.line ≡ after_push self.old.line heard }
         ensures frames { self.new.frames ≡ self.old.frames + 1 }
-        ensures repeated { self.new.repeated ≡ self.old.repeated + repeated_count (push_out self.old.line heard) }
         ensures few { self.new.repeated ≤ 2 * self.new.frames }
-        ensures two { length (push_out self.old.line heard) ≡ 2 }
-        ensures sent { OnOk result (Sends self.old.colour (2 * self.old.frames) self.old.line (heard ∷ []) (D.held downlink.old) (D.held downlink.new)) }
+        ensures sent { OnOk result (Sends (2 * self.old.frames) self.old.lines (frame.now ∷ []) self.new.lines self.old.repeated self.new.repeated
+            (D.held downlink.old) (D.held downlink.new)) }
         ensures well { OnOk result (D.has_failed downlink.new ≡ false) }
         ensures fault { IfErr result (λ e. e ≡ RecordFault.Write) }
         ensures failed { OnErr result (D.has_failed downlink.new ≡ true) }
-        ensures torn { OnErr result (SendsFront self.old.colour (2 * self.old.frames) self.old.line (heard ∷ []) (D.held downlink.old) (D.held downlink.new)) }
+        ensures torn { OnErr result (SendsFront (2 * self.old.frames) self.old.lines (frame.now ∷ []) (D.held downlink.old) (D.held downlink.new)) }
     {
-        let slots = self.line.push(heard);
-        let bursts = bursts_of_frame(self.colour, &slots);
-        let frame = encode_frame(2 * self.frames, &bursts);
+        let slots = self.lines.pass(frame);
+        let octets = encode_frame(2 * self.frames, &slots);
         self.frames += 1;
         self.repeated += count_repeated(&slots);
-        write_frame(downlink, frame)
+        write_frame(downlink, octets)
     }
 
     /// What was done so far, where so many records of the outgoing file were read and none is offered.

@@ -5,14 +5,18 @@ ghost use Rattle.std.specs.Io.KnownBytes.{Appends, Consumes, IsAtEnd};
 ghost use Rattle.dmr_record.specs.Head.{head_octets, ShowsHeadFault};
 ghost use Rattle.dmr_record.specs.Outgoing.{Sending, outgoing_file};
 ghost use Rattle.dmr_record.specs.Uplink.{IsFrame, frames_octets, uplink_file};
-ghost use Rattle.dmr_repeater.specs.Line.{line_of, slots_of, silence};
-ghost use Rattle.dmr_repeater.specs.Push.{start};
+ghost use Rattle.dmr_repeater.specs.Downlink.{silence};
+ghost use Rattle.dmr_repeater.specs.Frames.{settings_in, settings_of, start};
+ghost use Rattle.dmr_repeater.specs.Headline.{HasRecording, WritesWhatIsMeant};
+ghost use Rattle.dmr_repeater.specs.Runs.{EndsEarly, FindsFault, FindsHeadFault, FrontOf, HasOutgoing, IfOutgoing, Reads, ReadsFile, ReadsRecords};
+ghost use Rattle.dmr_repeater.specs.Runs.{ReadsWholeRecords, Sends, SendsFront, StopsPastUplink, StopsWithUplink, WritesFile};
+ghost use Rattle.dmr_repeater.specs.Runs.{is_downlink_failure, is_failure, is_outgoing_failure, is_received_failure, is_uplink_failure};
 ghost use Rattle.dmr_repeater.specs.Schedule.{GivesDue, HasRecords};
-ghost use Rattle.dmr_repeater.specs.Runs.{EndsEarly, FindsFault, FindsHeadFault, FrontOf, HasOutgoing, HasRecording, IfOutgoing, IsAfter, Reads, ReadsFile, ReadsFront, ReadsRecords, ReadsWholeRecords, Sends, SendsFront, StopsPastUplink, StopsWithUplink, WritesFile, WritesFront, is_downlink_failure, is_failure, is_outgoing_failure, is_received_failure, is_uplink_failure, repeated_count};
+ghost use Rattle.dmr_voice.specs.Transmissions.{Transmission, sent_list};
+ghost use Rattle.dmr_voice.specs.WellFormed.{IsWellFormed};
 
 use crate::fault::{RunFault, Stream};
-use crate::hearing::hear_frame;
-use crate::line::Line;
+use crate::lines::Lines;
 use crate::repeater::{Repeater, SILENCE};
 use crate::schedule::Schedule;
 use crate::summary::Summary;
@@ -37,20 +41,18 @@ fn repeat_uplink<U: Source, O: Source, D: Sink>(
     requires downlink { D.has_failed downlink.old ≡ false }
     requires fresh { (repeater.old.frames ≡ 0) × (repeater.old.repeated ≡ 0) }
     requires met { schedule.old.at_end ≡ true → IsAtEnd (O.left outgoing.old) }
-    ensures colour { repeater.new.colour ≡ repeater.old.colour }
-    ensures all { OnOk result ((frames : List (List (Option (List ℕ)))) × (heard : List (List (Option (List Bool))))
-        × Reads repeater.old.colour frames heard [] (U.left uplink.old) (U.left uplink.new)
-        × Sends repeater.old.colour 0 repeater.old.line (silence ∷ heard) (D.held downlink.old) (D.held downlink.new)
-        × IsAfter repeater.old.line 0 0 (silence ∷ heard) repeater.new.line repeater.new.frames repeater.new.repeated) }
+    ensures all { OnOk result ((frames : List (List (Option (List ℕ)))) × Reads frames [] (U.left uplink.old) (U.left uplink.new)
+        × Sends 0 repeater.old.lines (silence ∷ frames) repeater.new.lines 0 repeater.new.repeated (D.held downlink.old) (D.held downlink.new)
+        × (repeater.new.frames ≡ length frames + 1)) }
     ensures end { OnOk result (IsAtEnd (U.left uplink.new)) }
     ensures few { OnOk result ((repeater.new.frames ≤ FRAME_LIMIT + 1) × (repeater.new.repeated ≤ 2 * repeater.new.frames)) }
     ensures given { OnOk result (GivesDue repeater.new.frames schedule.old schedule.new (O.left outgoing.old) (O.left outgoing.new)) }
     ensures met { OnOk result (schedule.new.at_end ≡ true → IsAtEnd (O.left outgoing.new)) }
-    ensures part { OnErr result ((frames : List (List (Option (List ℕ)))) × (heard : List (List (Option (List Bool)))) × (part : List ℕ)
-        × (handed : List (List (Option (List Bool)))) × (rest : List (List (Option (List Bool)))) × (silence ∷ heard ≡ handed ++ rest)
-        × Reads repeater.old.colour frames heard part (U.left uplink.old) (U.left uplink.new)
-        × SendsFront repeater.old.colour 0 repeater.old.line handed (D.held downlink.old) (D.held downlink.new)) }
-    ensures stopped { IfErr result (λ e. IfOutgoing e (λ fault. StopsWithUplink repeater.old.colour repeater.old.line fault schedule.old
+    ensures part { OnErr result ((frames : List (List (Option (List ℕ)))) × (part : List ℕ)
+        × (given : List (List (Option (List ℕ)))) × (rest : List (List (Option (List ℕ)))) × (silence ∷ frames ≡ given ++ rest)
+        × Reads frames part (U.left uplink.old) (U.left uplink.new)
+        × SendsFront 0 repeater.old.lines given (D.held downlink.old) (D.held downlink.new)) }
+    ensures stopped { IfErr result (λ e. IfOutgoing e (λ fault. StopsWithUplink repeater.old.lines fault schedule.old
         (U.left uplink.old) (U.left uplink.new) (D.held downlink.old) (D.held downlink.new) (O.left outgoing.old) (O.left outgoing.new))
         ((frame : ℕ) × GivesDue frame schedule.old schedule.new (O.left outgoing.old) (O.left outgoing.new))) }
     ensures well { OnOk result ((U.has_failed uplink.new ≡ false) × (O.has_failed outgoing.new ≡ false) × (D.has_failed downlink.new ≡ false)) }
@@ -61,19 +63,19 @@ fn repeat_uplink<U: Source, O: Source, D: Sink>(
         → U.left uplink.old ≡ Some (frames_octets frames) → (sendings : List Sending) → HasRecords schedule.old sendings (O.left outgoing.old)
         → is_failure e ≡ true) }
 {
-    let mut heard = SILENCE;
+    let mut frame = SILENCE;
     let mut before = 0;
     loop {
         if let Err(fault) = schedule.pass_due(outgoing, repeater.frames) {
             return Err(RunFault::File(Stream::Outgoing, fault));
         }
-        if let Err(fault) = repeater.send(downlink, heard) {
+        if let Err(fault) = repeater.send(downlink, &frame) {
             return Err(RunFault::File(Stream::Downlink, fault));
         }
         match read_frame(uplink, before) {
             Ok(None) => return Ok(()),
-            Ok(Some(frame)) => {
-                heard = hear_frame(repeater.colour, &frame);
+            Ok(Some(next)) => {
+                frame = next;
                 before += 1;
             }
             Err(fault) => return Err(RunFault::File(Stream::Uplink, fault)),
@@ -93,13 +95,15 @@ fn send_rest<O: Source, D: Sink>(
     requires frames { repeater.old.frames < 2 ^ 29 }
     requires repeated { repeater.old.repeated ≤ 2 * repeater.old.frames }
     requires met { schedule.old.at_end ≡ true → IsAtEnd (O.left outgoing.old) }
-    ensures sent { OnOk result (Sends repeater.old.colour (2 * repeater.old.frames) repeater.old.line (replicate 5 silence) (D.held downlink.old) (D.held downlink.new)) }
-    ensures after { OnOk result (IsAfter repeater.old.line repeater.old.frames repeater.old.repeated (replicate 5 silence) repeater.new.line repeater.new.frames repeater.new.repeated) }
+    ensures sent { OnOk result (Sends (2 * repeater.old.frames) repeater.old.lines (replicate 5 silence) repeater.new.lines
+        repeater.old.repeated repeater.new.repeated (D.held downlink.old) (D.held downlink.new)) }
+    ensures after { OnOk result (repeater.new.frames ≡ repeater.old.frames + 5) }
     ensures given { OnOk result (GivesDue (repeater.old.frames + 5) schedule.old schedule.new (O.left outgoing.old) (O.left outgoing.new)) }
     ensures met { OnOk result (schedule.new.at_end ≡ true → IsAtEnd (O.left outgoing.new)) }
     ensures torn { OnErr result ((count : ℕ) × (count ≤ 5)
-        × SendsFront repeater.old.colour (2 * repeater.old.frames) repeater.old.line (replicate count silence) (D.held downlink.old) (D.held downlink.new)) }
-    ensures stopped { IfErr result (λ e. IfOutgoing e (λ fault. StopsPastUplink repeater.old.colour repeater.old.frames repeater.old.line fault schedule.old
+        × SendsFront (2 * repeater.old.frames) repeater.old.lines (replicate count silence) (D.held downlink.old) (D.held downlink.new)) }
+    ensures stopped { IfErr result (λ e. IfOutgoing e
+        (λ fault. StopsPastUplink repeater.old.frames repeater.old.lines repeater.old.repeated fault schedule.old
         (D.held downlink.old) (D.held downlink.new) (O.left outgoing.old) (O.left outgoing.new))
         ((frame : ℕ) × GivesDue frame schedule.old schedule.new (O.left outgoing.old) (O.left outgoing.new))) }
     ensures well { OnOk result ((O.has_failed outgoing.new ≡ false) × (D.has_failed downlink.new ≡ false)) }
@@ -111,7 +115,7 @@ fn send_rest<O: Source, D: Sink>(
         if let Err(fault) = schedule.pass_due(outgoing, repeater.frames) {
             return Err(RunFault::File(Stream::Outgoing, fault));
         }
-        if let Err(fault) = repeater.send(downlink, SILENCE) {
+        if let Err(fault) = repeater.send(downlink, &SILENCE) {
             return Err(RunFault::File(Stream::Downlink, fault));
         }
     }
@@ -178,21 +182,20 @@ fn run_files<U: Source, O: Source, D: Sink, R: Sink>(
     requires downlink { D.has_failed downlink.old ≡ false }
     requires received { R.has_failed received.old ≡ false }
     requires fresh { (repeater.old.frames ≡ 0) × (repeater.old.repeated ≡ 0) }
-    requires start { repeater.old.line ≡ start repeater.old.line.hang }
-    ensures all { OnOk result ((frames : List (List (Option (List ℕ)))) × (heard : List (List (Option (List Bool))))
-        × ReadsFile repeater.old.colour frames heard (U.left uplink.old) (U.left uplink.new)
-        × WritesFile repeater.old.colour repeater.old.line.hang heard (D.held downlink.old) (D.held downlink.new)
-        × (repeater.new.frames ≡ length frames + 6)
-        × (repeater.new.repeated ≡ repeated_count (slots_of (line_of repeater.old.line.hang heard)))) }
+    requires start { repeater.old.lines ≡ start (settings_in repeater.old.lines) }
+    ensures all { OnOk result ((frames : List (List (Option (List ℕ)))) × ReadsFile frames (U.left uplink.old) (U.left uplink.new)
+        × WritesFile (settings_in repeater.old.lines) frames repeater.new.repeated (D.held downlink.old) (D.held downlink.new)
+        × (repeater.new.frames ≡ length frames + 6)) }
     ensures outgoing { IfOk result (λ count. (sendings : List Sending) × ReadsRecords sendings [] (O.left outgoing.old) (O.left outgoing.new)
         × IsAtEnd (O.left outgoing.new) × (count ≡ length sendings)) }
     ensures stopped { IfErr result (λ e. IfOutgoing e
         (λ fault. FindsHeadFault fault (U.left uplink.old) (U.left uplink.new) (D.held downlink.old) (D.held downlink.new) (O.left outgoing.old) (O.left outgoing.new)
-        ⊎ FindsFault repeater.old.colour repeater.old.line.hang fault (U.left uplink.old) (U.left uplink.new)
+        ⊎ FindsFault (settings_in repeater.old.lines) fault (U.left uplink.old) (U.left uplink.new)
         (D.held downlink.old) (D.held downlink.new) (O.left outgoing.old) (O.left outgoing.new))
         (ReadsWholeRecords (O.left outgoing.old) (O.left outgoing.new))) }
     ensures received { OnOk result (Appends (R.held received.old) (R.held received.new) (head_octets RECEIVED_MAGIC)) }
-    ensures part { OnErr result (EndsEarly repeater.old.colour repeater.old.line.hang (U.left uplink.old) (U.left uplink.new) (D.held downlink.old) (D.held downlink.new)) }
+    ensures part { OnErr result (EndsEarly (settings_in repeater.old.lines) (U.left uplink.old) (U.left uplink.new)
+        (D.held downlink.old) (D.held downlink.new)) }
     ensures torn { OnErr result (FrontOf (R.held received.old) (R.held received.new) (head_octets RECEIVED_MAGIC)) }
     ensures device { IfErr result (λ e. (U.has_failed uplink.new ≡ is_uplink_failure e) × (O.has_failed outgoing.new ≡ is_outgoing_failure e)
         × (D.has_failed downlink.new ≡ is_downlink_failure e) × (R.has_failed received.new ≡ is_received_failure e)) }
@@ -218,11 +221,13 @@ fn run_files<U: Source, O: Source, D: Sink, R: Sink>(
     Ok(schedule.records())
 }
 
-/// Repeats a recording of the uplink on the downlink, frame by frame: a control signalling block of the colour code goes out
-/// six frames after it came, and the repeater stays on the air for the channel hang after it. Frame f goes out once uplink frame
-/// f-1 is read, and then the records of the outgoing file up to frame f, with one read ahead; the rest of them is read behind the
-/// last frame. No record is offered yet. It keeps no list that grows, and takes memory once, before it reads or writes anything.
-/// An `Err` says which file it could not read or write; what was written before stays.
+/// Repeats a recording of the uplink on the downlink, frame by frame. What a mobile station of the colour code sends in a slot
+/// goes out in that slot six frames later, each burst encoded anew: voice with its superframes made whole, and data. Where
+/// nothing is repeated, a call holds its slot for the call hang, and idle bursts keep both slots on the air for the channel hang.
+/// Frame f goes out once uplink frame f-1 is read, and then the records of the outgoing file up to frame f, with one read ahead;
+/// the rest of them is read behind the last frame. No record is offered yet. It keeps no list that grows, and takes memory once for
+/// each slot, before it reads or writes anything. An `Err` says which file it could not read or write; what was written before
+/// stays.
 pub fn run<U: Source, O: Source, D: Sink, R: Sink>(
     alloc: Global,
     config: Config,
@@ -236,24 +241,20 @@ pub fn run<U: Source, O: Source, D: Sink, R: Sink>(
     requires downlink { D.has_failed downlink.old ≡ false }
     requires received { R.has_failed received.old ≡ false }
 
-    // Of any list that was sent, and of any recording of it within the limits of damage, the downlink is slot by slot the exact
-    // encoding of what the line makes of the list.
-    ensures whole { OnOk result ((meant : List (List (Option (List Bool)))) (frames : List (List (Option (List ℕ))))
-        → HasRecording config.colour meant frames (U.left uplink.old)
-        → WritesFile config.colour config.channel_hang meant (D.held downlink.old) (D.held downlink.new)) }
-
-    // Where the run ends early, a front of that is written.
-    ensures front { OnErr result ((meant : List (List (Option (List Bool)))) (frames : List (List (Option (List ℕ))))
-        → HasRecording config.colour meant frames (U.left uplink.old)
-        → (count : ℕ) × WritesFront config.colour config.channel_hang meant count (D.held downlink.old) (D.held downlink.new)) }
+    // Of any well-formed transmissions in each slot, and of any recording of them that is damaged within the limits, the downlink
+    // is slot by slot the exact encoding of what they mean, and else the call hang, idle and silence; six frames more than the
+    // recording has.
+    ensures whole { IfOk result (λ summary. (lead_1 lead_2 : ℕ) (first second : List (Transmission × ℕ)) (frames : List (List (Option (List ℕ))))
+        → IsWellFormed config.colour first → IsWellFormed config.colour second
+        → HasRecording config.colour (sent_list config.colour lead_1 first) (sent_list config.colour lead_2 second) frames (U.left uplink.old)
+        → WritesWhatIsMeant (settings_of config) (sent_list config.colour lead_1 first) (sent_list config.colour lead_2 second) frames summary.repeated
+        (D.held downlink.old) (D.held downlink.new) × (summary.frames ≡ length frames + 6)) }
 
     // Whatever the octets are, the downlink is what the rules make of the frames that were read, or a front of it, all clean.
-    ensures all { IfOk result (λ summary. (frames : List (List (Option (List ℕ)))) × (heard : List (List (Option (List Bool))))
-        × ReadsFile config.colour frames heard (U.left uplink.old) (U.left uplink.new)
-        × WritesFile config.colour config.channel_hang heard (D.held downlink.old) (D.held downlink.new)
-        × (summary.frames ≡ length frames + 6)
-        × (summary.repeated ≡ repeated_count (slots_of (line_of config.channel_hang heard)))) }
-    ensures part { OnErr result (EndsEarly config.colour config.channel_hang (U.left uplink.old) (U.left uplink.new) (D.held downlink.old) (D.held downlink.new)) }
+    ensures all { IfOk result (λ summary. (frames : List (List (Option (List ℕ)))) × ReadsFile frames (U.left uplink.old) (U.left uplink.new)
+        × WritesFile (settings_of config) frames summary.repeated (D.held downlink.old) (D.held downlink.new)
+        × (summary.frames ≡ length frames + 6)) }
+    ensures part { OnErr result (EndsEarly (settings_of config) (U.left uplink.old) (U.left uplink.new) (D.held downlink.old) (D.held downlink.new)) }
 
     // All of the outgoing file is read, the file of some records, and none of them is offered.
     ensures outgoing { IfOk result (λ summary. (sendings : List Sending) × ReadsRecords sendings [] (O.left outgoing.old) (O.left outgoing.new)
@@ -263,7 +264,7 @@ pub fn run<U: Source, O: Source, D: Sink, R: Sink>(
     // reason, whole records were read.
     ensures stopped { IfErr result (λ e. IfOutgoing e
         (λ fault. FindsHeadFault fault (U.left uplink.old) (U.left uplink.new) (D.held downlink.old) (D.held downlink.new) (O.left outgoing.old) (O.left outgoing.new)
-        ⊎ FindsFault config.colour config.channel_hang fault (U.left uplink.old) (U.left uplink.new)
+        ⊎ FindsFault (settings_of config) fault (U.left uplink.old) (U.left uplink.new)
         (D.held downlink.old) (D.held downlink.new) (O.left outgoing.old) (O.left outgoing.new))
         (ReadsWholeRecords (O.left outgoing.old) (O.left outgoing.new))) }
 
@@ -282,12 +283,11 @@ pub fn run<U: Source, O: Source, D: Sink, R: Sink>(
     ensures honest { IfErr result (λ e. (frames : List (List (Option (List ℕ)))) → AllByRecursion IsFrame frames → length frames ≤ FRAME_LIMIT
         → U.left uplink.old ≡ Some (uplink_file frames) → (sendings : List Sending) → HasOutgoing sendings (O.left outgoing.old) → is_failure e ≡ true) }
 {
-    let Ok(line) = Line::new(alloc, config.channel_hang) else {
+    let Ok(lines) = Lines::new(alloc, &config) else {
         return Err(RunFault::Memory);
     };
     let mut repeater = Repeater {
-        colour: config.colour,
-        line,
+        lines,
         frames: 0,
         repeated: 0,
     };

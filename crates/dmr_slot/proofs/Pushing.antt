@@ -6,6 +6,7 @@ use Rattle.circular_buffer.specs.Buffer.{Buffer, buffer, keep_last}
 use Rattle.dmr_link.specs.declared.full_lc.FullLc.{FullLc}
 use Rattle.dmr_voice.specs.Bursts.{IsSaid}
 use Rattle.dmr_voice.specs.Carried.{IsCarried}
+use Rattle.dmr_voice.specs.DamagedRecordings.{IsAnswer}
 use Rattle.dmr_voice.specs.Fit.{IsFitLc, IsFitHeard, IsFitRole}
 use Rattle.dmr_voice.specs.Rules.{step_of}
 use Rattle.dmr_voice.specs.Tracking.{Tracking}
@@ -17,7 +18,7 @@ use Rattle.dmr_voice.specs.declared.said.VoiceOut.{VoiceOut}
 use Rattle.dmr_voice.specs.declared.track.Track.{Track}
 use Rattle.dmr_slot.specs.declared.line.SlotOut.{SlotOut}
 use Rattle.dmr_slot.specs.Bursts.{IsSlotOut}
-use Rattle.dmr_slot.specs.Push.{Memory, IsSound, left_after, known_after, role_of, out_of, moved, decided, after_push, IsHeard, IsPush}
+use Rattle.dmr_slot.specs.Push.{Memory, IsSound, left_after, known_after, role_of, out_of, moved, decided, after_push, IsPush}
 
 memory_by : (c f f' : ℕ) (w w' : List Heard) (s s' : Track) (l l' : ℕ) (k k' : Option FullLc) → f ≡ f' → w ≡ w' → s ≡ s' → l ≡ l' → k ≡ k'
     → ◌≡◌ {A = Memory} (record { colour = c; call_hang = f; window = w; state = s; left = l; lc = k }) (record { colour = c; call_hang = f'; window = w'; state = s'; left = l'; lc = k' })
@@ -67,7 +68,7 @@ module _ (m : Memory) (track next : Tracking) (slot : Option (List ℕ)) (heard 
     pub colour_is : track.colour ≡ m.colour
     pub state_is : track.state ≡ m.state
     pub window_is : window ≡ moved m.window heard
-    pub hears : IsHeard m.colour slot heard
+    pub hears : IsAnswer m.colour slot heard
     pub says : (k : Option FullLc) × IsCarried track.colour (drop 1 window) k × IsSaid track.colour (step_of track.colour track.state window k).0 said
     pub steps : (k : Option FullLc) → IsCarried track.colour (drop 1 window) k → next ≡ record track { state = (step_of track.colour track.state window k).1 }
     pub gives : (rule : Said) → IsSaid m.colour rule said → IsSlotOut m.colour (out_of m.left m.lc rule) out

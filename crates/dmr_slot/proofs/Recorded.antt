@@ -1,6 +1,7 @@
 -- The line of a recording, octets in.
 use Rattle.std.proofs.Common.{◌≡◌, ℕ, zero, suc, List, [], ◌∷◌, ◌++◌, replicate, Option, Some, None, refl, sym, ap, ◌∙◌, subst}
 use Rattle.dmr_link.specs.declared.full_lc.FullLc.{FullLc}
+use Rattle.dmr_voice.specs.DamagedRecordings.{IsAnswer, AllAnswers, AllRecordedAs, vocoder_of, meant}
 use Rattle.dmr_voice.specs.Recordings.{AllHeardAs, RepeatsWhatIsMeant}
 use Rattle.dmr_voice.specs.Rules.{run}
 use Rattle.dmr_voice.specs.Slots.{silence, IsHeardAs}
@@ -12,15 +13,15 @@ use Rattle.dmr_voice.specs.declared.track.Track.TheVariants.{Idle}
 use Rattle.dmr_slot.specs.declared.line.SlotOut.{SlotOut}
 use Rattle.dmr_slot.specs.Bursts.{AreSlotOuts}
 use Rattle.dmr_slot.specs.Line.{LineOut, lines}
-use Rattle.dmr_slot.specs.Push.{Memory, start, IsHeard, ArePushed, pushes, AllCarriedAt}
-use Rattle.dmr_slot.specs.Recordings.{handed, AllHeard, delayed, IsLineOf, LineByPushes, AllRecordedAs, vocoder_of, meant, LineOfWhatIsMeant}
+use Rattle.dmr_slot.specs.Push.{Memory, start, ArePushed, pushes, AllCarriedAt}
+use Rattle.dmr_slot.specs.Recordings.{handed, delayed, IsLineOf, LineByPushes, LineOfWhatIsMeant}
 use Rattle.dmr_slot.proofs.Lines.{carried_by_pushes, line_by_pushes}
 
 -- ---- pushes, and what is heard in them
 record Run (m : Memory) (slots : List (Option (List ℕ))) (outs : List SlotOut) : Type 0 where
   heard : List Heard
   carried : List (Option FullLc)
-  hears : AllHeard m.colour slots heard
+  hears : AllAnswers m.colour slots heard
   carries : AllCarriedAt m.colour m.window heard carried
   gives : AreSlotOuts m.colour (pushes m heard carried) outs
 
@@ -43,18 +44,18 @@ run_of m (slot ∷ slots) (out ∷ outs) after p =
 cons_by : (a b : Heard) (more others : List Heard) → a ≡ b → more ≡ others → a ∷ more ≡ b ∷ others
 cons_by a b more others e f = cc
 
-silent : (colour n : ℕ) (hs : List Heard) → AllHeard colour (replicate n None) hs → hs ≡ replicate n silence
+silent : (colour n : ℕ) (hs : List Heard) → AllAnswers colour (replicate n None) hs → hs ≡ replicate n silence
 silent colour zero [] p = refl
 silent colour zero (h ∷ hs) p = absurd p
 silent colour (suc n) [] p = absurd p
-silent colour (suc n) (h ∷ hs) p = cons_by h silence hs (replicate n silence) p.0.fields (silent colour n hs p.1)
+silent colour (suc n) (h ∷ hs) p = cons_by h silence hs (replicate n silence) p.0.by_fields (silent colour n hs p.1)
 
 record Front (colour n : ℕ) (slots : List (Option (List ℕ))) (hs : List Heard) : Type 0 where
   heard : List Heard
   is : hs ≡ heard ++ replicate n silence
-  hears : AllHeard colour slots heard
+  hears : AllAnswers colour slots heard
 
-front : (colour n : ℕ) (slots : List (Option (List ℕ))) (hs : List Heard) → AllHeard colour (slots ++ replicate n None) hs → Front colour n slots hs
+front : (colour n : ℕ) (slots : List (Option (List ℕ))) (hs : List Heard) → AllAnswers colour (slots ++ replicate n None) hs → Front colour n slots hs
 front colour n [] hs p = record { heard = []; is = silent colour n hs p; hears = tt }
 front colour n (slot ∷ slots) [] p = absurd p
 front colour n (slot ∷ slots) (h ∷ hs) p =
@@ -62,12 +63,12 @@ front colour n (slot ∷ slots) (h ∷ hs) p =
     record { heard = h ∷ more.heard; is = ap (λ (l : List Heard). h ∷ l) more.is; hears = (p.0, more.hears) }
 
 -- ---- the line of any recording
-line_of : (colour call_hang : ℕ) (slots : List (Option (List ℕ))) (outs : List SlotOut) (hs : List Heard) (ks : List (Option FullLc)) → AllHeard colour (handed slots) hs
+line_of : (colour call_hang : ℕ) (slots : List (Option (List ℕ))) (outs : List SlotOut) (hs : List Heard) (ks : List (Option FullLc)) → AllAnswers colour (handed slots) hs
     → AllCarriedAt colour (replicate 6 silence) hs ks → AreSlotOuts colour (pushes (start colour call_hang) hs ks) outs → IsLineOf colour call_hang slots outs
 line_of colour call_hang slots outs [] ks p q g = absurd p
 line_of colour call_hang slots outs (h ∷ hs) ks p q g =
     let s = front colour 5 slots hs p.1 in
-    let same : h ∷ hs ≡ silence ∷ (s.heard ++ replicate 5 silence) = cons_by h silence hs (s.heard ++ replicate 5 silence) p.0.fields s.is in
+    let same : h ∷ hs ≡ silence ∷ (s.heard ++ replicate 5 silence) = cons_by h silence hs (s.heard ++ replicate 5 silence) p.0.by_fields s.is in
     record {
       heard = s.heard;
       carried = ks;
@@ -88,19 +89,19 @@ silences_as colour zero (c ∷ cs) q = absurd q
 silences_as colour (suc n) [] q = absurd q
 silences_as colour (suc n) (c ∷ cs) q = (subst (λ sent. IsHeardAs sent silence) (sym q.0.damaged) refl, silences_as colour n cs q.1)
 
-heard_as : (colour n : ℕ) (cs : List Cell) (slots : List (Option (List ℕ))) (hs : List Heard) → AllHeard colour slots hs → AllRecordedAs colour cs (slots ++ replicate n None)
+heard_as : (colour n : ℕ) (cs : List Cell) (slots : List (Option (List ℕ))) (hs : List Heard) → AllAnswers colour slots hs → AllRecordedAs colour cs (slots ++ replicate n None)
     → AllHeardAs cs (hs ++ replicate n silence)
 heard_as colour n cs [] [] p q = silences_as colour n cs q
 heard_as colour n cs [] (h ∷ hs) p q = absurd p
 heard_as colour n cs (slot ∷ slots) [] p q = absurd p
 heard_as colour n [] (slot ∷ slots) (h ∷ hs) p q = absurd q
-heard_as colour n (c ∷ cs) (slot ∷ slots) (h ∷ hs) p q = (p.0.undone c.sent q.0, heard_as colour n cs slots hs p.1 q.1)
+heard_as colour n (c ∷ cs) (slot ∷ slots) (h ∷ hs) p q = (p.0.damaged c.sent q.0, heard_as colour n cs slots hs p.1 q.1)
 
-vocoder_heard : (colour : ℕ) (slot : Option (List ℕ)) (h : Heard) → IsHeard colour slot h → h.vocoder ≡ vocoder_of slot
-vocoder_heard colour None h p = ap (λ (heard : Heard). heard.vocoder) p.fields
-vocoder_heard colour (Some octets) h p = p.fields.vocoder
+vocoder_heard : (colour : ℕ) (slot : Option (List ℕ)) (h : Heard) → IsAnswer colour slot h → h.vocoder ≡ vocoder_of slot
+vocoder_heard colour None h p = ap (λ (heard : Heard). heard.vocoder) p.by_fields
+vocoder_heard colour (Some octets) h p = p.by_fields.vocoder
 
-meaning_is : (colour : ℕ) (cs : List Cell) (slots : List (Option (List ℕ))) (hs : List Heard) → AllHeard colour slots hs → meaning cs hs ≡ meant cs slots
+meaning_is : (colour : ℕ) (cs : List Cell) (slots : List (Option (List ℕ))) (hs : List Heard) → AllAnswers colour slots hs → meaning cs hs ≡ meant cs slots
 meaning_is colour [] slots hs p = refl
 meaning_is colour (c ∷ cs) [] [] p = refl
 meaning_is colour (c ∷ cs) [] (h ∷ hs) p = absurd p

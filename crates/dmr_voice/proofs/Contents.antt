@@ -33,7 +33,7 @@ datum_by k k' i i' l l' e f g = cc
 one_message : (received a b : List Bool) → IsDecoded received (Some a) → IsDecoded received (Some b) → a ≡ b
 one_message received a b p q = same_some a b (one_decoded received (Some a) (Some b) p q)
 
-one_encoded : (m n a b : List Bool) → m ≡ n → IsEncoded m a → IsEncoded n b → a ≡ b
+pub one_encoded : (m n a b : List Bool) → m ≡ n → IsEncoded m a → IsEncoded n b → a ≡ b
 one_encoded m n a b e p q = one_written n a b p.long q.long (subst (λ (x : List Bool). IsEncoded x a) e p).written q.written
 
 -- what decoding answers, of information in a product word

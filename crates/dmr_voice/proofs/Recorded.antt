@@ -1,5 +1,5 @@
 -- A damaged recording is heard as what was sent.
-use Rattle.std.proofs.Common.{◌≡◌, ℕ, zero, suc, List, [], ◌∷◌, ◌++◌, replicate, Option, None, refl, sym, subst}
+use Rattle.std.proofs.Common.{ℕ, zero, suc, List, [], ◌∷◌, ◌++◌, replicate, Option, None, refl, sym, subst}
 use Rattle.dmr_voice.specs.declared.heard.Heard.{Heard}
 use Rattle.dmr_voice.specs.Damage.{IsRecordedAs}
 use Rattle.dmr_voice.specs.DamagedRecordings.{AllAnswers, AllRecordedAs, RepeatsDamagedRecordings}
@@ -9,10 +9,10 @@ use Rattle.dmr_voice.specs.Transmissions.{Cell}
 use Rattle.dmr_voice.proofs.Law.{repeats_what_is_meant}
 
 -- silence is a recording of silence alone
-silent : (colour : ℕ) (sent : Slot) → IsRecordedAs colour sent None → IsHeardAs sent silence
+pub silent : (colour : ℕ) (sent : Slot) → IsRecordedAs colour sent None → IsHeardAs sent silence
 silent colour sent p = subst (λ slot. IsHeardAs slot silence) (sym p.damaged) refl
 
-heard_as_sent : (colour : ℕ) (cs : List Cell) (slots : List (Option (List ℕ))) (hs : List Heard) (missing : ℕ)
+pub heard_as_sent : (colour : ℕ) (cs : List Cell) (slots : List (Option (List ℕ))) (hs : List Heard) (missing : ℕ)
     → AllRecordedAs colour cs (slots ++ replicate missing None) → AllAnswers colour slots hs → AllHeardAs cs (hs ++ replicate missing silence)
 heard_as_sent colour [] [] [] zero p a = tt
 heard_as_sent colour [] [] [] (suc missing) p a = absurd p

@@ -10,8 +10,8 @@
 //!
 //! What transmissions mean is said apart from the rules, slot by slot: `specs/Transmissions.antt`, and which lists of them are
 //! well formed, `specs/WellFormed.antt`. That the rules repeat what is meant (`specs/Recordings.antt`), and that they do so of
-//! every recording that is damaged within the limits (`specs/DamagedRecordings.antt`), are laws, the contracts of functions in
-//! `laws`. Rules and meaning both stand on the words of `specs/Places.antt`.
+//! every recording that is damaged within the limits, which has one meaning (`specs/DamagedRecordings.antt`), are laws, the
+//! contracts of functions in `laws`. Rules and meaning both stand on the words of `specs/Places.antt`.
 #![tactic(auto)]
 
 mod data_types;

@@ -1,10 +1,10 @@
-use Rattle.std.proofs.Common.{rules, ◌+◌, ◌*◌, ℕ, replicate, refl, ◌∙◌, subst, arith}
-use Rattle.dmr_repeater.specs.Line.{silence}
+use Rattle.std.proofs.Common.{rules, ◌≡◌, ◌+◌, ◌*◌, ℕ, [], ◌∷◌, replicate, length, refl, subst, arith}
+use Rattle.std.proofs.lemmas.List.{replicate_more, length-replicate}
+use Rattle.dmr_repeater.specs.Downlink.{silence}
 use Rattle.dmr_repeater.specs.Schedule.{StopsIn}
 use Rattle.dmr_repeater.proofs.Finding.{no_fault_stops}
 use Rattle.dmr_repeater.proofs.Records.{GivesDue-none, GivesDue-later, GivesDue-trans, StopsIn-after}
-use Rattle.dmr_repeater.proofs.Transcripts.{IsAfter-none, IsAfter-more, Sends-none, Sends-more, SendsFront-more, SendsFront-whole}
-use Rattle.std.proofs.lemmas.List.{replicate_more}
+use Rattle.dmr_repeater.proofs.Transcripts.{Sends-none, Sends-trans, SendsFront-after, SendsFront-whole}
 use Rattle.dmr_repeater.proofs.running.send_rest.Goals as goal
 
 pub loop-past-init : goal.loop-past-init
@@ -14,12 +14,10 @@ loop-past-init g c =
       outgoing = c.requires.outgoing;
       downlink = c.requires.downlink;
       met = c.requires.met;
-      colour = refl;
       frames = omega arith;
       repeated = c.requires.repeated;
       given = GivesDue-none (old.frames + 0) c.args.schedule.now _;
-      sent = Sends-none old.colour (2 * old.frames) old.line _;
-      after = IsAfter-none old.line old.frames old.repeated;
+      sent = Sends-none (2 * old.frames) old.lines old.repeated old.repeated _ refl;
     }
 
 pub returns-in-Err-clause-torn : goal.returns-in-Err-clause-torn
@@ -27,7 +25,7 @@ returns-in-Err-clause-torn g c =
     let old = c.args.repeater.now in (
       c.loop-past._past,
       search rules,
-      SendsFront-whole old.colour (2 * old.frames) old.line (replicate c.loop-past._past silence) _ _ c.loop-past.invariant.sent,
+      SendsFront-whole (2 * old.frames) old.lines c.loop-past.repeater.lines (replicate c.loop-past._past silence) _ _ _ _ c.loop-past.invariant.sent,
     )
 
 pub returns-in-Err-clause-stopped : goal.returns-in-Err-clause-stopped
@@ -38,6 +36,8 @@ returns-in-Err-clause-stopped g c =
     record {
       count = c.loop-past._past;
       few = search rules;
+      after = c.loop-past.repeater.lines;
+      repeated = c.loop-past.repeater.repeated;
       sends = inv.sent;
       stops = StopsIn-after frame frame c.in-Err.fault _ _ _ _ _ (omega arith) inv.given stops;
     }
@@ -53,8 +53,11 @@ returns-in-Err-send-clause-torn g c =
     let past : ℕ = c.loop-past._past in
     let inv = c.loop-past.invariant in
     let old = c.args.repeater.now in
-    let front = SendsFront-more old.colour c.loop-past.repeater.colour (2 * old.frames) old.frames c.loop-past.repeater.frames old.repeated c.loop-past.repeater.repeated
-    old.line c.loop-past.repeater.line (replicate past silence) silence _ _ _ inv.sent inv.after refl inv.colour c.in-Err-send.ensures.torn in (
+    let now = c.loop-past.repeater in
+    let at = inv.frames in
+    let long : length (replicate past silence) ≡ past = length-replicate past silence in
+    let front = SendsFront-after (2 * old.frames) (2 * now.frames) old.lines now.lines (replicate past silence) (silence ∷ []) old.repeated now.repeated _ _ _
+    inv.sent (omega arith) c.in-Err-send.ensures.torn in (
       past + 1,
       omega arith,
       rw (replicate_more past silence) at front,
@@ -73,24 +76,20 @@ loop-past-preserved g c =
     let past : ℕ = c.loop-past._past in
     let inv = c.loop-past.invariant in
     let old = c.args.repeater.now in
-    let sent = Sends-more old.colour c.loop-past.repeater.colour (2 * old.frames) old.frames c.loop-past.repeater.frames old.repeated c.loop-past.repeater.repeated
-    old.line c.loop-past.repeater.line (replicate past silence) silence _ _ _ inv.sent inv.after refl inv.colour c.in_default-send.ensures.sent in
-    let after = IsAfter-more old.line c.loop-past.repeater.line old.frames old.repeated c.loop-past.repeater.frames c.loop-past.repeater.repeated
-    c.send.new.self.frames c.send.new.self.repeated (replicate past silence) silence c.send.new.self.line inv.after
-    c.send.ensures.line c.send.ensures.frames c.send.ensures.repeated c.send.ensures.two in
-    let colour = c.send.ensures.colour ∙ inv.colour in
-    let few = c.send.ensures.few in
+    let now = c.loop-past.repeater in
+    let next = c.send.new.self in
+    let at = inv.frames in
+    let long : length (replicate past silence) ≡ past = length-replicate past silence in
+    let sent = Sends-trans (2 * old.frames) (2 * now.frames) old.lines now.lines (replicate past silence) (silence ∷ []) old.repeated now.repeated _ _ _
+    inv.sent (omega arith) next.lines next.repeated c.in_default-send.ensures.sent in
     let count = c.send.ensures.frames in
-    let frames = inv.frames in
     record {
       outgoing = search rules;
       downlink = c.in_default-send.ensures.well;
       met = c.pass_due.ensures.end;
-      colour = colour;
-      frames = let n = inv.frames in omega arith;
-      repeated = few;
-      given = GivesDue-later c.loop-past.repeater.frames (old.frames + (past + 1)) _ _ _ _ (omega arith)
-          (GivesDue-trans (old.frames + past) c.loop-past.repeater.frames _ _ _ _ _ _ (omega arith) inv.given c.in_default.ensures.gives);
+      frames = omega arith;
+      repeated = c.send.ensures.few;
+      given = GivesDue-later now.frames (old.frames + (past + 1)) _ _ _ _ (omega arith)
+          (GivesDue-trans (old.frames + past) now.frames _ _ _ _ _ _ (omega arith) inv.given c.in_default.ensures.gives);
       sent = rw (replicate_more past silence) at sent;
-      after = rw (replicate_more past silence) at after;
     }

@@ -1,8 +1,8 @@
 -- As many silent frames were handed over as the loop has turned.
 use Rattle.std.proofs.Common.{◌≡◌, ◌+◌, ◌*◌, ◌≤◌, replicate, false, true}
 use Rattle.std.specs.Io.KnownBytes.{IsAtEnd}
-use Rattle.dmr_repeater.specs.Line.{silence}
-use Rattle.dmr_repeater.specs.Runs.{IsAfter, Sends}
+use Rattle.dmr_repeater.specs.Downlink.{silence}
+use Rattle.dmr_repeater.specs.Runs.{Sends}
 use Rattle.dmr_repeater.specs.Schedule.{GivesDue}
 use Rattle.dmr_repeater.proofs.running.send_rest.Given as goal
 
@@ -11,10 +11,9 @@ invariant-loop-past g l = record {
   outgoing : g.O.Source.has_failed l.outgoing ≡ false;
   downlink : g.D.Sink.has_failed l.downlink ≡ false;
   met : l.schedule.at_end ≡ true → IsAtEnd (g.O.Source.left l.outgoing);
-  colour : l.repeater.colour ≡ l.fn.repeater.colour;
   frames : l.repeater.frames ≡ l.fn.repeater.frames + l._past;
   repeated : l.repeater.repeated ≤ 2 * l.repeater.frames;
   given : GivesDue (l.fn.repeater.frames + l._past) l.fn.schedule l.schedule (g.O.Source.left l.initial.outgoing) (g.O.Source.left l.outgoing);
-  sent : Sends l.fn.repeater.colour (2 * l.fn.repeater.frames) l.fn.repeater.line (replicate l._past silence) (g.D.Sink.held l.fn.downlink) (g.D.Sink.held l.downlink);
-  after : IsAfter l.fn.repeater.line l.fn.repeater.frames l.fn.repeater.repeated (replicate l._past silence) l.repeater.line l.repeater.frames l.repeater.repeated;
+  sent : Sends (2 * l.fn.repeater.frames) l.fn.repeater.lines (replicate l._past silence) l.repeater.lines l.fn.repeater.repeated l.repeater.repeated
+      (g.D.Sink.held l.fn.downlink) (g.D.Sink.held l.downlink);
 }

@@ -22,7 +22,7 @@ returns-clause-pushed c =
       state_is = refl;
       window_is = c.window_of-window.ensures.places
           ∙ items_after c.self.inside.recent c.push_back.new.self c.hear-heard.result c.self.invariant.six c.self.invariant.room c.push_back.ensures.items;
-      hears = record { fields = c.hear-heard.ensures.heard; undone = c.hear-heard.ensures.damaged };
+      hears = record { by_fields = c.hear-heard.ensures.heard; damaged = c.hear-heard.ensures.damaged };
       says = c.step-decided.ensures.out;
       steps = c.step-decided.ensures.state;
       gives = c.slot_out-out.ensures.out;

@@ -1,0 +1,140 @@
+-- What the rules make of frames, slot by slot.
+use Rattle.std.proofs.Common.{◌≡◌, ℕ, List, [], ◌∷◌, ◌++◌, map, replicate, Option, None, refl, sym, ap, ◌∙◌, subst}
+use Rattle.std.proofs.lemmas.List.{map-append}
+use Rattle.dmr_burst.specs.declared.burst.Burst.{Burst}
+use Rattle.dmr_slot.specs.Channel.{ChannelOut, frames_of}
+use Rattle.dmr_slot.specs.Frames.{OnAir, frames_out, AreSent}
+use Rattle.dmr_slot.specs.Push.{Memory as Line, start as silent_line, ArePushed}
+use Rattle.dmr_slot.specs.Recordings.{handed as handed_slots, LineOfWhatIsMeant}
+use Rattle.dmr_slot.specs.declared.line.SlotOut.{SlotOut}
+use Rattle.dmr_slot.proofs.Channels.{looks_back}
+use Rattle.dmr_slot.proofs.Recorded.{line_of_what_is_meant}
+use Rattle.dmr_slot.proofs.Unique.{one_sent}
+use Rattle.dmr_voice.proofs.Law.{repeats_what_is_meant}
+use Rattle.dmr_voice.specs.DamagedRecordings.{IsDamagedRecordingOf}
+use Rattle.dmr_voice.specs.Transmissions.{Transmission, sent_list}
+use Rattle.dmr_voice.specs.WellFormed.{IsWellFormed}
+use Rattle.dmr_repeater.specs.declared.sending.DownlinkBurst.{DownlinkBurst}
+use Rattle.dmr_repeater.specs.Downlink.{slots_in, frames_in, claims_in, marked_frames, IsDownlinkOf, IsPushedLine, Makes, silence, handed}
+use Rattle.dmr_repeater.specs.Frames.{Settings, Memory, start, slot_in, ArePassed}
+use Rattle.dmr_repeater.specs.Headline.{IsLineOfWhatIsMeant}
+use Rattle.dmr_repeater.specs.Pairs.{Pairwise}
+
+-- ---- from frames to slots
+record Apart (m : Memory) (frames : List (List (Option (List ℕ)))) (sending : List (List (Option DownlinkBurst))) : Type 0 where
+  first : List SlotOut
+  second : List SlotOut
+  first_after : Line
+  second_after : Line
+  first_pushed : ArePushed m.first (slots_in 0 frames) first first_after
+  second_pushed : ArePushed m.second (slots_in 1 frames) second second_after
+  bursts : List (List (Option Burst))
+  channel : Pairwise (AreSent m.channel.colour) (frames_out m.channel (claims_in (frames_in first second))) bursts
+  marks : sending ≡ marked_frames (frames_in first second) bursts
+
+cons_by : (a b : List (Option DownlinkBurst)) (more others : List (List (Option DownlinkBurst))) → a ≡ b → more ≡ others → a ∷ more ≡ b ∷ others
+cons_by a b more others e f = cc
+
+apart : (m : Memory) (frames : List (List (Option (List ℕ)))) (sending : List (List (Option DownlinkBurst))) (after : Memory) → ArePassed m frames sending after
+    → Apart m frames sending
+apart m [] [] after u = record {
+  first = [];
+  second = [];
+  first_after = m.first;
+  second_after = m.second;
+  first_pushed = refl;
+  second_pushed = refl;
+  bursts = [];
+  channel = tt;
+  marks = refl;
+}
+apart m [] (s ∷ ss) after u = absurd u
+apart m (f ∷ fs) [] after u = absurd u
+apart m (f ∷ fs) (s ∷ ss) after u =
+    let step = u.1 in
+    let more = apart u.0 fs ss after u.2 in
+    record {
+      first = step.first ∷ more.first;
+      second = step.second ∷ more.second;
+      first_after = more.first_after;
+      second_after = more.second_after;
+      first_pushed = (u.0.first, step.first_line, more.first_pushed);
+      second_pushed = (u.0.second, step.second_line, more.second_pushed);
+      bursts = step.bursts ∷ more.bursts;
+      channel = (
+        step.sent,
+        subst (λ (c : OnAir). Pairwise (AreSent c.colour) (frames_out c (claims_in (frames_in more.first more.second))) more.bursts) step.channel more.channel,
+      );
+      marks = cons_by s _ ss _ step.marks more.marks;
+    }
+
+pub makes : (s : Settings) (frames : List (List (Option (List ℕ)))) (sending : List (List (Option DownlinkBurst))) (after : Memory) → ArePassed (start s) frames sending after
+    → Makes s frames sending
+makes s frames sending after u =
+    let both = apart (start s) frames sending after u in
+    record {
+      first = both.first;
+      second = both.second;
+      first_line = (both.first_after, both.first_pushed);
+      second_line = (both.second_after, both.second_pushed);
+      downlink = record {
+        bursts = both.bursts;
+        channel = subst (λ (l : List (List ChannelOut)). Pairwise (AreSent s.colour) l both.bursts)
+            (looks_back s.colour s.channel_hang (claims_in (frames_in both.first both.second))) both.channel;
+        marks = both.marks;
+      };
+    }
+
+-- ---- from slots to what was sent
+handed_in_first : (frames : List (List (Option (List ℕ)))) → slots_in 0 (handed frames) ≡ handed_slots (slots_in 0 frames)
+handed_in_first frames = ap (λ (l : List (Option (List ℕ))). None ∷ l) (map-append (slot_in 0) frames (replicate 5 silence))
+
+handed_in_second : (frames : List (List (Option (List ℕ)))) → slots_in 1 (handed frames) ≡ handed_slots (slots_in 1 frames)
+handed_in_second frames = ap (λ (l : List (Option (List ℕ))). None ∷ l) (map-append (slot_in 1) frames (replicate 5 silence))
+
+pub line_of_meaning : (s : Settings) (lead : ℕ) (ts : List (Transmission × ℕ)) (slots handed : List (Option (List ℕ))) (outs : List SlotOut)
+    → IsWellFormed s.colour ts → IsDamagedRecordingOf s.colour (sent_list s.colour lead ts) slots → handed ≡ handed_slots slots → IsPushedLine s handed outs
+    → IsLineOfWhatIsMeant s (sent_list s.colour lead ts) slots outs
+line_of_meaning s lead ts slots handed outs well recorded e pushed =
+    line_of_what_is_meant repeats_what_is_meant s.colour s.call_hang lead ts slots outs pushed.0 well recorded
+    (subst (λ (l : List (Option (List ℕ))). ArePushed (silent_line s.colour s.call_hang) l outs pushed.0) e pushed.1)
+
+pub first_of_meaning : (s : Settings) (lead : ℕ) (ts : List (Transmission × ℕ)) (frames : List (List (Option (List ℕ)))) (outs : List SlotOut)
+    → IsWellFormed s.colour ts → IsDamagedRecordingOf s.colour (sent_list s.colour lead ts) (slots_in 0 frames) → IsPushedLine s (slots_in 0 (handed frames)) outs
+    → IsLineOfWhatIsMeant s (sent_list s.colour lead ts) (slots_in 0 frames) outs
+first_of_meaning s lead ts frames outs well recorded pushed =
+    line_of_meaning s lead ts (slots_in 0 frames) (slots_in 0 (handed frames)) outs well recorded (handed_in_first frames) pushed
+
+pub second_of_meaning : (s : Settings) (lead : ℕ) (ts : List (Transmission × ℕ)) (frames : List (List (Option (List ℕ)))) (outs : List SlotOut)
+    → IsWellFormed s.colour ts → IsDamagedRecordingOf s.colour (sent_list s.colour lead ts) (slots_in 1 frames) → IsPushedLine s (slots_in 1 (handed frames)) outs
+    → IsLineOfWhatIsMeant s (sent_list s.colour lead ts) (slots_in 1 frames) outs
+second_of_meaning s lead ts frames outs well recorded pushed =
+    line_of_meaning s lead ts (slots_in 1 frames) (slots_in 1 (handed frames)) outs well recorded (handed_in_second frames) pushed
+
+-- ---- there is one downlink
+one_sent_frame : (colour : ℕ) (slots : List ChannelOut) (a b : List (Option Burst)) → AreSent colour slots a → AreSent colour slots b → a ≡ b
+one_sent_frame colour [] [] [] u v = refl
+one_sent_frame colour [] (a ∷ as') b u v = absurd u
+one_sent_frame colour [] [] (b ∷ bs) u v = absurd v
+one_sent_frame colour (slot ∷ slots) [] b u v = absurd u
+one_sent_frame colour (slot ∷ slots) (a ∷ as') [] u v = absurd v
+one_sent_frame colour (slot ∷ slots) (a ∷ as') (b ∷ bs) u v =
+    let head = one_sent colour slot a b u.0 v.0 in
+    let tail = one_sent_frame colour slots as' bs u.1 v.1 in
+    cc
+
+one_sent_list : (colour : ℕ) (frames : List (List ChannelOut)) (a b : List (List (Option Burst))) → Pairwise (AreSent colour) frames a → Pairwise (AreSent colour) frames b → a ≡ b
+one_sent_list colour [] [] [] u v = refl
+one_sent_list colour [] (a ∷ as') b u v = absurd u
+one_sent_list colour [] [] (b ∷ bs) u v = absurd v
+one_sent_list colour (f ∷ fs) [] b u v = absurd u
+one_sent_list colour (f ∷ fs) (a ∷ as') [] u v = absurd v
+one_sent_list colour (f ∷ fs) (a ∷ as') (b ∷ bs) u v =
+    let head = one_sent_frame colour f a b u.0 v.0 in
+    let tail = one_sent_list colour fs as' bs u.1 v.1 in
+    cc
+
+pub one_downlink : (s : Settings) (first second : List SlotOut) (a b : List (List (Option DownlinkBurst))) → IsDownlinkOf s first second a → IsDownlinkOf s first second b → a ≡ b
+one_downlink s first second a b u v =
+    let same = one_sent_list s.colour (frames_of s.channel_hang [] (claims_in (frames_in first second))) u.bursts v.bursts u.channel v.channel in
+    u.marks ∙ ap (marked_frames (frames_in first second)) same ∙ sym v.marks
