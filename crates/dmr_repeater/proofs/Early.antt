@@ -2,7 +2,7 @@
 use Rattle.std.proofs.Common.{◌≡◌, ℕ, ◌+◌, ◌-◌, ◌≤◌, List, [], ◌∷◌, ◌++◌, length, take, drop, replicate, Option, Some, refl, sym, ap, ◌∙◌, subst, arith}
 use Rattle.std.proofs.Common.{append-nil, append_assoc, take-append-drop, inl, inr, ◌⊎◌}
 use Rattle.std.specs.List.{AllByRecursion}
-use Rattle.std.proofs.lemmas.List.{take_at, length-append, replicate-append-replicate}
+use Rattle.std.proofs.lemmas.List.{take_at, take-append-le, length-append, replicate-append-replicate}
 use Rattle.std.specs.Io.KnownBytes.{Consumes, Appends, IsAtEnd}
 use Rattle.std.proofs.KnownBytes.{Appends-trans, Appends-nil, Consumes-trans}
 use Rattle.dmr_record.specs.declared.head.TheConstants.{UPLINK_MAGIC, DOWNLINK_MAGIC}
@@ -15,12 +15,12 @@ use Rattle.dmr_voice.specs.WellFormed.{IsWellFormed}
 use Rattle.dmr_repeater.specs.declared.sending.DownlinkBurst.{DownlinkBurst}
 use Rattle.dmr_repeater.specs.Downlink.{slots_of, repeated_count, silence, handed}
 use Rattle.dmr_repeater.specs.Frames.{Settings, Memory, start, ArePassed}
-use Rattle.dmr_repeater.specs.Headline.{HasRecording, WritesWhatIsMeant}
+use Rattle.dmr_repeater.specs.Headline.{HasRecording, WritesFrontOfWhatIsMeant, WritesWhatIsMeant}
 use Rattle.dmr_repeater.specs.Runs.{FrontOf, Sends, SendsFront, Reads, IsSentFor, WritesFile, WritesFirst, WritesFront, ReadsFile, ReadsFront, EndsEarly}
 use Rattle.dmr_repeater.specs.Sent.{AreSentAs}
 use Rattle.dmr_repeater.proofs.Cleaning.{clean_made, sent_bursts_are_clean}
 use Rattle.dmr_repeater.proofs.Files.{read_front}
-use Rattle.dmr_repeater.proofs.Made.{makes, first_of_meaning, second_of_meaning}
+use Rattle.dmr_repeater.proofs.Made.{makes, first_of_meaning, second_of_meaning, first_front, second_front}
 
 -- ---- writing
 -- what is passed on and encoded is what the rules make, and clean
@@ -134,6 +134,53 @@ what_is_meant s lead_1 lead_2 first second frames others r a b c d well_1 well_2
       },
       ap length same,
     )
+
+-- the frames that were read are the first of the file's
+first_frames : (a b : Option (List ℕ)) (frames others : List (List (Option (List ℕ)))) → AllByRecursion IsFrame frames → AllByRecursion IsFrame others
+    → a ≡ Some (uplink_file others) → (frames ≡ []) ⊎ ((part : List ℕ) × Consumes a b (uplink_file frames ++ part))
+    → (more : List (List (Option (List ℕ)))) × (others ≡ frames ++ more)
+first_frames a b frames others p q e (inl none) = (others, ap (λ l. l ++ others) (sym none))
+first_frames a b frames others p q e (inr (part, read)) = let (more, whole, end) = read_front a b frames others part p q e read in (more, whole)
+
+-- as far as they are read, they are handed over as if there were no more
+same_front : (count : ℕ) (frames more : List (List (Option (List ℕ)))) → count ≤ length frames + 1 → take count (handed frames) ≡ take count (handed (frames ++ more))
+same_front count frames more few =
+    let five : List (List (Option (List ℕ))) = replicate 5 silence in
+    let within : count ≤ length (silence ∷ frames) = omega arith in
+    take-append-le count (silence ∷ frames) five within
+    ∙ sym (ap (λ l. take count (silence ∷ l)) (append_assoc frames more five) ∙ take-append-le count (silence ∷ frames) (more ++ five) within)
+
+pub front_of_what_is_meant : (s : Settings) (lead_1 lead_2 : ℕ) (first second : List (Transmission × ℕ)) (others : List (List (Option (List ℕ)))) (a b c d : Option (List ℕ))
+    → IsWellFormed s.colour first → IsWellFormed s.colour second → EndsEarly s a b c d
+    → HasRecording s.colour (sent_list s.colour lead_1 first) (sent_list s.colour lead_2 second) others a
+    → (count : ℕ) × WritesFrontOfWhatIsMeant s (sent_list s.colour lead_1 first) (sent_list s.colour lead_2 second) others count c d
+front_of_what_is_meant s lead_1 lead_2 first second others a b c d well_1 well_2 u recording =
+    let xs : List (List (Option (List ℕ))) = take u.count (handed others) in
+    let ys : List (List (Option (List ℕ))) = drop u.count (handed others) in
+    let split : handed others ≡ xs ++ ys = sym (take-append-drop u.count (handed others)) in
+    let rules = subst (λ (l : List (List (Option (List ℕ)))). IsSentFor s l u.writes.repeated u.writes.sent) (as_handed u.reach) u.writes.rules in
+    let made = rules.makes in (
+      length xs,
+      record {
+        first_outs = made.first;
+        second_outs = made.second;
+        first_line = first_front s lead_1 first others made.first well_1 xs ys recording.first_slot split made.first_line;
+        second_line = second_front s lead_2 second others made.second well_2 xs ys recording.second_slot split made.second_line;
+        sending = rules.sending;
+        downlink = made.downlink;
+        sent = u.writes.sent;
+        encoded = rules.encoded;
+        front = u.writes.front;
+        is_front = u.writes.is_front;
+        written = u.writes.written;
+      },
+    )
+  where
+    as_handed : (u.count ≤ length u.frames + 1) ⊎ ReadsFile u.frames a b → take u.count (handed u.frames) ≡ take u.count (handed others)
+    as_handed (inl few) =
+        let (more, whole) = first_frames a b u.frames others u.reads.each recording.each recording.has u.reads.read in
+        same_front u.count u.frames more few ∙ ap (λ l. take u.count (handed l)) (sym whole)
+    as_handed (inr file) = ap (λ l. take u.count (handed l)) (sym (same_frames u.frames others a b file recording.each recording.has))
 
 -- ---- runs that end
 -- before the first frame

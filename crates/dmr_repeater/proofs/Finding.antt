@@ -1,14 +1,13 @@
 -- The outgoing file of a run: what was read of it, and where a fault is found.
-use Rattle.std.proofs.Common.{◌≡◌, ℕ, ◌+◌, ◌-◌, ◌<◌, ◌≤◌, true, List, [], ◌∷◌, ◌++◌, length, take, replicate, Option, Some, None, Bool, option_to_list, sym, ap, ◌∙◌, subst, arith, append-nil, append_assoc, inl, inr, ◌⊎◌}
+use Rattle.std.proofs.Common.{◌≡◌, ℕ, ◌+◌, ◌-◌, ◌<◌, ◌≤◌, true, List, [], ◌∷◌, ◌++◌, length, replicate, Option, Some, None, option_to_list, sym, ap, ◌∙◌, subst, arith, append-nil, append_assoc, inl, inr, ◌⊎◌}
 use Rattle.std.proofs.lemmas.List.{length-append, length-replicate}
 use Rattle.std.specs.List.{AllByRecursion}
 use Rattle.std.specs.Io.KnownBytes.{Consumes, Appends, IsAtEnd}
-use Rattle.std.proofs.KnownBytes.{Consumes-trans, Appends-trans}
+use Rattle.std.proofs.KnownBytes.{Consumes-trans}
 use Rattle.dmr_record.specs.declared.fault.RecordFault.{RecordFault}
 use Rattle.dmr_record.specs.declared.head.TheConstants.{UPLINK_MAGIC, DOWNLINK_MAGIC, OUTGOING_MAGIC}
 use Rattle.dmr_record.specs.declared.outgoing.Outgoing.{Outgoing}
 use Rattle.dmr_record.specs.declared.outgoing.TheConstants.{RECORD_LIMIT}
-use Rattle.dmr_record.specs.Downlink.{downlink_octets}
 use Rattle.dmr_record.specs.Faults.{is_of_end, is_device_fault}
 use Rattle.dmr_record.specs.Head.{head_octets}
 use Rattle.dmr_record.specs.Outgoing.{Sending, IsSending, AreInOrder, sending_octets, sendings_octets, ShowsOutgoingFault}

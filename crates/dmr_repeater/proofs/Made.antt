@@ -1,23 +1,28 @@
 -- What the rules make of frames, slot by slot.
-use Rattle.std.proofs.Common.{◌≡◌, ℕ, List, [], ◌∷◌, ◌++◌, map, replicate, Option, None, refl, sym, ap, ◌∙◌, subst}
-use Rattle.std.proofs.lemmas.List.{map-append}
+use Rattle.std.proofs.Common.{◌≡◌, ℕ, List, [], ◌∷◌, ◌++◌, length, replicate, Option, None, refl, sym, ap, ◌∙◌, subst, arith}
+use Rattle.std.specs.List.{AllByRecursion}
+use Rattle.std.proofs.lemmas.List.Elements.{All-from_recursion}
+use Rattle.std.proofs.lemmas.List.{map-append, length-map}
+use Rattle.dmr_record.specs.Uplink.{IsFrame}
 use Rattle.dmr_burst.specs.declared.burst.Burst.{Burst}
 use Rattle.dmr_slot.specs.Channel.{ChannelOut, frames_of}
 use Rattle.dmr_slot.specs.Frames.{OnAir, frames_out, AreSent}
 use Rattle.dmr_slot.specs.Push.{Memory as Line, start as silent_line, ArePushed}
-use Rattle.dmr_slot.specs.Recordings.{handed as handed_slots, LineOfWhatIsMeant}
+use Rattle.dmr_slot.specs.Recordings.{handed as handed_slots}
 use Rattle.dmr_slot.specs.declared.line.SlotOut.{SlotOut}
 use Rattle.dmr_slot.proofs.Channels.{looks_back}
 use Rattle.dmr_slot.proofs.Recorded.{line_of_what_is_meant}
+use Rattle.dmr_slot.proofs.Fronts.{front_of_what_is_meant}
 use Rattle.dmr_slot.proofs.Unique.{one_sent}
 use Rattle.dmr_voice.proofs.Law.{repeats_what_is_meant}
-use Rattle.dmr_voice.specs.DamagedRecordings.{IsDamagedRecordingOf}
+use Rattle.dmr_voice.proofs.OneMeaning.{one_meaning as one_meaning_of_slots}
+use Rattle.dmr_voice.specs.DamagedRecordings.{IsDamagedRecordingOf, IsSlot}
 use Rattle.dmr_voice.specs.Transmissions.{Transmission, sent_list}
 use Rattle.dmr_voice.specs.WellFormed.{IsWellFormed}
 use Rattle.dmr_repeater.specs.declared.sending.DownlinkBurst.{DownlinkBurst}
 use Rattle.dmr_repeater.specs.Downlink.{slots_in, frames_in, claims_in, marked_frames, IsDownlinkOf, IsPushedLine, Makes, silence, handed}
 use Rattle.dmr_repeater.specs.Frames.{Settings, Memory, start, slot_in, ArePassed}
-use Rattle.dmr_repeater.specs.Headline.{IsLineOfWhatIsMeant}
+use Rattle.dmr_repeater.specs.Headline.{HasOneMeaning, IsFrontOfWhatIsMeant, IsLineOfWhatIsMeant}
 use Rattle.dmr_repeater.specs.Pairs.{Pairwise}
 
 -- ---- from frames to slots
@@ -92,24 +97,59 @@ handed_in_first frames = ap (λ (l : List (Option (List ℕ))). None ∷ l) (map
 handed_in_second : (frames : List (List (Option (List ℕ)))) → slots_in 1 (handed frames) ≡ handed_slots (slots_in 1 frames)
 handed_in_second frames = ap (λ (l : List (Option (List ℕ))). None ∷ l) (map-append (slot_in 1) frames (replicate 5 silence))
 
-pub line_of_meaning : (s : Settings) (lead : ℕ) (ts : List (Transmission × ℕ)) (slots handed : List (Option (List ℕ))) (outs : List SlotOut)
-    → IsWellFormed s.colour ts → IsDamagedRecordingOf s.colour (sent_list s.colour lead ts) slots → handed ≡ handed_slots slots → IsPushedLine s handed outs
-    → IsLineOfWhatIsMeant s (sent_list s.colour lead ts) slots outs
-line_of_meaning s lead ts slots handed outs well recorded e pushed =
-    line_of_what_is_meant repeats_what_is_meant s.colour s.call_hang lead ts slots outs pushed.0 well recorded
-    (subst (λ (l : List (Option (List ℕ))). ArePushed (silent_line s.colour s.call_hang) l outs pushed.0) e pushed.1)
+-- in one slot, of which this was handed over
+module _ (s : Settings) (lead : ℕ) (ts : List (Transmission × ℕ)) (number : ℕ) (frames : List (List (Option (List ℕ)))) (outs : List SlotOut)
+    (well : IsWellFormed s.colour ts) (recorded : IsDamagedRecordingOf s.colour (sent_list s.colour lead ts) (slots_in number frames))
+    (same : slots_in number (handed frames) ≡ handed_slots (slots_in number frames)) where
+  whole_of_meaning : IsPushedLine s (slots_in number (handed frames)) outs → IsLineOfWhatIsMeant s (sent_list s.colour lead ts) (slots_in number frames) outs
+  whole_of_meaning (after, pushed) =
+      line_of_what_is_meant repeats_what_is_meant s.colour s.call_hang lead ts (slots_in number frames) outs after well recorded
+      (subst (λ (l : List (Option (List ℕ))). ArePushed (silent_line s.colour s.call_hang) l outs after) same pushed)
 
-pub first_of_meaning : (s : Settings) (lead : ℕ) (ts : List (Transmission × ℕ)) (frames : List (List (Option (List ℕ)))) (outs : List SlotOut)
-    → IsWellFormed s.colour ts → IsDamagedRecordingOf s.colour (sent_list s.colour lead ts) (slots_in 0 frames) → IsPushedLine s (slots_in 0 (handed frames)) outs
-    → IsLineOfWhatIsMeant s (sent_list s.colour lead ts) (slots_in 0 frames) outs
-first_of_meaning s lead ts frames outs well recorded pushed =
-    line_of_meaning s lead ts (slots_in 0 frames) (slots_in 0 (handed frames)) outs well recorded (handed_in_first frames) pushed
+  front_of_meaning : (xs ys : List (List (Option (List ℕ)))) → handed frames ≡ xs ++ ys → IsPushedLine s (slots_in number xs) outs
+      → IsFrontOfWhatIsMeant s (sent_list s.colour lead ts) (slots_in number frames) (length xs) outs
+  front_of_meaning xs ys split (after, pushed) =
+      let slots_split : handed_slots (slots_in number frames) ≡ slots_in number xs ++ slots_in number ys =
+      sym same ∙ ap (slots_in number) split ∙ map-append (slot_in number) xs ys in
+      subst (λ (count : ℕ). IsFrontOfWhatIsMeant s (sent_list s.colour lead ts) (slots_in number frames) count outs) (length-map xs (slot_in number))
+      (front_of_what_is_meant repeats_what_is_meant s.colour s.call_hang lead ts (slots_in number frames) (slots_in number xs) (slots_in number ys) outs after
+      well recorded slots_split pushed)
 
-pub second_of_meaning : (s : Settings) (lead : ℕ) (ts : List (Transmission × ℕ)) (frames : List (List (Option (List ℕ)))) (outs : List SlotOut)
-    → IsWellFormed s.colour ts → IsDamagedRecordingOf s.colour (sent_list s.colour lead ts) (slots_in 1 frames) → IsPushedLine s (slots_in 1 (handed frames)) outs
-    → IsLineOfWhatIsMeant s (sent_list s.colour lead ts) (slots_in 1 frames) outs
-second_of_meaning s lead ts frames outs well recorded pushed =
-    line_of_meaning s lead ts (slots_in 1 frames) (slots_in 1 (handed frames)) outs well recorded (handed_in_second frames) pushed
+-- in both slots
+module _ (s : Settings) (lead : ℕ) (ts : List (Transmission × ℕ)) (frames : List (List (Option (List ℕ)))) (outs : List SlotOut) (well : IsWellFormed s.colour ts) where
+  pub first_of_meaning : IsDamagedRecordingOf s.colour (sent_list s.colour lead ts) (slots_in 0 frames) → IsPushedLine s (slots_in 0 (handed frames)) outs
+      → IsLineOfWhatIsMeant s (sent_list s.colour lead ts) (slots_in 0 frames) outs
+  first_of_meaning recorded pushed = whole_of_meaning s lead ts 0 frames outs well recorded (handed_in_first frames) pushed
+
+  pub second_of_meaning : IsDamagedRecordingOf s.colour (sent_list s.colour lead ts) (slots_in 1 frames) → IsPushedLine s (slots_in 1 (handed frames)) outs
+      → IsLineOfWhatIsMeant s (sent_list s.colour lead ts) (slots_in 1 frames) outs
+  second_of_meaning recorded pushed = whole_of_meaning s lead ts 1 frames outs well recorded (handed_in_second frames) pushed
+
+  pub first_front : (xs ys : List (List (Option (List ℕ)))) → IsDamagedRecordingOf s.colour (sent_list s.colour lead ts) (slots_in 0 frames) → handed frames ≡ xs ++ ys
+      → IsPushedLine s (slots_in 0 xs) outs → IsFrontOfWhatIsMeant s (sent_list s.colour lead ts) (slots_in 0 frames) (length xs) outs
+  first_front xs ys recorded split pushed = front_of_meaning s lead ts 0 frames outs well recorded (handed_in_first frames) xs ys split pushed
+
+  pub second_front : (xs ys : List (List (Option (List ℕ)))) → IsDamagedRecordingOf s.colour (sent_list s.colour lead ts) (slots_in 1 frames) → handed frames ≡ xs ++ ys
+      → IsPushedLine s (slots_in 1 xs) outs → IsFrontOfWhatIsMeant s (sent_list s.colour lead ts) (slots_in 1 frames) (length xs) outs
+  second_front xs ys recorded split pushed = front_of_meaning s lead ts 1 frames outs well recorded (handed_in_second frames) xs ys split pushed
+
+-- ---- what a recording means
+first_slots_are : (frames : List (List (Option (List ℕ)))) → AllByRecursion IsFrame frames → AllByRecursion IsSlot (slots_in 0 frames)
+first_slots_are [] each = tt
+first_slots_are ([] ∷ frames) each = absurd (omega (arith, each.0.0))
+first_slots_are ((a ∷ rest) ∷ frames) each = (each.0.1.0, first_slots_are frames each.1)
+
+second_slots_are : (frames : List (List (Option (List ℕ)))) → AllByRecursion IsFrame frames → AllByRecursion IsSlot (slots_in 1 frames)
+second_slots_are [] each = tt
+second_slots_are ([] ∷ frames) each = absurd (omega (arith, each.0.0))
+second_slots_are ((a ∷ []) ∷ frames) each = absurd (omega (arith, each.0.0))
+second_slots_are ((a ∷ b ∷ rest) ∷ frames) each = (each.0.1.1.0, second_slots_are frames each.1)
+
+pub one_meaning : HasOneMeaning
+one_meaning colour lead_a lead_b lead_c lead_d a b c d frames left well_a well_b well_c well_d u v = (
+  one_meaning_of_slots repeats_what_is_meant colour lead_a lead_c a c (slots_in 0 frames) (All-from_recursion IsSlot (slots_in 0 frames) (first_slots_are frames u.each)) well_a well_c u.first_slot v.first_slot,
+  one_meaning_of_slots repeats_what_is_meant colour lead_b lead_d b d (slots_in 1 frames) (All-from_recursion IsSlot (slots_in 1 frames) (second_slots_are frames u.each)) well_b well_d u.second_slot v.second_slot,
+)
 
 -- ---- there is one downlink
 one_sent_frame : (colour : ℕ) (slots : List ChannelOut) (a b : List (Option Burst)) → AreSent colour slots a → AreSent colour slots b → a ≡ b

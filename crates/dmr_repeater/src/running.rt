@@ -7,7 +7,7 @@ ghost use Rattle.dmr_record.specs.Outgoing.{Sending, outgoing_file};
 ghost use Rattle.dmr_record.specs.Uplink.{IsFrame, frames_octets, uplink_file};
 ghost use Rattle.dmr_repeater.specs.Downlink.{silence};
 ghost use Rattle.dmr_repeater.specs.Frames.{settings_in, settings_of, start};
-ghost use Rattle.dmr_repeater.specs.Headline.{HasRecording, WritesWhatIsMeant};
+ghost use Rattle.dmr_repeater.specs.Headline.{HasRecording, WritesFrontOfWhatIsMeant, WritesWhatIsMeant};
 ghost use Rattle.dmr_repeater.specs.Runs.{EndsEarly, FindsFault, FindsHeadFault, FrontOf, HasOutgoing, IfOutgoing, Reads, ReadsFile, ReadsRecords};
 ghost use Rattle.dmr_repeater.specs.Runs.{ReadsWholeRecords, Sends, SendsFront, StopsPastUplink, StopsWithUplink, WritesFile};
 ghost use Rattle.dmr_repeater.specs.Runs.{is_downlink_failure, is_failure, is_outgoing_failure, is_received_failure, is_uplink_failure};
@@ -249,6 +249,13 @@ pub fn run<U: Source, O: Source, D: Sink, R: Sink>(
         → HasRecording config.colour (sent_list config.colour lead_1 first) (sent_list config.colour lead_2 second) frames (U.left uplink.old)
         → WritesWhatIsMeant (settings_of config) (sent_list config.colour lead_1 first) (sent_list config.colour lead_2 second) frames summary.repeated
         (D.held downlink.old) (D.held downlink.new) × (summary.frames ≡ length frames + 6)) }
+
+    // Where the run ends early, a front of that is written.
+    ensures front { OnErr result ((lead_1 lead_2 : ℕ) (first second : List (Transmission × ℕ)) (frames : List (List (Option (List ℕ))))
+        → IsWellFormed config.colour first → IsWellFormed config.colour second
+        → HasRecording config.colour (sent_list config.colour lead_1 first) (sent_list config.colour lead_2 second) frames (U.left uplink.old)
+        → (count : ℕ) × WritesFrontOfWhatIsMeant (settings_of config) (sent_list config.colour lead_1 first) (sent_list config.colour lead_2 second)
+        frames count (D.held downlink.old) (D.held downlink.new)) }
 
     // Whatever the octets are, the downlink is what the rules make of the frames that were read, or a front of it, all clean.
     ensures all { IfOk result (λ summary. (frames : List (List (Option (List ℕ)))) × ReadsFile frames (U.left uplink.old) (U.left uplink.new)

@@ -1,4 +1,6 @@
 //! Recordings of calls, through a whole run.
+ghost use Rattle.std.specs.Prelude.{◌<◌};
+
 use super::samples::{SAMPLES, Sample};
 use super::{DOWNLINK, OUTGOING, RECEIVED, UPLINK, joined, outcome, summary};
 use dmr_burst::{Emb, read_emb, read_embedded, read_slot_type, read_sync};

@@ -1,4 +1,4 @@
-use Rattle.std.proofs.Common.{◌+◌, ◌-◌, ◌*◌, ◌^◌, ◌++◌, ◌∷◌, length, replicate, refl, ◌∙◌, inr, arith}
+use Rattle.std.proofs.Common.{◌+◌, ◌-◌, ◌*◌, ◌^◌, ◌++◌, ◌∷◌, replicate, ◌∙◌, inr, arith}
 use Rattle.dmr_record.specs.declared.head.TheConstants.{DOWNLINK_MAGIC, RECEIVED_MAGIC}
 use Rattle.dmr_record.specs.Head.{head_octets}
 use Rattle.dmr_repeater.specs.Downlink.{silence}

@@ -1,4 +1,4 @@
-use Rattle.std.proofs.Common.{rules, ◌≡◌, ◌+◌, ◌*◌, ℕ, List, [], ◌∷◌, Option, length, take, drop, refl, sym, ap, ◌∙◌, subst, arith, append-nil, take-append-drop}
+use Rattle.std.proofs.Common.{rules, ◌≡◌, ◌*◌, List, [], ◌∷◌, Option, length, take, drop, refl, sym, ap, ◌∙◌, subst, arith, append-nil, take-append-drop}
 use Rattle.std.proofs.lemmas.Result.{on_err_weaker, on_ok_weaker}
 use Rattle.dmr_record.specs.Downlink.{downlink_octets}
 use Rattle.dmr_repeater.specs.declared.sending.DownlinkBurst.{DownlinkBurst}
