@@ -3,7 +3,10 @@ ghost use Rattle.std.specs.Prelude.{◌<◌};
 
 use super::samples::{SAMPLES, Sample};
 use super::{DOWNLINK, OUTGOING, RECEIVED, UPLINK, joined, outcome, summary};
-use dmr_burst::{Emb, read_emb, read_embedded, read_slot_type, read_sync};
+use dmr_burst::{
+    Burst, Emb, Side, encode_burst, read_emb, read_embedded, read_information, read_slot_type,
+    read_sync, read_vocoder,
+};
 use std::alloc::{AllocError, Global};
 use std::process::Abort;
 use std::test::Fail;
@@ -161,6 +164,53 @@ fn late_call_without_link_control(rt: HostRuntime) -> Result<(), Fail> {
         assert!(rt; read_emb(&burst) == Some(none));
         assert_eq!(rt; read_embedded(&burst), 0);
     }
+    Ok(())
+}
+
+/// A burst of a mobile station in colour code 2.
+fn of_colour_2(burst: &[u8; 33]) -> [u8; 33] {
+    let emb = read_emb(burst);
+    let slot_type = read_slot_type(burst);
+    match (read_sync(burst), emb, slot_type) {
+        (None, Some(emb), _) => encode_burst(
+            &Burst::Voice {
+                emb: Emb { colour: 2, ..emb },
+                embedded: read_embedded(burst),
+                vocoder: read_vocoder(burst),
+            },
+            Side::Ms,
+        ),
+        (Some(sync), _, Some(slot_type)) if !sync.voice => encode_burst(
+            &Burst::Data {
+                colour: 2,
+                kind: slot_type.kind,
+                information: read_information(burst),
+            },
+            Side::Ms,
+        ),
+        _ => *burst,
+    }
+}
+
+// The same call in both slots, in slot 2 of another colour code: that stays idle.
+#[test]
+fn other_colour(rt: HostRuntime) -> Result<(), Fail> {
+    let call = sample(&rt, "call");
+    let recorded = octets_of(&rt, rt.alloc(), call.uplink);
+    let mut uplink = joined(rt.alloc(), &[&UPLINK])?;
+    for number in 0..7usize {
+        let own = frame(&recorded, number).get(1..34).unwrap_or(&[]);
+        let burst = own.first_chunk::<33>().expect(&rt, "the burst is there");
+        uplink.push(1)?;
+        uplink.extend_from_slice(burst)?;
+        uplink.push(1)?;
+        uplink.extend_from_slice(&of_colour_2(burst))?;
+    }
+    uplink.extend_from_slice(&[0; 26])?;
+    let (answer, downlink, _) = outcome(&rt, rt.alloc(), &uplink, &OUTGOING);
+    assert!(rt; answer == Ok(summary(call.frames, call.repeated)));
+    let want = octets_of(&rt, rt.alloc(), call.downlink);
+    assert!(rt; downlink == want);
     Ok(())
 }
 
