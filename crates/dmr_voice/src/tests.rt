@@ -153,7 +153,9 @@ fn heard_data(kind: u8, link_control: Option<FullLc>) -> Heard {
     }
 }
 
-fn heard_voice(colour: u8, lcss: u8, embedded: u32, vocoder: u16) -> Heard {
+fn heard_voice(colour: u8, lcss: u8, embedded: u32, vocoder: u16) -> Heard
+    ensures fit { IsFitHeard result }
+{
     let emb = Emb {
         colour,
         pi: false,
@@ -168,7 +170,9 @@ fn heard_voice(colour: u8, lcss: u8, embedded: u32, vocoder: u16) -> Heard {
     }
 }
 
-fn heard_sync(vocoder: u16) -> Heard {
+fn heard_sync(vocoder: u16) -> Heard
+    ensures fit { IsFitHeard result }
+{
     Heard {
         datum: None,
         voice: true,
@@ -393,6 +397,64 @@ fn expect_fields(rt: &impl Abort, slots: &[Sent], from: usize, fields: &[u32; 4]
                 assert!(rt; field_of(&out) == *field);
             }
         }
+    }
+}
+
+/// What a late call of one superframe that carries these embedded fields is heard as.
+fn heard_of_late_call(carried: &[u32; 4], number: usize) -> Heard
+    ensures fit { IsFitHeard result }
+{
+    match number {
+        0 => heard_sync(0),
+        1 => heard_voice(COLOUR, 1, carried[0], 0),
+        2 => heard_voice(COLOUR, 3, carried[1], 0),
+        3 => heard_voice(COLOUR, 3, carried[2], 0),
+        4 => heard_voice(COLOUR, 2, carried[3], 0),
+        5 => heard_voice(COLOUR, 0, 0, 0),
+        _ => silence(),
+    }
+}
+
+/// The embedded field that goes out for one of its slots.
+fn step_over_late_call(track: &mut VoiceTrack, carried: &[u32; 4], number: usize) -> u32 {
+    let window = [
+        heard_of_late_call(carried, number),
+        heard_of_late_call(carried, number.saturating_add(1)),
+        heard_of_late_call(carried, number.saturating_add(2)),
+        heard_of_late_call(carried, number.saturating_add(3)),
+        heard_of_late_call(carried, number.saturating_add(4)),
+        heard_of_late_call(carried, number.saturating_add(5)),
+    ];
+    field_of(&track.step(&window))
+}
+
+/// The embedded fields that go out for its places B to E.
+fn fields_of_late_call(carried: &[u32; 4]) -> [u32; 4] {
+    let mut track = VoiceTrack::new(COLOUR);
+    step_over_late_call(&mut track, carried, 0);
+    [
+        step_over_late_call(&mut track, carried, 1),
+        step_over_late_call(&mut track, carried, 2),
+        step_over_late_call(&mut track, carried, 3),
+        step_over_late_call(&mut track, carried, 4),
+    ]
+}
+
+// A late call knows its link control from its embedded word alone.
+#[test]
+fn embedded_group_call(rt: HostRuntime) {
+    let [b, c, d, e] = GROUP_FIELDS;
+    assert!(rt; fields_of_late_call(&GROUP_FIELDS) == GROUP_FIELDS);
+    // one wrong bit in each row
+    assert!(rt; fields_of_late_call(&[b, 0xFF09_0000, d, e]) == GROUP_FIELDS);
+    // two wrong bits in a row, two odd columns, and a wrong checksum
+    let unreadable = [
+        [0x8080_0000, c, d, e],
+        [0x0101_0000, c, d, e],
+        [0, 0, 0x0000_0300, 0x0003_0303],
+    ];
+    for carried in unreadable {
+        assert!(rt; fields_of_late_call(&carried) == [0; 4]);
     }
 }
 
