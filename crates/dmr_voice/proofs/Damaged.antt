@@ -5,7 +5,7 @@ use Rattle.dmr_burst.specs.Layout.{HasSync, HasEmb, embedded_field}
 use Rattle.dmr_burst.specs.declared.burst.Emb.{Emb}
 use Rattle.dmr_burst.specs.declared.burst.Side.TheVariants.{Ms}
 use Rattle.dmr_link.specs.declared.full_lc.FullLc.{FullLc}
-use Rattle.dmr_voice.specs.DataTypes.{content_of}
+use Rattle.dmr_voice.specs.DataTypes.{payload_of}
 use Rattle.dmr_voice.specs.Damage.{Sends, IsSentSlot, IsDamagedData, IsDamagedForeignData, IsDamagedBurst, HasNoMobileSync}
 use Rattle.dmr_voice.specs.Hearing.{IsDatum}
 use Rattle.dmr_voice.specs.Slots.{Slot, Silent, Data, VoiceSync, Voice, ForeignVoice, ForeignData, CutOff, IsHeardAs}
@@ -15,7 +15,7 @@ use Rattle.dmr_voice.specs.declared.heard.Heard.{Heard}
 -- what the parts of a burst are read as
 pub record IsFound (colour : ℕ) (bits : List Bool) (heard : Heard) : Type 0 where
   pub within : IfSome heard.datum (λ datum. IsDatum colour datum bits)
-  pub undone : (kind : ℕ) (information : List Bool) (lc : Option FullLc) → Sends (content_of kind) information lc → IsDamagedData
+  pub undone : (kind : ℕ) (information : List Bool) (lc : Option FullLc) → Sends (payload_of kind) information lc → IsDamagedData
       colour kind information bits
       → heard.datum ≡ Some (record { kind = kind; information = information; link_control = lc })
   pub foreign : IsDamagedForeignData colour bits → heard.datum ≡ None

@@ -10,12 +10,12 @@ use Rattle.dmr_burst.specs.declared.burst.Emb.{Emb}
 use Rattle.dmr_burst.specs.declared.burst.Side.TheVariants.{Ms}
 use Rattle.dmr_burst.proofs.Same.{read_back}
 use Rattle.dmr_link.specs.declared.full_lc.FullLc.{FullLc}
-use Rattle.dmr_voice.specs.DataTypes.{content_of}
-use Rattle.dmr_voice.specs.Damage.{Sends, HoldsDamaged, IsDamagedContent, IsSentSlot, IsRecordedAs, HasNoMobileSync}
+use Rattle.dmr_voice.specs.DataTypes.{payload_of}
+use Rattle.dmr_voice.specs.Damage.{Sends, HoldsDamaged, IsDamagedPayload, IsSentSlot, IsRecordedAs, HasNoMobileSync}
 use Rattle.dmr_voice.specs.Hearing.{IsEncoded}
 use Rattle.dmr_voice.specs.Slots.{Data, VoiceSync, Voice, ForeignVoice, ForeignData}
-use Rattle.dmr_voice.specs.declared.data_types.Content.{Content}
-use Rattle.dmr_voice.specs.declared.data_types.Content.TheVariants.{Word, Sealed, LinkControl, Raw, Nothing}
+use Rattle.dmr_voice.specs.declared.data_types.Payload.{Payload}
+use Rattle.dmr_voice.specs.declared.data_types.Payload.TheVariants.{Word, Sealed, LinkControl, Raw, Nothing}
 
 undamaged : (message information received : List Bool) → received ≡ information → IsEncoded message information
     → HoldsDamaged information received
@@ -23,17 +23,17 @@ undamaged message information received same encoded =
     let itself : IsDamaged information information = (0, λ c h apart. omega (arith, no_distance (column information c))) in
     (information, encoded.written.word, refl, subst (IsDamaged information) (sym same) itself)
 
-content_undamaged : (content : Content) (information : List Bool) (lc : Option FullLc) (received : List Bool)
-    → received ≡ information → Sends content information lc
-    → IsDamagedContent content information received
-content_undamaged Word information lc received same sends = let (message, encoded, plain) = sends in undamaged
+payload_undamaged : (payload : Payload) (information : List Bool) (lc : Option FullLc) (received : List Bool)
+    → received ≡ information → Sends payload information lc
+    → IsDamagedPayload payload information received
+payload_undamaged Word information lc received same sends = let (message, encoded, plain) = sends in undamaged
     message information received same encoded
-content_undamaged (Sealed mask) information lc received same sends = let (message, sealed, encoded, plain) = sends in undamaged
+payload_undamaged (Sealed mask) information lc received same sends = let (message, sealed, encoded, plain) = sends in undamaged
     message information received same encoded
-content_undamaged (LinkControl lc_use) information lc received same sends =
+payload_undamaged (LinkControl lc_use) information lc received same sends =
     let (sent, message, is, encoded, control) = sends in undamaged message information received same encoded
-content_undamaged Raw information lc received same sends = same
-content_undamaged Nothing information lc received same sends = absurd sends
+payload_undamaged Raw information lc received same sends = same
+payload_undamaged Nothing information lc received same sends = absurd sends
 
 pub data_recorded : (colour kind : ℕ) (information : List Bool) (lc : Option FullLc) (octets : List ℕ)
     → IsSentSlot colour (Data kind information lc)
@@ -45,7 +45,7 @@ data_recorded colour kind information lc octets sent encoding =
       damaged = record {
         sync = back.0;
         slot_type = back.1;
-        content = content_undamaged (content_of kind) information lc (information_field (bits_of_octets octets)) back.2 sent;
+        payload = payload_undamaged (payload_of kind) information lc (information_field (bits_of_octets octets)) back.2 sent;
       };
     }
 

@@ -4,9 +4,9 @@ ghost use Rattle.dmr_bits.specs.Bits.{bits_of_octets};
 ghost use Rattle.dmr_burst.specs.Layout.{HasSync, HasSlotType, information_field};
 ghost use Rattle.dmr_burst.specs.declared.burst.Side.TheVariants as side;
 ghost use Rattle.dmr_link.specs.declared.full_lc.FullLc.{FullLc};
-ghost use Rattle.dmr_voice.specs.DataTypes.{content_of as content};
+ghost use Rattle.dmr_voice.specs.DataTypes.{payload_of as payload};
 ghost use Rattle.dmr_voice.specs.Damage.{Sends, IsSentSlot, IsRecordedAs};
-ghost use Rattle.dmr_voice.specs.Damage.{IsDamagedContent, IsDamagedData, IsDamagedForeignData, IsDamagedBurst};
+ghost use Rattle.dmr_voice.specs.Damage.{IsDamagedPayload, IsDamagedData, IsDamagedForeignData, IsDamagedBurst};
 ghost use Rattle.dmr_voice.specs.Fit.{IsFitHeard};
 ghost use Rattle.dmr_voice.specs.Hearing.{Reads, IsDatum, IsHeardBurst, Hears};
 ghost use Rattle.dmr_voice.specs.Slots.{Slot, IsHeardAs, silence as silence_heard};
@@ -36,8 +36,8 @@ pub fn hear(slot: &Option<[u8; 33]>, colour: u8) -> Heard
     }
 }
 
-/// What nothing is heard as.
-fn silence() -> Heard
+/// What nothing is heard as, whatever the colour code.
+pub fn silence() -> Heard
     ensures value { result ≡ silence_heard }
 {
     Heard {
@@ -79,7 +79,7 @@ fn hear_voice(burst: &[u8; 33]) -> bool
 fn hear_datum(burst: &[u8; 33], colour: u8) -> Option<Datum>
     ensures within { IfSome result (λ datum. IsDatum colour datum (bits_of_octets burst.now)) }
     ensures only { (datum : Datum) → IsDatum colour datum (bits_of_octets burst.now) → result ≡ Some datum }
-    ensures undone { (kind : ℕ) (information : List Bool) (lc : Option FullLc) → Sends (content kind) information lc
+    ensures undone { (kind : ℕ) (information : List Bool) (lc : Option FullLc) → Sends (payload kind) information lc
         → IsDamagedData colour kind information (bits_of_octets burst.now)
         → result ≡ Some (record { kind = kind; information = information; link_control = lc }) }
     ensures foreign { IsDamagedForeignData colour (bits_of_octets burst.now) → result ≡ None }
@@ -95,14 +95,14 @@ fn hear_datum(burst: &[u8; 33], colour: u8) -> Option<Datum>
 /// The datum of a data burst of the colour code.
 fn own_datum(burst: &[u8; 33], colour: u8) -> Option<Datum>
     ensures within { IfSome result (λ datum. HasSlotType (record { colour = colour; kind = datum.kind }) (bits_of_octets burst.now)
-        × Reads (content datum.kind) (information_field (bits_of_octets burst.now)) datum.information datum.link_control) }
+        × Reads (payload datum.kind) (information_field (bits_of_octets burst.now)) datum.information datum.link_control) }
     ensures only { (kind : ℕ) (information : List Bool) (lc : Option FullLc)
         → HasSlotType (record { colour = colour; kind = kind }) (bits_of_octets burst.now)
-        → Reads (content kind) (information_field (bits_of_octets burst.now)) information lc
+        → Reads (payload kind) (information_field (bits_of_octets burst.now)) information lc
         → result ≡ Some (record { kind = kind; information = information; link_control = lc }) }
     ensures undone { (kind : ℕ) (information : List Bool) (lc : Option FullLc)
-        → HasSlotType (record { colour = colour; kind = kind }) (bits_of_octets burst.now) → Sends (content kind) information lc
-        → IsDamagedContent (content kind) information (information_field (bits_of_octets burst.now))
+        → HasSlotType (record { colour = colour; kind = kind }) (bits_of_octets burst.now) → Sends (payload kind) information lc
+        → IsDamagedPayload (payload kind) information (information_field (bits_of_octets burst.now))
         → result ≡ Some (record { kind = kind; information = information; link_control = lc }) }
     ensures foreign { (other kind : ℕ) → other ≢ colour
         → HasSlotType (record { colour = other; kind = kind }) (bits_of_octets burst.now) → result ≡ None }

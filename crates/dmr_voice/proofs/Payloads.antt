@@ -15,7 +15,7 @@ use Rattle.dmr_link.specs.declared.sealing.LcUse.{LcUse}
 use Rattle.dmr_voice.specs.Damage.{HoldsDamaged}
 use Rattle.dmr_voice.specs.Hearing.{IsEncoded}
 use Rattle.dmr_voice.specs.Reading.{IsReading}
-use Rattle.dmr_voice.specs.declared.data_types.Content.TheVariants.{Word, Sealed, LinkControl}
+use Rattle.dmr_voice.specs.declared.data_types.Payload.TheVariants.{Word, Sealed, LinkControl}
 use Rattle.dmr_voice.specs.declared.heard.Datum.{Datum}
 
 -- ---- equal parts
