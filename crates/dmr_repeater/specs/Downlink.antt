@@ -60,7 +60,8 @@ abbrev pub IsPushedLine : Settings → List (Option (List ℕ)) → List SlotOut
 IsPushedLine s slots outs = (after : Line) × ArePushed (silent_line s.colour s.call_hang) slots outs after
 
 -- What the rules make of frames that are handed over one after another: the lines of both slots, and what goes out for them.
-pub record Makes (s : Settings) (frames : List (List (Option (List ℕ)))) (sending : List (List (Option DownlinkBurst))) : Type 0 where
+pub record Makes (s : Settings) (frames : List (List (Option (List ℕ)))) (sending : List (List
+    (Option DownlinkBurst))) : Type 0 where
   pub first : List SlotOut
   pub second : List SlotOut
   pub first_line : IsPushedLine s (slots_in 0 frames) first

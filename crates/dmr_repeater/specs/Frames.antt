@@ -58,7 +58,8 @@ marked_slots (out ∷ outs) [] = []
 marked_slots (out ∷ outs) (burst ∷ bursts) = marked out burst ∷ marked_slots outs bursts
 
 -- A frame of the uplink is pushed into both lines, and what they give goes out as the channel decides.
-pub record IsPassed (before : Memory) (frame : List (Option (List ℕ))) (sending : List (Option DownlinkBurst)) (after : Memory) : Type 0 where
+pub record IsPassed (before : Memory) (frame : List (Option (List ℕ))) (sending : List (Option DownlinkBurst))
+    (after : Memory) : Type 0 where
   pub first : SlotOut
   pub second : SlotOut
   pub bursts : List (Option Burst)
