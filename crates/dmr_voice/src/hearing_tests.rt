@@ -173,6 +173,7 @@ fn silence(rt: HostRuntime) {
         vocoder: Bits::<216>::zero(),
     };
     assert!(rt; hear(&None, 1) == nothing);
+    assert!(rt; crate::silence() == nothing);
 }
 
 #[test]
