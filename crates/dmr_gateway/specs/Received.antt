@@ -1,0 +1,81 @@
+-- What is received: what a completed packet and a status give.
+use Rattle.std.specs.Prelude.{◌≡◌, ℕ, ◌^◌, ◌<◌, ◌==◌, ◌&&◌, ◌⊎◌, not, nat_lt, nat_le, false, List, ◌∷◌, length}
+use Rattle.std.specs.Prelude.{Option, Some, None, Result, Ok, Err, if◌then◌else◌}
+use Rattle.std.specs.Int.{to_be_bytes, w16}
+use Rattle.dmr_record.specs.declared.received.ReceivedKind.TheVariants.{Datagram, ShortData, Status}
+use Rattle.dmr_data.specs.declared.header.Header.{Header}
+use Rattle.dmr_data.specs.declared.header.Header.TheVariants as header
+use Rattle.dmr_ip.specs.Spelling.{expand}
+use Rattle.dmr_ip.specs.declared.fault.ExpandFault.{ExpandFault}
+use Rattle.dmr_arq.specs.declared.received.Joined.{Joined}
+use Rattle.dmr_gateway.specs.declared.received.Received.{Received}
+use Rattle.dmr_gateway.specs.Packets.{compressed_service, ip_service}
+
+-- 1. What fits.
+
+abbrev pub IsSlot : ℕ → Type 0
+IsSlot slot = (slot ≡ 1) ⊎ (slot ≡ 2)
+
+-- What is received fits the record of it: the source is an address of 24 bits, and the length has 16.
+pub record IsFitReceived (r : Received) : Type 0 where
+  pub slot : IsSlot r.slot
+  pub source : r.source < 2 ^ 24
+  pub octets : length r.octets < 2 ^ 16
+
+-- 2. What a packet gives.
+
+abbrev pub datagram_of : ℕ → ℕ → List ℕ → Received
+datagram_of slot source octets = record { slot = slot; kind = Datagram; source = source; octets = octets }
+
+abbrev pub short_data_of : ℕ → ℕ → List ℕ → Received
+short_data_of slot source octets = record { slot = slot; kind = ShortData; source = source; octets = octets }
+
+-- A body that is a datagram as it is, of 1 to 1,400 octets.
+abbrev pub plain_datagram : ℕ → ℕ → List ℕ → Option Received
+plain_datagram slot source body =
+    if nat_lt 0 (length body) && nat_le (length body) 1400 then Some (datagram_of slot source body) else None
+
+-- the datagram of which a body from this source is the compressed form
+abbrev pub expansion : List ℕ → (source llid : ℕ) → Result (List ℕ) ExpandFault
+expansion body source llid = expand body source llid false
+
+abbrev pub expanded : ℕ → ℕ → Result (List ℕ) ExpandFault → Option Received
+expanded slot source (Ok datagram) = Some (datagram_of slot source datagram)
+expanded slot source (Err fault) = None
+
+-- what a packet of a service access point gives
+abbrev pub service_gives : ℕ → ℕ → ℕ → ℕ → List ℕ → Option Received
+service_gives llid slot service source body =
+    if service == ip_service then plain_datagram slot source body
+    else (if service == compressed_service then expanded slot source (expansion body source llid) else None)
+
+abbrev pub packet_gives : ℕ → ℕ → Header → List ℕ → Option Received
+packet_gives llid slot (header.Unconfirmed h) body = service_gives llid slot h.sap h.source body
+packet_gives llid slot (header.Confirmed h) body = service_gives llid slot h.sap h.source body
+packet_gives llid slot (header.ShortData h) body = Some (short_data_of slot h.source body)
+packet_gives llid slot (header.Status h) body = None
+packet_gives llid slot (header.Response h) body = None
+
+-- What a completed packet gives: a datagram, as it is or expanded, or short data, or nothing.
+abbrev pub gives : ℕ → ℕ → Option Joined → Option Received
+gives llid slot None = None
+gives llid slot (Some joined) = packet_gives llid slot joined.header joined.body
+
+-- 3. What a status gives.
+
+-- Of a status header for the gateway: both ports, and the status in two octets.
+abbrev pub status_gives : ℕ → ℕ → Option Header → Option Received
+status_gives llid slot None = None
+status_gives llid slot (Some (header.Status h)) =
+    if not h.group && (h.destination == llid)
+    then Some (record {
+      slot = slot;
+      kind = Status;
+      source = h.source;
+      octets = h.source_port ∷ h.destination_port ∷ to_be_bytes w16 h.status;
+    })
+    else None
+status_gives llid slot (Some (header.Unconfirmed h)) = None
+status_gives llid slot (Some (header.Confirmed h)) = None
+status_gives llid slot (Some (header.ShortData h)) = None
+status_gives llid slot (Some (header.Response h)) = None
