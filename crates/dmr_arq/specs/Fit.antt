@@ -1,0 +1,68 @@
+-- What fits its fields: all that goes out, and all that is kept for it.
+use Rattle.std.specs.Prelude.{ℕ, ◌^◌, ◌<◌, ◌≤◌, List, length, IfSome}
+use Rattle.dmr_data.specs.Block.{IsFit}
+use Rattle.dmr_data.specs.Header.{IsFitHeader}
+use Rattle.dmr_data.specs.Packet.{IsWrittenPacket}
+use Rattle.dmr_data.specs.declared.header.Header.TheVariants as header
+use Rattle.dmr_data.specs.declared.packet.Packet.{Packet}
+use Rattle.dmr_arq.specs.declared.answer.Answer.{Answer}
+use Rattle.dmr_arq.specs.declared.received.ReceiverOut.{ReceiverOut}
+use Rattle.dmr_arq.specs.declared.receiver.Kind.{Kind}
+use Rattle.dmr_arq.specs.declared.receiver.Kind.TheVariants.{Single, InProgress, Repeat}
+use Rattle.dmr_arq.specs.declared.receiver.ReceiverState.{ReceiverState}
+use Rattle.dmr_arq.specs.declared.sender.GateBurst.{GateBurst}
+use Rattle.dmr_arq.specs.declared.sender.GateBurst.TheVariants as burst
+use Rattle.dmr_arq.specs.declared.sender.Held.{Held}
+use Rattle.dmr_arq.specs.declared.sender.Route.{Route}
+use Rattle.dmr_arq.specs.declared.sender.SenderState.{SenderState}
+
+-- 1. What goes out.
+
+-- an address has 24 bits, the service access point four
+pub record IsFitRoute (route : Route) : Type 0 where
+  pub destination : route.destination < 2 ^ 24
+  pub sap : route.sap < 2 ^ 4
+
+-- and the number of a packet three
+pub record IsFitAnswer (answer : Answer) : Type 0 where
+  pub from : answer.from < 2 ^ 24
+  pub to : answer.to < 2 ^ 24
+  pub sap : answer.sap < 2 ^ 4
+  pub number : answer.number < 2 ^ 3
+
+-- what a place of a try gives
+pub record IsFitReceiverOut (out : ReceiverOut) : Type 0 where
+  pub delivered : IfSome out.delivered (λ joined. IsFitHeader joined.header)
+  pub answer : IfSome out.answer IsFitAnswer
+
+-- a burst of a try: a preamble counts in eight bits, and a block fits its rate
+abbrev pub IsFitGateBurst : GateBurst → Type 0
+IsFitGateBurst (burst.Preamble left route) = (left < 2 ^ 8) × IsFitRoute route
+IsFitGateBurst (burst.Header h) = IsFitHeader h
+IsFitGateBurst (burst.Block block rate) = IsFit rate block.serial block.octets
+
+-- 2. What is offered, and what is kept.
+
+-- the packet that is sent for some body
+abbrev pub IsOfferedPacket : Packet → Type 0
+IsOfferedPacket packet = (body : List ℕ) × IsWrittenPacket body packet
+
+abbrev pub IsFitKind : Kind → Type 0
+IsFitKind Single = Unit {0}
+IsFitKind (InProgress h) = IsFitHeader (header.Confirmed h)
+IsFitKind (Repeat h) = IsFitHeader (header.Confirmed h)
+
+pub record IsFitReceiver (r : ReceiverState) : Type 0 where
+  pub llid : r.llid < 2 ^ 24
+  pub packet : IfSome r.packet (λ p. IsFitHeader p.header)
+  pub attempt : IfSome r.attempt (λ a. IsFitKind a.kind)
+
+pub record IsFitHeld (h : Held) : Type 0 where
+  pub packet : IsOfferedPacket h.packet
+  pub route : IsFitRoute h.route
+  pub number : h.number < 2 ^ 3
+  pub serials : length h.selection.serials ≤ 127
+
+pub record IsFitSender (s : SenderState) : Type 0 where
+  pub llid : s.llid < 2 ^ 24
+  pub held : IfSome s.held IsFitHeld
