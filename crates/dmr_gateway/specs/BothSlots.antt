@@ -71,8 +71,8 @@ pub record FrameAsMeant (colour llid limit : ℕ) (first second : List Happening
       GivesAsMeant colour llid 2 limit (second_new ∷ second) two.burst (all_received after.second) (side_outcome after.second)
   pub refusals :
       refused
-          ≡ faults_in offered
-          + (refused_now limit llid (brings llid (first_new ∷ first)) + refused_now limit llid (brings llid (second_new ∷ second)))
+      ≡ faults_in offered
+      + (refused_now limit llid (brings llid (first_new ∷ first)) + refused_now limit llid (brings llid (second_new ∷ second)))
   pub stands : Stands colour llid limit (first_new ∷ first) (second_new ∷ second) (all_taken_of after)
 
 -- A new gateway stands where no frame has led.
@@ -83,6 +83,6 @@ StandsAtTheStart = (colour llid limit : ℕ) → Stands colour llid limit [] [] 
 abbrev pub FramesAsMeant : Type 0
 FramesAsMeant =
     (colour llid limit : ℕ) (first second : List Happening) (offered : List Outgoing) (one two : Turn) (refused : ℕ)
-        (before after : Gate) →
-        Stands colour llid limit first second before → IsFrame offered one two refused before after →
-        FrameAsMeant colour llid limit first second offered one two refused after
+    (before after : Gate) →
+    Stands colour llid limit first second before → IsFrame offered one two refused before after →
+    FrameAsMeant colour llid limit first second offered one two refused after
