@@ -1,0 +1,95 @@
+-- How long each attempt of a slot stands: until all its bursts are out, or it is cut or replaced.
+use Rattle.std.specs.Prelude.{◌≡◌, ℕ, ◌+◌, ◌<◌, ◌≤◌, ◌==◌, ◌⊎◌, Bool, true, false, List, [], ◌∷◌, length, Option, Some, None}
+use Rattle.std.specs.Prelude.{is_some}
+use Rattle.std.specs.Prelude.{if◌then◌else◌}
+use Rattle.std.specs.List.{AllByRecursion}
+use Rattle.dmr_gateway.specs.declared.outbox.SlotBurst.{SlotBurst}
+use Rattle.dmr_gateway.specs.Attempts.{Sends, Answers, Tries, Attempt, Stage, Ready, Begun, Awaits, Hand, Ledger, Brings, attempts}
+use Rattle.dmr_gateway.specs.Attempts.{at_place, bursts_of}
+
+-- 1. The frames of a run, by their numbers.
+
+-- those up to one of them, which is the newest then
+abbrev pub up_to : ℕ → List Brings → List Brings
+up_to k [] = []
+up_to k (newest ∷ earlier) = if length earlier == k then newest ∷ earlier else up_to k earlier
+
+-- whether the newest is free
+abbrev pub is_free : List Brings → Bool
+is_free [] = false
+is_free (newest ∷ earlier) = newest.free
+
+-- and whether an answer is due in it
+abbrev pub has_due : List Brings → Bool
+has_due [] = false
+has_due (newest ∷ earlier) = is_some newest.due
+
+-- The newest frame is free, this attempt stands in it, and this burst goes out.
+pub record StandsIn (limit llid : ℕ) (a : Attempt) (burst : Option SlotBurst) (frames : List Brings) : Type 0 where
+  pub free : is_free frames ≡ true
+  pub stands : (attempts limit llid frames).stands ≡ Some a
+  pub sends : (attempts limit llid frames).burst ≡ burst
+
+-- 2. An attempt, and all of them.
+
+abbrev pub is_answer : Sends → Bool
+is_answer (Answers due) = true
+is_answer (Tries packet route number selection) = false
+
+-- In the newest frame it is cut, since that isn't free, or replaced, an answer by one that is due.
+abbrev pub IsBrokenOff : Attempt → List Brings → Type 0
+IsBrokenOff a frames = (is_free frames ≡ false) ⊎ ((is_answer a.what ≡ true) × (has_due frames ≡ true))
+
+-- So many of its bursts are out: these are all; or no frame has come since; or it was broken off in the next one.
+abbrev pub HasEnded : ℕ → List Brings → Attempt → ℕ → Type 0
+HasEnded llid frames a out =
+    (out ≡ length (bursts_of llid a.what))
+    ⊎ ((a.first + out ≡ length frames)
+    ⊎ ((a.first + out < length frames) × IsBrokenOff a (up_to (a.first + out) frames)))
+
+-- An attempt stands in consecutive free frames from its first on, and sends its burst number k in the frame k behind that.
+pub record HasCourse (limit llid : ℕ) (frames : List Brings) (a : Attempt) : Type 0 where
+  pub out : ℕ
+  pub some : 0 < out
+  pub most : out ≤ length (bursts_of llid a.what)
+  pub so_far : a.first + out ≤ length frames
+  pub sends : (k : ℕ) → k < out → StandsIn limit llid a (at_place (bursts_of llid a.what) k) (up_to (a.first + k) frames)
+  pub ended : HasEnded llid frames a out
+
+abbrev pub joined_by : ℕ → Option Attempt → List Attempt → List Attempt
+joined_by f None begun = begun
+joined_by f (Some a) begun = if a.first == f then a ∷ begun else begun
+
+-- All attempts, the newest of them first: those that stand in a frame which is their first.
+abbrev pub all_attempts : ℕ → ℕ → List Brings → List Attempt
+all_attempts limit llid [] = []
+all_attempts limit llid (newest ∷ earlier) =
+    joined_by (length earlier) (attempts limit llid (newest ∷ earlier)).stands (all_attempts limit llid earlier)
+
+-- 3. Frames in which nothing goes out.
+
+abbrev pub IsNotDue : Stage → Type 0
+IsNotDue Ready = ⊥
+IsNotDue (Begun first) = ⊥
+IsNotDue (Awaits ended) = Unit {0}
+
+abbrev pub HasNoTryDue : Option Hand → Type 0
+HasNoTryDue None = Unit {0}
+HasNoTryDue (Some h) = IsNotDue h.stage
+
+-- no answer is held, and no try is due
+abbrev pub HasNothingDue : Ledger → Type 0
+HasNothingDue l = (l.owing ≡ None) × HasNoTryDue l.hand
+
+-- 4. Over all frames, whatever they bring.
+
+-- Each attempt has its course; a burst goes out of the newest attempt alone; and a free frame without one has nothing due.
+pub record AreAttempts (limit llid : ℕ) (frames : List Brings) : Type 0 where
+  pub courses : AllByRecursion (HasCourse limit llid frames) (all_attempts limit llid frames)
+  pub newest : (a : Attempt) → (attempts limit llid frames).stands ≡ Some a →
+      (older : List Attempt) × (all_attempts limit llid frames ≡ a ∷ older)
+  pub silent : (attempts limit llid frames).stands ≡ None → (attempts limit llid frames).burst ≡ None
+  pub idle : is_free frames ≡ true → (attempts limit llid frames).stands ≡ None → HasNothingDue (attempts limit llid frames).ledger
+
+abbrev pub AttemptsStand : Type 0
+AttemptsStand = (limit llid : ℕ) (frames : List Brings) → AreAttempts limit llid frames
