@@ -133,9 +133,12 @@ next_at : (destination : ℕ) (calls : List Entry) → Found destination (last 6
 next_at destination calls (inl h) =
     inl (h.0, kept_heard (record { llid = destination; number = h.0 }) calls h.1 (newest_of destination calls), h.2)
 next_at destination calls (inr h) =
-    inr ((λ number called.
-    let kept = heard_kept (record { llid = destination; number = number }) calls called in
-    let none = h.0 number in absurd (cc)), h.1)
+    inr (
+      (λ number called.
+          let kept = heard_kept (record { llid = destination; number = number }) calls called in
+          let none = h.0 number in absurd (cc)),
+      h.1,
+    )
 
 next_is : (destination : ℕ) (calls table : List Entry) → table ≡ last 64 (sources calls) →
     IsNextNumber destination calls (next_number destination table)

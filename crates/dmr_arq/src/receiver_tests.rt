@@ -168,7 +168,6 @@ fn same_serial_twice(rt: HostRuntime) {
     }
 }
 
-
 #[test]
 fn headers_that_open(rt: HostRuntime) {
     let mut receiver = Receiver::new(1);
@@ -246,6 +245,10 @@ fn sources_remembered(rt: HostRuntime) {
         for other in 0..others {
             assert!(rt; delivers(&rt, &mut receiver, 3 + u32::from(other), &packet));
         }
-        assert_eq!(rt; delivers(&rt, &mut receiver, 2, &packet), again, "{others} others");
+        assert_eq!(rt;
+            delivers(&rt, &mut receiver, 2, &packet),
+            again,
+            "{others} others"
+        );
     }
 }

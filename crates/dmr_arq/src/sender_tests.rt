@@ -140,7 +140,6 @@ fn late_answer(rt: HostRuntime) {
     assert!(rt; sender.outcome() == Some(Outcome::GivenUp));
 }
 
-
 // To a talk group, at rate 1/2.
 #[test]
 fn unconfirmed_send(rt: HostRuntime) {
@@ -220,6 +219,10 @@ fn destinations_remembered(rt: HostRuntime) {
         for other in 0..others {
             assert_eq!(rt; number_of_next(&rt, &mut sender, 3 + u32::from(other)), 0);
         }
-        assert_eq!(rt; number_of_next(&rt, &mut sender, 2), next, "{others} others");
+        assert_eq!(rt;
+            number_of_next(&rt, &mut sender, 2),
+            next,
+            "{others} others"
+        );
     }
 }
