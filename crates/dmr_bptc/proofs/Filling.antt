@@ -1,7 +1,10 @@
 -- Filling the table row by row, and then column by column.
-use Rattle.std.proofs.Common.{◌≡◌, ℕ, ◌+◌, ◌-◌, ◌*◌, ◌/◌, ◌%◌, ◌<◌, ◌≢◌, Bool, false, List, refl, sym, ◌∙◌, ap, subst, arith, cond, get_or, inl, inr}
+use Rattle.std.proofs.Common.{◌≡◌, ℕ, ◌+◌, ◌-◌, ◌*◌, ◌/◌, ◌%◌, ◌<◌, ◌≢◌, Bool, false, List, refl, sym, ◌∙◌, ap, subst, arith, cond}
+use Rattle.std.proofs.Common.{get_or, inl, inr, zero, suc, ◌++◌, length, take, drop, replicate}
 use Rattle.std.specs.Prelude.{nat_lt}
-use Rattle.std.proofs.lemmas.Bool.{cases_eq, lt-ltb, le-ltb}
+use Rattle.std.proofs.lemmas.Bool.{cases_eq, cases_lt, lt-ltb, le-ltb}
+use Rattle.std.proofs.lemmas.List.{length-append, get_or_append_left, get_or-append_right, get_or-take}
+use Rattle.dmr_bits.specs.Bits.{part, put_at}
 use Rattle.dmr_codes.specs.Seven.{IsHamming13, IsHamming15, hamming13_columns, hamming15_columns, hamming13_shaped}
 use Rattle.dmr_codes.proofs.Tables.{all_rows as rows_from}
 use Rattle.dmr_bptc.specs.Table.{cell, row, column}
@@ -9,12 +12,16 @@ use Rattle.dmr_bptc.specs.ProductWord.{information_cell}
 use Rattle.dmr_bptc.proofs.Cells.{row_same, column_same}
 
 -- Where all columns are words and the upper nine rows are, all rows are.
-pub all_rows : (bits : List Bool) → ((c : ℕ) → c < 15 → IsHamming13 (column bits c)) → ((r : ℕ) → r < 9 → IsHamming15 (row bits r)) → (r : ℕ) → r < 13 → IsHamming15 (row bits r)
+pub all_rows : (bits : List Bool) → ((c : ℕ) → c < 15 → IsHamming13 (column bits c)) → ((r : ℕ) → r < 9 → IsHamming15 (row bits r))
+    → (r : ℕ) → r < 13 → IsHamming15 (row bits r)
 unfolding row column
-all_rows bits columns rows r h = rows_from (cell bits) 13 9 hamming13_columns 15 4 hamming15_columns hamming13_shaped refl columns rows r h
+all_rows bits columns rows r h =
+    rows_from (cell bits) 13 9 hamming13_columns 15 4 hamming15_columns hamming13_shaped refl columns rows r h
 
 -- one row, or one column, more
-pub rows_more : (before after : List Bool) (i : ℕ) → i < 13 → ((k : ℕ) → k < i → IsHamming15 (row before k)) → IsHamming15 (row after i) → ((r c : ℕ) → r < 13 → c < 15 → r ≢ i → cell after r c ≡ cell before r c) → (k : ℕ) → k < i + 1 → IsHamming15 (row after k)
+pub rows_more : (before after : List Bool) (i : ℕ) → i < 13 → ((k : ℕ) → k < i → IsHamming15 (row before k))
+    → IsHamming15 (row after i) → ((r c : ℕ) → r < 13 → c < 15 → r ≢ i → cell after r c ≡ cell before r c) → (k : ℕ) → k < i + 1
+    → IsHamming15 (row after k)
 rows_more before after i below words new kept k h =
     let P : List Bool → Type 0 = IsHamming15 in
     elim (cases_eq k i) [
@@ -22,7 +29,9 @@ rows_more before after i below words new kept k h =
       | inr apart ↦ subst P (sym (row_same after before k (λ c b. kept k c (omega arith) b apart))) (words k (omega arith))
     ]
 
-pub columns_more : (before after : List Bool) (i : ℕ) → i < 15 → ((k : ℕ) → k < i → IsHamming13 (column before k)) → IsHamming13 (column after i) → ((r c : ℕ) → r < 13 → c < 15 → c ≢ i → cell after r c ≡ cell before r c) → (k : ℕ) → k < i + 1 → IsHamming13 (column after k)
+pub columns_more : (before after : List Bool) (i : ℕ) → i < 15 → ((k : ℕ) → k < i → IsHamming13 (column before k))
+    → IsHamming13 (column after i) → ((r c : ℕ) → r < 13 → c < 15 → c ≢ i → cell after r c ≡ cell before r c) → (k : ℕ) → k < i + 1
+    → IsHamming13 (column after k)
 columns_more before after i below words new kept k h =
     let P : List Bool → Type 0 = IsHamming13 in
     elim (cases_eq k i) [
@@ -30,7 +39,11 @@ columns_more before after i below words new kept k h =
       | inr apart ↦ subst P (sym (column_same after before k (λ r b. kept r k b (omega arith) apart))) (words k (omega arith))
     ]
 
-pub cells_more : (message before after : List Bool) (i : ℕ) → i < 9 → ((r c : ℕ) → r < i → c < 11 → cell before r c ≡ information_cell message r c) → ((c : ℕ) → c < 11 → cell after i c ≡ information_cell message i c) → ((r c : ℕ) → r < 13 → c < 15 → r ≢ i → cell after r c ≡ cell before r c) → (r c : ℕ) → r < i + 1 → c < 11 → cell after r c ≡ information_cell message r c
+pub cells_more : (message before after : List Bool) (i : ℕ) → i < 9
+    → ((r c : ℕ) → r < i → c < 11 → cell before r c ≡ information_cell message r c)
+    → ((c : ℕ) → c < 11 → cell after i c ≡ information_cell message i c)
+    → ((r c : ℕ) → r < 13 → c < 15 → r ≢ i → cell after r c ≡ cell before r c) → (r c : ℕ) → r < i + 1 → c < 11
+    → cell after r c ≡ information_cell message r c
 cells_more message before after i below done new kept r c h k =
     elim (cases_eq r i) [
       | inl same ↦ rw same (new c k)
@@ -50,3 +63,32 @@ reserved_cell bits c h =
     let whole : 11 * 0 + c ≡ c = omega arith in
     ap (λ n. cond (nat_lt n 3) false (get_or bits (n - 3) false)) whole
     ∙ ap (λ b. cond b false (get_or bits (c - 3) false)) (lt-ltb c 3 h)
+
+-- the first row: three reserved cells, and eight of the information
+pub first_row : (bits new : List Bool) → length (part bits 0 8) ≡ 8 → new ≡ put_at (replicate 11 false) 3 (part bits 0 8) → (c : ℕ)
+    → c < 11 → get_or new c false ≡ information_cell bits 0 c
+first_row bits new long is c h =
+    let F : List Bool = take 3 (replicate 11 false) in
+    let P : List Bool = take 8 bits in
+    let R : List Bool = drop (3 + length P) (replicate 11 false) in
+    let wide : length (F ++ P) ≡ 11 = length-append F P ∙ ap (λ n. 3 + n) long in
+    let front : get_or new c false ≡ get_or (F ++ P) c false = ap (λ l. get_or l c false) is
+    ∙ get_or_append_left (F ++ P) R false c (omega arith) in
+    front
+    ∙ elim (cases_lt c 3) [
+      | inl low ↦
+          (let three : c < length F = low in
+          get_or_append_left F P false c three ∙ clear c low ∙ sym (reserved_cell bits c low))
+      | inr high ↦
+          (let e : (c - 3 + 3) / 11 ≡ 0 = omega arith in
+          let f : (c - 3 + 3) % 11 ≡ c = omega arith in
+          get_or-append_right F P 3 c false refl high ∙ get_or-take 8 bits (c - 3) false (omega arith)
+          ∙ sym (information_cell_at bits (c - 3)) ∙ ap (λ r. information_cell bits r ((c - 3 + 3) % 11)) e
+          ∙ ap (information_cell bits 0) f)
+    ]
+  where
+    clear : (i : ℕ) → i < 3 → get_or (take 3 (replicate 11 false)) i false ≡ false
+    clear zero h = refl
+    clear (suc zero) h = refl
+    clear (suc (suc zero)) h = refl
+    clear (suc (suc (suc i))) h = absurd (omega arith)

@@ -1,11 +1,15 @@
 //! Correcting columns and then rows, and the information of what that gives.
-ghost use Rattle.std.specs.Prelude.{◌≡◌, ◌≢◌, ◌<◌, ◌↔◌, ℕ, IsTrue, List, Bool, Some};
+ghost use Rattle.std.specs.Prelude.{◌≡◌, ◌≢◌, ◌<◌, ◌+◌, ◌*◌, ◌/◌, ◌%◌, ◌^◌, ◌↔◌, ℕ, IsTrue, List, Bool, true, false};
+ghost use Rattle.std.specs.Prelude.{Some, slice_index_or};
+ghost use Rattle.dmr_bits.specs.Bits.{bits_of};
 ghost use Rattle.dmr_codes.specs.Seven.{IsHamming13, IsHamming15};
 ghost use Rattle.dmr_bptc.specs.Table.{cell, row, column};
 ghost use Rattle.dmr_bptc.specs.ProductWord.{IsProductWord, information};
 ghost use Rattle.dmr_bptc.specs.Decoding.{IsCorrected, IsDecoded, IsDamaged};
 
-use crate::table::{place_of, read_column, read_row, write_column, write_row};
+use crate::table::{
+    Table, cell_of, read_column, read_row, table_of, write_column, write_row, wrong_columns,
+};
 use dmr_bits::Bits;
 use dmr_codes::{BlockCode, Hamming13, Hamming15};
 
@@ -17,58 +21,88 @@ pub fn bptc_decode(bits: &Bits<196>) -> Option<Bits<96>>
     ensures undone { (word : List Bool) → IsProductWord word → IsDamaged word bits.now
         → result ≡ Some (information word) }
 {
-    let mut table = *bits;
-    correct_columns(&mut table);
-    correct_rows(&mut table);
-    if is_product_word(&table) {
+    let mut table = table_of(bits);
+    let columns = correct_columns(&mut table);
+    let rows = correct_rows(&mut table);
+    // Where no row was changed, the columns are the words that they were.
+    if (columns & rows) || is_product_word(&table) {
         Some(information_of(&table))
     } else {
         None
     }
 }
 
-/// Corrects each column.
-fn correct_columns(bits: &mut Bits<196>)
+/// Corrects each column, and answers whether all are words then.
+fn correct_columns(bits: &mut Table) -> bool
+    ensures words { result ≡ true → (c : ℕ) → c < 15 → IsHamming13 (column bits.new c) }
     ensures corrected { (c : ℕ) → c < 15 → IsCorrected IsHamming13 (column bits.old c) (column bits.new c) }
 {
+    let wrong = wrong_columns(bits);
+    let mut all = true;
     for column in 0..15 {
-        correct_column(bits, column);
+        // Most are words as they are received.
+        if (wrong >> (14 - column)) % 2 == 1 {
+            let is_word = correct_column(bits, column);
+            all = all & is_word;
+        }
     }
+    all
 }
 
-/// Corrects one column.
-fn correct_column(bits: &mut Bits<196>, column_number: usize)
+/// Corrects one column, and answers whether it is a word then.
+fn correct_column(bits: &mut Table, column_number: usize) -> bool
     requires inside { column_number < 15 }
+    ensures word { result ≡ true → IsHamming13 (column bits.new column_number) }
     ensures corrected { IsCorrected IsHamming13 (column bits.old column_number) (column bits.new column_number) }
     ensures kept { (r c : ℕ) → r < 13 → c < 15 → c ≢ column_number → cell bits.new r c ≡ cell bits.old r c }
 {
-    if let Some(word) = Hamming13::decode(&read_column(bits, column_number)) {
+    let received = read_column(bits, column_number);
+    let Some(word) = Hamming13::decode(&received) else {
+        return false;
+    };
+    // Most are words as they are received.
+    if word.distance(&received) > 0 {
         write_column(bits, column_number, &word);
     }
+    true
 }
 
-/// Corrects each row.
-fn correct_rows(bits: &mut Bits<196>)
+/// Corrects each row, and answers whether all were words.
+fn correct_rows(bits: &mut Table) -> bool
+    ensures words { result ≡ true → (r : ℕ) → r < 13 → IsHamming15 (row bits.new r) }
+    ensures same { result ≡ true → (r c : ℕ) → r < 13 → c < 15 → cell bits.new r c ≡ cell bits.old r c }
     ensures corrected { (r : ℕ) → r < 13 → IsCorrected IsHamming15 (row bits.old r) (row bits.new r) }
 {
+    let mut all = true;
     for row in 0..13 {
-        correct_row(bits, row);
+        let was_word = correct_row(bits, row);
+        all = all & was_word;
     }
+    all
 }
 
-/// Corrects one row.
-fn correct_row(bits: &mut Bits<196>, row_number: usize)
+/// Corrects one row, and answers whether it was a word.
+fn correct_row(bits: &mut Table, row_number: usize) -> bool
     requires inside { row_number < 13 }
+    ensures word { result ≡ true → IsHamming15 (row bits.new row_number) }
+    ensures same { result ≡ true → bits.new ≡ bits.old }
     ensures corrected { IsCorrected IsHamming15 (row bits.old row_number) (row bits.new row_number) }
     ensures kept { (r c : ℕ) → r < 13 → c < 15 → r ≢ row_number → cell bits.new r c ≡ cell bits.old r c }
 {
-    if let Some(word) = Hamming15::decode(&read_row(bits, row_number)) {
-        write_row(bits, row_number, &word);
+    let received = read_row(bits, row_number);
+    let Some(word) = Hamming15::decode(&received) else {
+        return false;
+    };
+    // Most are words as they are received.
+    if word.distance(&received) == 0 {
+        return true;
     }
+    write_row(bits, row_number, &word);
+    false
 }
 
 /// Whether all rows and columns are words.
-fn is_product_word(bits: &Bits<196>) -> bool
+fn is_product_word(bits: &Table) -> bool
     ensures tells { IsTrue result ↔ IsProductWord bits.now }
 {
     for row in 0..13 {
@@ -85,15 +119,27 @@ fn is_product_word(bits: &Bits<196>) -> bool
 }
 
 /// The information that a table holds.
-fn information_of(bits: &Bits<196>) -> Bits<96>
+fn information_of(bits: &Table) -> Bits<96>
     ensures value { result ≡ information bits.now }
 {
     let mut found = Bits::<96>::zero();
-    for index in 0..96 {
-        found.set(
-            index,
-            bits.get(place_of((index + 3) / 11, (index + 3) % 11)),
-        );
+    for half in 0..2 {
+        found = found.with_field(48 * half, 48, gather_half(bits, half));
     }
     found
+}
+
+/// The number that half of the information spells.
+fn gather_half(bits: &Table, half: usize) -> u64
+    requires inside { half < 2 }
+    ensures fits { result < 2 ^ 48 }
+    ensures cells { (k : ℕ) → k < 48 → slice_index_or (bits_of 48 result) k false
+        ≡ cell bits.now ((48 * half + k + 3) / 11) ((48 * half + k + 3) % 11) }
+{
+    let mut number = 0;
+    for index in 0..48 {
+        let place = 48 * half + index + 3;
+        number = 2 * number + u64::from(cell_of(bits, place / 11, place % 11));
+    }
+    number
 }

@@ -1,4 +1,6 @@
 //! Bursts that no radio sends: what a station gives for them is clean all the same, as the readers tell.
+ghost use Rattle.std.specs.Prelude.{◌≤◌};
+
 use super::{new_station, next_frame};
 use crate::SILENCE;
 use dmr_bits::Bits;
@@ -37,7 +39,9 @@ impl Numbers {
         self.0 >> 40
     }
 
-    fn bits<const N: usize>(&mut self) -> Bits<N> {
+    fn bits<const N: usize>(&mut self) -> Bits<N>
+        requires capacity { N ≤ 320 }
+    {
         let mut bits = Bits::<N>::zero();
         for place in 0..N {
             bits.set(place, self.next() % 2 == 1);

@@ -1,14 +1,38 @@
-use Rattle.std.proofs.Common.{ℕ, ◌≢◌, Bool, List, ◌∙◌, arith}
+use Rattle.std.proofs.Common.{ℕ, ◌≢◌, ◌<◌, Bool, List, refl, sym, subst, ◌∙◌, arith}
+use Rattle.std.proofs.lemmas.Bool.{and_parts}
+use Rattle.dmr_codes.specs.Seven.{IsHamming13}
+use Rattle.dmr_bptc.specs.Table.{column}
+use Rattle.dmr_bptc.proofs.Cells.{column_same}
+use Rattle.dmr_bptc.proofs.Filling.{columns_more}
 use Rattle.dmr_bptc.proofs.Correcting.{corrected_columns_more}
+use Rattle.dmr_bptc.proofs.RightColumns.{kept_word}
+use Rattle.dmr_bptc.proofs.decoding.correct_columns.Goals.{then-wrong-column-eq1, else-wrong-column-eq1}
 use Rattle.dmr_bptc.proofs.decoding.correct_columns.Goals as goal
 
 pub loop-column-preserved : goal.loop-column-preserved
 loop-column-preserved c =
     let before : List Bool = c.args.bits.now in
     let now : List Bool = c.loop-column.bits in
-    let after : List Bool = c.correct_column.new.bits in
     let i : ℕ = c.loop-column.column in
-    record {
-      corrected = corrected_columns_more before now after i (omega arith) c.loop-column.invariant.corrected c.loop-column.invariant.kept c.correct_column.ensures.corrected c.correct_column.ensures.kept;
-      kept = λ r k h l m. let apart : k ≢ i = omega arith in c.correct_column.ensures.kept r k h l apart ∙ c.loop-column.invariant.kept r k h l (omega arith);
-    }
+    let below : i < 15 = omega arith in
+    elim c.if-wrong-column-eq1.branch [
+      | then-wrong-column-eq1 w ↦ rw (w.bits-is, w.all-is) (record {
+        words = λ all. (let both = and_parts c.loop-column.all w.correct_column-is_word.result all in
+            columns_more now w.correct_column-is_word.new.bits i below (c.loop-column.invariant.words both.0)
+            (w.correct_column-is_word.ensures.word both.1) w.correct_column-is_word.ensures.kept);
+        corrected = corrected_columns_more before now w.correct_column-is_word.new.bits i below c.loop-column.invariant.corrected
+            c.loop-column.invariant.kept w.correct_column-is_word.ensures.corrected w.correct_column-is_word.ensures.kept;
+        kept = λ r k h l m. let apart : k ≢ i = omega arith in w.correct_column-is_word.ensures.kept r k h l apart
+            ∙ c.loop-column.invariant.kept r k h l (omega arith);
+      })
+      | else-wrong-column-eq1 w ↦
+          let word : IsHamming13 (column now i) =
+          subst IsHamming13 (sym (column_same now before i (λ r b. c.loop-column.invariant.kept r i b below (omega arith))))
+          (c.wrong_columns-wrong.ensures.right i below w.if-wrong-column-eq1.false) in
+          rw (w.bits-is, w.all-is) (record {
+            words = λ all. columns_more now now i below (c.loop-column.invariant.words all) word (λ r k h l apart. refl);
+            corrected = corrected_columns_more before now now i below c.loop-column.invariant.corrected c.loop-column.invariant.kept
+                (kept_word (column now i) word) (λ r k h l apart. refl);
+            kept = λ r k h l m. c.loop-column.invariant.kept r k h l (omega arith);
+          })
+    ]

@@ -9,20 +9,21 @@ use Rattle.dmr_burst.proofs.announcement.cach.Goals as goal
 
 pub returns : goal.returns
 returns c =
-    let tact : List Bool = c.as_slice.result.now in
-    let fragment : List Bool = c.as_slice-2.result.now in
+    let tact : List Bool = c.tact_word.result in
+    let fragment : List Bool = c.args.fragment.now in
     let joined : c.put-2.new.self ≡ tact ++ fragment =
     c.put-2.ensures.value ∙ ap (λ l. put_at l 7 fragment) c.put.ensures.value
-    ∙ two_parts c.zero-fields.result tact fragment 7 c.as_slice.ensures.count (omega (arith, c.put.ensures.length, c.as_slice-2.ensures.count)) in
+    ∙ two_parts c.zero-fields.result tact fragment 7 c.put.ensures.count
+    (omega (arith, c.put.ensures.length, c.put-2.ensures.count)) in
     let made : bits_of_octets c.octets.result ≡ bits_at ORDER (tact ++ fragment) =
     c.octets.ensures.spelled ∙ c.interleaved.ensures.value ∙ ap (bits_at ORDER) joined in
     let word : tact_field (bits_of_octets c.octets.result) ≡ c.tact_word.result =
-    ap tact_field made ∙ tact_in_order tact fragment c.as_slice.ensures.count ∙ c.as_slice.ensures.value in
+    ap tact_field made ∙ tact_in_order tact fragment c.put.ensures.count in
     record {
       fields = record {
         long = ap length made;
         word = subst IsHamming7 (sym word) c.tact_word.ensures.word;
         says = ap (take 4) word ∙ c.tact_word.ensures.says;
-        holds = ap fragment_field made ∙ fragment_in_order tact fragment c.as_slice.ensures.count c.as_slice-2.ensures.count ∙ c.as_slice-2.ensures.value;
+        holds = ap fragment_field made ∙ fragment_in_order tact fragment c.put.ensures.count c.put-2.ensures.count;
       };
     }

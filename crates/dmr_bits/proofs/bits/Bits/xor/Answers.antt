@@ -1,20 +1,22 @@
-use Rattle.std.proofs.Common.{◌<◌, ◌≢◌, ◌∙◌, length, sym, arith, below_more, get_or-set_same, get_or-set_other, length-set, false}
-use Rattle.dmr_bits.proofs.Lists.{xor_is, get_or-xor_bits, length-xor_bits}
-use Rattle.std.proofs.lemmas.List.{ext_get_or}
+use Rattle.std.proofs.Common.{length, sym, ap, ◌∙◌}
+use Rattle.dmr_bits.specs.Bits.{xor_bits}
+use Rattle.dmr_bits.specs.Words.{unpacked}
+use Rattle.dmr_bits.proofs.Packed.{length-unpacked, sum_packed, sum_unpacked}
 use Rattle.dmr_bits.proofs.bits.Bits.xor.Goals as goal
 
-pub loop-i-preserved : goal.loop-i-preserved
-loop-i-preserved g c = record {
-  long = rw length-set c.loop-i.invariant.long;
-  summed =
-      below_more _ _
-      (λ k h. let ne : k ≢ c.loop-i.i = omega arith in rw get_or-set_other (c.loop-i.invariant.summed k h))
-      (let lt : c.loop-i.i < length c.loop-i.bits = omega (arith, c.loop-i.invariant.long) in rw get_or-set_same (xor_is _ _));
-}
+pub returns-clause-length : goal.returns-clause-length
+returns-clause-length g c = ap length (sym c.self.view_is) ∙ length-unpacked g.row.N c.self.inside.words c.self.invariant
+
+pub returns-clause-other_length : goal.returns-clause-other_length
+returns-clause-other_length g c = ap length (sym c.other.view_is) ∙ length-unpacked g.row.N c.other.inside.words c.other.invariant
+
+pub invariant_of-result : goal.invariant_of-result
+invariant_of-result g c =
+    sum_packed g.row.N c.self.inside.words c.other.inside.words c.sum.result c.self.invariant c.other.invariant c.sum.ensures.long
+    c.sum.ensures.small c.sum.ensures.value
 
 pub returns-clause-value : goal.returns-clause-value
 returns-clause-value g c =
-    rw (← c.self.view_is, ← c.other.view_is)
-    (ext_get_or false _ _
-    (c.loop-i.invariant.long ∙ sym c.self.told ∙ sym (length-xor_bits _ _ (c.self.told ∙ sym c.other.told)))
-    (λ i h. c.loop-i.invariant.summed i (omega (arith, c.loop-i.invariant.long)) ∙ sym (get_or-xor_bits _ _ i (omega (arith, c.self.told, c.loop-i.invariant.long)) (omega (arith, c.other.told, c.loop-i.invariant.long)))))
+    sum_unpacked g.row.N c.self.inside.words c.other.inside.words c.sum.result c.sum.ensures.value
+    ∙ ap (λ l. xor_bits l (unpacked g.row.N c.other.inside.words)) c.self.view_is
+    ∙ ap (xor_bits c.args.self.now) c.other.view_is

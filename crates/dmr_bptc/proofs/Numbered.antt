@@ -1,0 +1,67 @@
+-- Cells that are read into a number, one after the other.
+use Rattle.std.proofs.Common.{◌≡◌, ℕ, ◌+◌, ◌-◌, ◌*◌, ◌^◌, ◌<◌, ◌≤◌, Bool, true, false, cond, zero, suc, List, [], ◌∷◌, ◌++◌, length}
+use Rattle.std.proofs.Common.{take, drop, get_or, refl, sym, ap, ◌∙◌, arith, inl, inr}
+use Rattle.std.proofs.lemmas.Bool.{cases_eq, cases_lt}
+use Rattle.std.proofs.lemmas.List.{get_or_append_left, get_or-append_right, get_or_at, append-nil, length-append, length-take-le}
+use Rattle.std.proofs.lemmas.List.{get_or-take}
+use mir.Val.{bool_byte}
+use Rattle.dmr_bits.specs.Bits.{bits_of}
+use Rattle.dmr_bits.proofs.Lists.{length-bits_of, bits_of_push, pow_suc}
+
+byte_is : (b : Bool) → bool_byte b ≡ cond b 1 0
+byte_is true = refl
+byte_is false = refl
+
+byte_small : (b : Bool) → cond b 1 0 < 2
+byte_small true = omega arith
+byte_small false = omega arith
+
+-- one cell more fits
+pub fits_more : (k n byte : ℕ) (bit : Bool) → n < 2 ^ k → byte ≡ bool_byte bit → 2 * n + byte < 2 ^ (k + 1)
+fits_more k n byte bit h e =
+    let next : k + 1 ≡ suc k = omega arith in
+    let double : 2 ^ (k + 1) ≡ 2 * 2 ^ k = ap (λ m. 2 ^ m) next ∙ pow_suc k in
+    omega (arith, byte_is bit, byte_small bit)
+
+-- and is read behind the others
+pub cells_more : (f : ℕ → Bool) (k n byte : ℕ) (bit : Bool) → n < 2 ^ k → byte ≡ bool_byte bit → bit ≡ f k
+    → ((i : ℕ) → i < k → get_or (bits_of k n) i false ≡ f i) → (i : ℕ) → i < k + 1
+    → get_or (bits_of (k + 1) (2 * n + byte)) i false ≡ f i
+cells_more f k n byte bit h e is before i below =
+    let long : length (bits_of k n) ≡ k = length-bits_of k n in
+    let pushed : bits_of (k + 1) (2 * n + byte) ≡ bits_of k n ++ bit ∷ [] = ap (λ m. bits_of (k + 1) (2 * n + m)) (e ∙ byte_is bit)
+    ∙ bits_of_push k n bit h in
+    ap (λ l. get_or l i false) pushed
+    ∙ elim (cases_eq i k) [
+      | inl same ↦ ap (λ j. get_or (bits_of k n ++ bit ∷ []) j false) same ∙ get_or_at (bits_of k n) bit [] false k long ∙ is
+          ∙ ap f (sym same)
+      | inr apart ↦ get_or_append_left (bits_of k n) (bit ∷ []) false i (omega arith) ∙ before i (omega arith)
+    ]
+
+-- a number written over all bits
+pub written_whole : (width n : ℕ) (zeros : List Bool) → length zeros ≡ width
+    → take 0 zeros ++ bits_of width n ++ drop width zeros ≡ bits_of width n
+written_whole width n zeros e = ap (λ l. bits_of width n ++ l) (nothing width zeros e) ∙ append-nil (bits_of width n)
+  where
+    nothing : (k : ℕ) (xs : List Bool) → length xs ≡ k → drop k xs ≡ []
+    nothing zero [] h = refl
+    nothing zero (x ∷ xs) h = absurd (omega arith)
+    nothing (suc k) [] h = refl
+    nothing (suc k) (x ∷ xs) h = nothing k xs (omega arith)
+
+-- a field more is written
+pub field_more : (f : ℕ → Bool) (bits : List Bool) (at width n : ℕ) → at + width ≤ length bits
+    → ((k : ℕ) → k < at → get_or bits k false ≡ f k) → ((k : ℕ) → k < width → get_or (bits_of width n) k false ≡ f (at + k))
+    → (k : ℕ) → k < at + width → get_or (take at bits ++ bits_of width n ++ drop (at + width) bits) k false ≡ f k
+field_more f bits at width n room before new k h =
+    let F : List Bool = take at bits in
+    let P : List Bool = bits_of width n in
+    let long : length F ≡ at = length-take-le at bits (omega arith) in
+    let wide : length (F ++ P) ≡ at + width = length-append F P ∙ (rw (long, length-bits_of width n) refl) in
+    get_or_append_left (F ++ P) (drop (at + width) bits) false k (omega arith)
+    ∙ elim (cases_lt k at) [
+      | inl low ↦ get_or_append_left F P false k (omega arith) ∙ get_or-take at bits k false low ∙ before k low
+      | inr high ↦
+          let back : at + (k - at) ≡ k = omega arith in
+          get_or-append_right F P at k false long high ∙ new (k - at) (omega arith) ∙ ap f back
+    ]
