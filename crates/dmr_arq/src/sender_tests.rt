@@ -3,7 +3,7 @@ ghost use Rattle.std.specs.Prelude.{◌<◌, ◌^◌};
 ghost use Rattle.dmr_arq.specs.Fit.{IsOfferedPacket};
 
 use crate::tests::{ACK, ROUTE, one_block};
-use crate::{Answer, Busy, GateBurst, Outcome, Route, Sender};
+use crate::{Answer, Busy, GateBurst, Outcome, Route, Sender, Verdict};
 use dmr_data::{Block, Confirmed, Header, Octets, Packet, Rate, Unconfirmed, split_packet};
 use std::process::Abort;
 use std::test::Fail;
@@ -138,6 +138,53 @@ fn late_answer(rt: HostRuntime) {
     }
     sender.tick();
     assert!(rt; sender.outcome() == Some(Outcome::GivenUp));
+}
+
+/// Sends so many bursts: whether their try is full, and how many blocks it has.
+fn send(sender: &mut Sender, bursts: u8) -> Option<(bool, u8)> {
+    let mut told = None;
+    for _ in 0..bursts {
+        if let Some(GateBurst::Header(Header::Confirmed(header))) = sender.next_burst() {
+            told = Some((header.full, header.blocks));
+        }
+    }
+    told
+}
+
+// With no flag set a partial try of all blocks is asked for, with every flag set a full one.
+#[test]
+fn selective_answers(rt: HostRuntime) {
+    let mut sender = Sender::new(1);
+    assert!(rt; sender.offer(two_blocks(), ROUTE).is_ok());
+    assert!(rt; send(&mut sender, 5) == Some((true, 2)));
+    for (flags, full) in [(0, false), (3, true)] {
+        sender.answer(&Answer {
+            verdict: Verdict::Selective,
+            flags,
+            ..ACK
+        });
+        assert!(rt; send(&mut sender, 5) == Some((full, 2)));
+    }
+}
+
+// A partial try that is cut is due again, and a fourth try that is cut was the last.
+#[test]
+fn cut_partial_tries(rt: HostRuntime) {
+    let mut sender = Sender::new(1);
+    assert!(rt; sender.offer(two_blocks(), ROUTE).is_ok());
+    assert!(rt; send(&mut sender, 5) == Some((true, 2)));
+    sender.answer(&Answer {
+        verdict: Verdict::Selective,
+        flags: 1,
+        ..ACK
+    });
+    for _ in 0..3u8 {
+        assert!(rt; sender.outcome().is_none());
+        assert!(rt; send(&mut sender, 3) == Some((false, 1)));
+        sender.cut();
+    }
+    assert!(rt; sender.outcome() == Some(Outcome::GivenUp));
+    assert!(rt; sender.is_idle());
 }
 
 // To a talk group, at rate 1/2.
