@@ -1,17 +1,14 @@
 -- What a station gives for frames, one after another.
-use Rattle.std.proofs.Common.{◌≡◌, ℕ, ◌+◌, ◌*◌, suc, cond, Bool, List, [], ◌∷◌, ◌++◌, length, Option, refl, sym, ap, ◌∙◌, subst, arith}
-use Rattle.std.proofs.lemmas.List.Concat.{flat_map-append}
+use Rattle.std.proofs.Common.{◌≡◌, ℕ, ◌+◌, ◌*◌, cond, List, [], ◌∷◌, ◌++◌, length, Option, refl, ap, ◌∙◌, subst, arith}
 use Rattle.std.proofs.lemmas.List.Sums.{sum_by-append}
 use Rattle.dmr_burst.specs.declared.burst.Burst.{Burst}
-use Rattle.dmr_slot.specs.Channel.{claims_of, frame_of}
-use Rattle.dmr_slot.specs.Frames.{AreSent}
 use Rattle.dmr_slot.specs.declared.line.SlotOut.{SlotOut}
 use Rattle.dmr_station.specs.declared.announcing.Message.{Message}
 use Rattle.dmr_station.specs.declared.sending.DownlinkBurst.{DownlinkBurst}
 use Rattle.dmr_station.specs.Downlink.{is_repeated, repeated_count, slots_of}
-use Rattle.dmr_station.specs.Frames.{Memory, Settings, marked_slots, no_gateway, IsPassed, ArePassed}
+use Rattle.dmr_station.specs.Frames.{Memory, marked_slots, IsPassed, ArePassed}
 use Rattle.dmr_station.specs.Sent.{AreSentAs}
-use Rattle.dmr_station.specs.Station.{State, fresh, IsExchanged, AreExchanged, records_of, IsSentFor, SendsByTheRules}
+use Rattle.dmr_station.specs.Station.{State, fresh, AreExchanged, records_of, SendsByTheRules}
 use Rattle.dmr_station.proofs.Cleaning.{clean_made, sent_bursts_are_clean, two_sent}
 use Rattle.dmr_station.proofs.Encodings.{encoded-append}
 use Rattle.dmr_station.proofs.Made.{makes}

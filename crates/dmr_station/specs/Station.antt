@@ -24,8 +24,8 @@ settings_in state = settings_remembered state.memory
 
 -- 2. One frame.
 
--- A frame of the uplink is taken, and the records of a frame of the downlink are given: what goes out by the rules, exactly encoded,
--- in the place that it has among all records of the downlink, and counted.
+-- A frame of the uplink is taken, and the records of a frame of the downlink are given: what goes out by the rules, exactly
+-- encoded in the place that it has among all records of the downlink, and counted.
 pub record IsExchanged (before : State) (frame : List (Option (List ℕ))) (records : List (Option (List ℕ × List ℕ)))
     (after : State) : Type 0 where
   pub sending : List (Option DownlinkBurst)
