@@ -2,7 +2,8 @@
 use crate::obeying::obey;
 use dmr_record::ToWrite;
 use dmr_report::{USAGE, print_error};
-use std::{env, io};
+use std::env;
+use std::io::{self, ErrorKind};
 
 /// The words of the command line.
 fn words_of(rt: &HostRuntime) -> io::Result<Vec<String>> {
@@ -16,10 +17,9 @@ pub fn program(rt: &HostRuntime) -> u8 {
     let mut err = ToWrite::new(rt.stderr());
     match words_of(rt) {
         Ok(words) => obey(rt.alloc(), words.as_slice(), rt, &mut out, &mut err),
-        Err(_) => print_error(
-            &mut err,
-            "the words of the command line can't be read",
-            USAGE,
-        ),
+        Err(error) if error.kind() == ErrorKind::OutOfMemory => {
+            print_error(&mut err, "out of memory", USAGE)
+        }
+        Err(_) => print_error(&mut err, "the command line is not UTF-8 text", USAGE),
     }
 }
