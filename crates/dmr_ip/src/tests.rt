@@ -175,6 +175,35 @@ fn refusals_in_order(rt: HostRuntime) {
     assert_eq!(rt; Datagram::parse(&CUT_UDP).err(), Some(IpFault::UdpLength));
 }
 
+/// What was refused leaves nothing: the same good octets answer as before.
+#[test]
+fn good_octets_after_refused_ones(rt: HostRuntime) -> Result<(), Fail> {
+    let form = [0x12, 0x34, 0x00, 0x01, 0x00, 0x13, 0x9a];
+    for length in 0..28usize {
+        assert!(rt; Datagram::parse(DATAGRAM.get(..length).unwrap_or(&[])).is_err());
+        let datagram = Datagram::parse(&DATAGRAM)?;
+        assert_eq!(rt; datagram.octets(), DATAGRAM.as_slice());
+    }
+    for refused in [
+        [0x12, 0x34, 0x00, 0x81, 0x00, 0x13, 0x9a],
+        [0x12, 0x34, 0x10, 0x01, 0x00, 0x13, 0x9a],
+        [0x12, 0x34, 0x00, 0x03, 0x00, 0x13, 0x9a],
+    ] {
+        assert!(rt; expand(&refused, 1, 2, false).is_err());
+        let expanded = expand(&form, 1, 2, false)?;
+        assert_eq!(rt; expanded.octets(), DATAGRAM.as_slice());
+    }
+    for length in 0..7usize {
+        assert_eq!(rt;
+            fault(form.get(..length).unwrap_or(&[])),
+            Some(ExpandFault::Short)
+        );
+        let expanded = expand(&form, 1, 2, false)?;
+        assert_eq!(rt; expanded.octets(), DATAGRAM.as_slice());
+    }
+    Ok(())
+}
+
 #[test]
 fn either_header_sum(rt: HostRuntime) -> Result<(), Fail> {
     let computed = Datagram::parse(&HEADER_SUM_OF_ZEROS)?;

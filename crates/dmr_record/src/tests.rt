@@ -1,6 +1,7 @@
 //! The formats by examples from outside, and devices that fail or go an octet at a time.
 
 mod devices;
+mod octets;
 
 use crate::*;
 use devices::{FailsAt, OneByOne, Silence};

@@ -12,6 +12,7 @@ mod run_end;
 mod slot;
 mod status;
 
+pub use line::{print_error, print_text};
 pub use reading::{Information, Reading, read_burst};
 pub use run_end::{RunEnd, print_end};
 pub use slot::print_slot;

@@ -72,3 +72,13 @@ pub fn print_error<K: Sink>(sink: &mut K, message: &str, status: u8) -> u8
 {
     status_after(put_error(sink, message), status)
 }
+
+/// Prints a text that has its own ends of lines, and answers the status that is to follow it.
+pub fn print_text<K: Sink>(sink: &mut K, text: &str, status: u8) -> u8
+    requires well { K.has_failed sink.old ≡ false }
+    ensures octets { K.has_failed sink.new ≡ false → Appends (K.held sink.old) (K.held sink.new) text.now }
+    ensures status { K.has_failed sink.new ≡ false → result ≡ status }
+    ensures failed { K.has_failed sink.new ≡ true → result ≡ FAILURE }
+{
+    status_after(put(sink, text.as_bytes()), status)
+}

@@ -1,8 +1,10 @@
 //! What is printed, to which sink, and the status.
-use crate::{RunEnd, print_end, print_slot};
+use crate::{RunEnd, print_end, print_error, print_slot, print_text};
+use arrayvec::ArrayString;
 use dmr_gateway::ConfigFault;
 use dmr_record::{RecordFault, ToWrite};
 use dmr_repeater::{RunFault, Stream, Summary};
+use std::fmt::Write;
 use std::process::Abort;
 
 /// The idle burst of a base station of colour code 1.
@@ -16,6 +18,14 @@ fn expect_end(rt: &(impl Abort + AllocGlobal), end: RunEnd, status: u8, out: &st
     assert_eq!(rt; print_end(&end, &mut output, &mut errors), status);
     assert!(rt; output.into_inner().as_slice() == out.as_bytes());
     assert!(rt; errors.into_inner().as_slice() == err.as_bytes());
+}
+
+/// The line that tells a fault of a file.
+fn line_of(file: &str, fault: &str) -> ArrayString<64> {
+    let mut line = ArrayString::new();
+    // There is room for each of them.
+    let _ = write!(line, "error: {file}: {fault}\n");
+    line
 }
 
 /// A text given to `slot` prints this, and ends with this status.
@@ -63,67 +73,30 @@ fn longest_summary_line(rt: HostRuntime) {
     expect_end(&rt, RunEnd::Done(summary), 0, line, "");
 }
 
+/// Each fault of each file, by the words of both.
 #[test]
 fn faults_of_files(rt: HostRuntime) {
-    for (stream, fault, line) in [
-        (
-            Stream::Uplink,
-            RecordFault::Magic,
-            "error: uplink: bad magic\n",
-        ),
-        (
-            Stream::Outgoing,
-            RecordFault::Version,
-            "error: outgoing: bad version\n",
-        ),
-        (
-            Stream::Uplink,
-            RecordFault::CutRecord,
-            "error: uplink: cut record\n",
-        ),
-        (
-            Stream::Outgoing,
-            RecordFault::BadTag,
-            "error: outgoing: bad tag\n",
-        ),
-        (
-            Stream::Uplink,
-            RecordFault::HalfFrame,
-            "error: uplink: half frame\n",
-        ),
-        (
-            Stream::Outgoing,
-            RecordFault::FrameOrder,
-            "error: outgoing: frame order\n",
-        ),
-        (
-            Stream::Uplink,
-            RecordFault::TooLong,
-            "error: uplink: too long\n",
-        ),
-        (
-            Stream::Outgoing,
-            RecordFault::Read,
-            "error: outgoing: read failed\n",
-        ),
-        (
-            Stream::Downlink,
-            RecordFault::Write,
-            "error: downlink: write failed\n",
-        ),
-        (
-            Stream::Received,
-            RecordFault::Write,
-            "error: received: write failed\n",
-        ),
+    for (stream, name) in [
+        (Stream::Uplink, "uplink"),
+        (Stream::Outgoing, "outgoing"),
+        (Stream::Downlink, "downlink"),
+        (Stream::Received, "received"),
     ] {
-        expect_end(
-            &rt,
-            RunEnd::Fault(RunFault::File(stream, fault)),
-            1,
-            "",
-            line,
-        );
+        for (fault, text) in [
+            (RecordFault::Magic, "bad magic"),
+            (RecordFault::Version, "bad version"),
+            (RecordFault::CutRecord, "cut record"),
+            (RecordFault::BadTag, "bad tag"),
+            (RecordFault::HalfFrame, "half frame"),
+            (RecordFault::FrameOrder, "frame order"),
+            (RecordFault::TooLong, "too long"),
+            (RecordFault::Read, "read failed"),
+            (RecordFault::Write, "write failed"),
+        ] {
+            let line = line_of(name, text);
+            let end = RunEnd::Fault(RunFault::File(stream, fault));
+            expect_end(&rt, end, 1, "", line.as_str());
+        }
     }
 }
 
@@ -214,6 +187,52 @@ fn voice_syncs(rt: HostRuntime) {
     expect_slot(&rt, base, 0, "voice sync BS\n", "");
 }
 
+/// Each number of a data burst is printed as the slot type has it, and the side as the sync has it.
+#[test]
+fn slot_types_of_all_kinds(rt: HostRuntime) {
+    for (burst, line) in [
+        (
+            "53C25EABA8671DC7383BD936326DFF57D75DF5DDBBF6E465171B48CA6D4FC610B4",
+            "data BS, colour 12, type 9, information FF83DF1732094ED1E7CD8A91\n",
+        ),
+        (
+            "53C25EABA8671DC7383BD9361D0D5D7F77FD757A93F6E465171B48CA6D4FC610B4",
+            "data MS, colour 7, type 4, information FF83DF1732094ED1E7CD8A91\n",
+        ),
+        (
+            "0000000000000000000000003E1D5D7F77FD7578BC000000000000000000000000",
+            "data MS, colour 15, type 8, information as received\n",
+        ),
+        (
+            "00000000000000000000000012ADFF57D75DF5D584000000000000000000000000",
+            "data BS, colour 4, type 10, information as received\n",
+        ),
+    ] {
+        expect_slot(&rt, burst, 0, line, "");
+    }
+}
+
+/// Each number of a voice burst is printed as its embedded signalling has it.
+#[test]
+fn embedded_signalling_of_all_kinds(rt: HostRuntime) {
+    for (burst, line) in [
+        (
+            "0000000000000000000000000005D00000000D0000000000000000000000000000",
+            "voice, colour 5, PI 1, LCSS 2\n",
+        ),
+        (
+            "000000000000000000000000000E60000000070000000000000000000000000000",
+            "voice, colour 14, PI 0, LCSS 3\n",
+        ),
+        (
+            "0000000000000000000000000000900000000C9000000000000000000000000000",
+            "voice, colour 0, PI 1, LCSS 0\n",
+        ),
+    ] {
+        expect_slot(&rt, burst, 0, line, "");
+    }
+}
+
 /// As it is, with two wrong bits of its embedded signalling, and with three.
 #[test]
 fn printed_voice_burst(rt: HostRuntime) {
@@ -269,4 +288,17 @@ fn sinks_that_fail(rt: HostRuntime) {
     let end = RunEnd::CannotOpen(Stream::Uplink);
     assert_eq!(rt; print_end(&end, &mut output, &mut full), 1);
     assert!(rt; output.into_inner().is_empty());
+}
+
+/// A text is printed as it is, and an error as a line; where there is no room, the status is that of a failure.
+#[test]
+fn texts_and_errors(rt: HostRuntime) {
+    let alloc = rt.alloc();
+    let mut output = ToWrite::new(Vec::new(alloc));
+    assert_eq!(rt; print_text(&mut output, "one\ntwo\n", 0), 0);
+    assert_eq!(rt; print_error(&mut output, "three", 2), 2);
+    assert!(rt; output.into_inner().as_slice() == b"one\ntwo\nerror: three\n");
+    let mut room = [0u8; 4];
+    let mut full = ToWrite::new(&mut room[..]);
+    assert_eq!(rt; print_text(&mut full, "one\ntwo\n", 0), 1);
 }

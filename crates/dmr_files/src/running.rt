@@ -1,32 +1,50 @@
-//! A run over files.
+//! A run over files at their places.
 ghost use Rattle.std.specs.Prelude.{◌≡◌, false, IfOk, IfErr};
 ghost use Rattle.std.specs.Io.KnownBytes.{Keeps};
 
-use crate::command::Paths;
+use crate::opening::{Opened, open_files};
+use crate::place::Places;
+use crate::system::System;
 use dmr_gateway::Config;
 use dmr_record::{FromRead, RecordFault, Sink, Source, ToWrite};
 use dmr_repeater::{RunFault, Stream, Summary, run};
 use dmr_report::RunEnd;
 use std::alloc::Global;
-use std::fs;
 use std::io::{BufReader, BufWriter, Read, Write};
-use std::rt::Files;
 
-/// Opens the files in their order, and runs over them.
-pub fn run_files<R: Files>(rt: &R, alloc: Global, config: Config, paths: &Paths<'_>) -> RunEnd {
-    let Ok(uplink) = fs::open(rt, paths.uplink) else {
-        return RunEnd::CannotOpen(Stream::Uplink);
-    };
-    let Ok(outgoing) = fs::open(rt, paths.outgoing) else {
-        return RunEnd::CannotOpen(Stream::Outgoing);
-    };
-    let Ok(downlink) = fs::create(rt, paths.downlink) else {
-        return RunEnd::CannotOpen(Stream::Downlink);
-    };
-    let Ok(received) = fs::create(rt, paths.received) else {
-        return RunEnd::CannotOpen(Stream::Received);
-    };
-    match run_buffered(alloc, config, uplink, outgoing, downlink, received) {
+/// Runs over the files at these places, with buffers between.
+pub fn run_places<S: System>(
+    system: &S,
+    alloc: Global,
+    config: Config,
+    places: &Places<'_>,
+) -> RunEnd {
+    match open_files(system, places) {
+        Ok(files) => run_files(alloc, config, files),
+        Err(stream) => RunEnd::CannotOpen(stream),
+    }
+}
+
+/// Runs over open files.
+fn run_files<I: Read + Drop, O: Write + Drop>(
+    alloc: Global,
+    config: Config,
+    files: Opened<I, O>,
+) -> RunEnd {
+    let Opened {
+        uplink,
+        outgoing,
+        downlink,
+        received,
+    } = files;
+    match run_buffered(
+        alloc,
+        config,
+        uplink.file,
+        outgoing.file,
+        downlink.file,
+        received.file,
+    ) {
         Ok(summary) => RunEnd::Done(summary),
         Err(fault) => RunEnd::Fault(fault),
     }

@@ -1,0 +1,18 @@
+//! The command line of `dmrgate`: what its words ask for, and doing that.
+//!
+//! `request_of` reads the words, by a command line parser whose texts are its own; `obey` does what they ask for, on a system
+//! (`dmr_files`), and prints to two sinks (`dmr_record`): what was asked for to the first, errors to the second. `program` is
+//! both on the system that it runs on. `specs/Request.antt` says which option a place comes from.
+#![tactic(auto)]
+
+mod command;
+mod obeying;
+mod process;
+mod request;
+
+pub use obeying::obey;
+pub use process::program;
+pub use request::{Request, request_of};
+
+#[cfg(test)]
+mod tests;

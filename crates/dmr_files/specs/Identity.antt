@@ -1,0 +1,39 @@
+-- Which files must not be one.
+use Rattle.std.specs.Prelude.{◌≡◌, ◌==◌, ◌&&◌, Bool, true, false, not, Option, Some, None}
+use Rattle.dmr_files.specs.declared.identity.FileKind.{FileKind}
+use Rattle.dmr_files.specs.declared.identity.FileKind.TheVariants.{Regular, Device, Other}
+use Rattle.dmr_files.specs.declared.identity.Identity.{Identity}
+use Rattle.dmr_files.specs.declared.system.StandardFiles.{StandardFiles}
+
+-- one file, by its device and its number
+abbrev pub is_one_file : Identity → Identity → Bool
+is_one_file a b = a.device == b.device && a.number == b.number
+
+-- a character device, to which any number may write
+abbrev pub is_device : FileKind → Bool
+is_device Regular = false
+is_device Device = true
+is_device Other = false
+
+-- a file that holds what is written to it
+abbrev pub is_regular : FileKind → Bool
+is_regular Regular = true
+is_regular Device = false
+is_regular Other = false
+
+-- an output that is this file gets into the other
+abbrev pub clashes : Identity → Identity → Bool
+clashes output other = not (is_device output.kind) && is_one_file output other
+
+-- an output that is this file gets into what a standard stream reads or prints
+abbrev pub is_behind : Identity → Option Identity → Bool
+is_behind output (Some stream) = is_regular output.kind && is_one_file output stream
+is_behind output None = false
+
+-- An output that may be written: it is no input, and is behind no standard stream.
+pub record IsApart (uplink outgoing : Identity) (standard : StandardFiles) (output : Identity) : Type 0 where
+  pub from_uplink : clashes output uplink ≡ false
+  pub from_outgoing : clashes output outgoing ≡ false
+  pub from_standard_input : is_behind output standard.input ≡ false
+  pub from_standard_output : is_behind output standard.output ≡ false
+  pub from_standard_error : is_behind output standard.error ≡ false

@@ -1,0 +1,13 @@
+-- How places are written on a command line.
+use Rattle.std.specs.Prelude.{◌≡◌, List, ℕ, codes}
+use Rattle.dmr_files.specs.declared.place.Place.{Place}
+use Rattle.dmr_files.specs.declared.place.Place.TheVariants.{Standard, Path}
+
+-- a hyphen stands for a standard stream
+abbrev pub IsStandardName : List ℕ → Type 0
+IsStandardName name = name ≡ codes "-"
+
+-- A place has this name: a hyphen is a standard stream's, and any other name is a path.
+abbrev pub IsNamed : List ℕ → Place → Type 0
+IsNamed name Standard = IsStandardName name
+IsNamed name (Path path) = (IsStandardName name → ⊥) × (path.now ≡ name)

@@ -1,0 +1,49 @@
+//! Which file a file is, whatever its name.
+ghost use Rattle.std.specs.Prelude.{◌≡◌};
+ghost use Rattle.dmr_files.specs.Identity.{clashes, is_behind, is_one_file};
+
+/// What a file is, as far as it matters whether two may write to it.
+#[derive(Clone, Copy, Debug, Drop, PartialEq, Eq)]
+pub enum FileKind {
+    /// A regular file, which holds what is written to it.
+    Regular,
+    /// A character device, such as `/dev/null` or a terminal.
+    Device,
+    /// A pipe, a socket, or whatever else there is.
+    Other,
+}
+
+/// Which file a file is: two of its names, or a name and an open file, have the same device and number.
+#[derive(Clone, Copy, Debug, Drop, PartialEq, Eq)]
+pub struct Identity {
+    pub device: u64,
+    pub number: u64,
+    pub kind: FileKind,
+}
+
+impl Identity {
+    /// Whether both are one file.
+    pub fn is_one_file(&self, other: &Identity) -> bool
+        ensures one { result ≡ is_one_file self.now other.now }
+    {
+        self.device == other.device && self.number == other.number
+    }
+
+    /// Whether an output that is this file would get into another file of the run. Any number may write to a device.
+    pub fn clashes(&self, other: &Identity) -> bool
+        ensures clash { result ≡ clashes self.now other.now }
+    {
+        self.kind != FileKind::Device && self.is_one_file(other)
+    }
+
+    /// Whether an output that is this file would get into what a standard stream reads or prints. A pipe takes both, one after
+    /// the other; a regular file would be written over.
+    pub fn is_behind(&self, stream: &Option<Identity>) -> bool
+        ensures behind { result ≡ is_behind self.now stream.now }
+    {
+        match stream {
+            Some(stream) => self.kind == FileKind::Regular && self.is_one_file(stream),
+            None => false,
+        }
+    }
+}

@@ -1,0 +1,156 @@
+"""The four files, and what stands behind them: no output over an input, nothing lost at a refusal, pipes and hyphens."""
+
+import os
+import subprocess
+
+from checks import recordings as it
+from checks.program import Room, summary
+
+LINE = summary(7, 1)
+OLD = b"an older file, which is longer than what a run over one block writes" * 9
+
+
+def names_of(room, file):
+    """Other names of a file: another path, a symbolic link, a link to that, a hard link."""
+    symbolic, second, hard = room.path / "symbolic", room.path / "second", room.path / "hard"
+    symbolic.symlink_to(file.name)
+    second.symlink_to(symbolic)
+    os.link(file, hard)
+    return [file, f"./{file.name}", f"../{room.path.name}/{file.name}", symbolic, second, hard]
+
+
+def check_outputs_over_inputs(report):
+    for given, octets in (("uplink", it.ONE_CSBK), ("outgoing", it.OUTGOING_HEAD)):
+        for taken in ("downlink", "received"):
+            with Room(report, it.ONE_CSBK, it.OUTGOING_HEAD) as room:
+                room.downlink.write_bytes(OLD)
+                room.received.write_bytes(OLD)
+                file = getattr(room, given)
+                for name in names_of(room, file):
+                    ran = room.run(**{taken: name})
+                    report.expect(f"{taken} over {given} by {name}", ran.is_error(f"{taken}: cannot open"), ran)
+                    report.expect(f"{given} is as it was", file.read_bytes() == octets)
+                report.expect("both outputs are as they were", room.outputs() == [OLD, OLD], room.outputs())
+
+
+def check_one_output(report):
+    with Room(report, it.ONE_CSBK, it.OUTGOING_HEAD) as room:
+        ran = room.run(received=room.downlink)
+        report.expect("one new name for both outputs", ran.is_error("received: cannot open"), ran)
+        report.expect("that file is empty", room.outputs() == [b"", None], room.outputs())
+        room.downlink.write_bytes(OLD)
+        for name in names_of(room, room.downlink):
+            ran = room.run(received=name)
+            report.expect(f"one file for both outputs, {name}", ran.is_error("received: cannot open"), ran)
+        report.expect("that file is as it was", room.outputs() == [OLD, None], room.outputs())
+        ran = room.run(downlink="/dev/null", received="/dev/null")
+        report.expect("/dev/null for both outputs", (ran.status, ran.out, ran.err) == (0, LINE, b""), ran)
+        ran = room.run(downlink="/dev/stderr", received="/dev/stderr")
+        report.expect("a pipe for both outputs", ran.is_error("received: cannot open"), ran)
+
+
+def check_nothing_lost(report):
+    with Room(report, it.ONE_CSBK, it.OUTGOING_HEAD) as room:
+        nowhere = room.path / "nowhere"
+        for file in ("uplink", "outgoing"):
+            room.run(**{file: nowhere})
+            report.expect(f"no output is made without {file}", room.outputs() == [None, None], room.outputs())
+        room.downlink.write_bytes(OLD)
+        room.received.write_bytes(OLD)
+        for file in ("uplink", "outgoing", "downlink", "received"):
+            room.run(**{file: nowhere / "file"})
+            report.expect(f"no output is emptied without {file}", room.outputs() == [OLD, OLD], room.outputs())
+        ran = room.run()
+        wanted = (report.top / "samples/one_csbk/downlink.dmrd").read_bytes()
+        report.expect("older outputs are emptied", room.outputs() == [wanted, it.RECEIVED_HEAD], ran)
+        room.downlink.write_bytes(OLD)
+        room.uplink.write_bytes(it.UPLINK_HEAD + b"\0")
+        ran = room.run()
+        report.expect("a half frame at once", ran.is_error("uplink: half frame"), ran)
+        wanted = [it.DOWNLINK_HEAD + b"\0\0", it.RECEIVED_HEAD]
+        report.expect("what was decided before it is written", room.outputs() == wanted, room.outputs())
+        room.uplink.write_bytes(it.UPLINK_HEAD + bytes(21))
+        ran = room.run()
+        report.expect("a half frame behind ten of silence", ran.is_error("uplink: half frame"), ran)
+        wanted = [it.DOWNLINK_HEAD + bytes(22), it.RECEIVED_HEAD]
+        report.expect("ten frames and one are written", room.outputs() == wanted, room.outputs())
+
+
+def check_standard_streams(report):
+    downlink = (report.top / "samples/one_csbk/downlink.dmrd").read_bytes()
+    for name in ("/dev/stdout", "-"):
+        with Room(report, it.ONE_CSBK, it.OUTGOING_HEAD) as room:
+            ran = room.run(downlink=name)
+            report.expect(f"downlink {name} to a pipe", (ran.status, ran.out, ran.err) == (0, downlink + LINE, b""), ran)
+            ran = room.run(received=name)
+            report.expect(f"received {name} to a pipe", (ran.status, ran.out) == (0, it.RECEIVED_HEAD + LINE), ran)
+            for taken in ("downlink", "received"):
+                printed = room.path / "printed"
+                printed.write_bytes(OLD)
+                with open(printed, "r+b") as out:
+                    ran = room.run(streams={"stdout": out}, **{taken: name})
+                report.expect(f"{taken} {name} to a file", ran.is_error(f"{taken}: cannot open"), ran)
+                report.expect("that file is as it was", printed.read_bytes() == OLD)
+                with open(printed, "r+b") as out:
+                    ran = room.run(streams={"stderr": out}, **{taken: printed})
+                told = f"error: {taken}: cannot open\n".encode()
+                is_told = ran.status == 1 and printed.read_bytes() == told + OLD[len(told) :]
+                report.expect(f"{taken} that is standard error", is_told, ran)
+    for name in ("/dev/stdin", "-"):
+        with Room(report, it.ONE_CSBK, it.OUTGOING_HEAD) as room:
+            ran = room.run(uplink=name, given=it.ONE_CSBK)
+            report.expect(f"uplink {name} of a pipe", (ran.status, ran.out) == (0, LINE), ran)
+            report.expect("its downlink", room.outputs() == [downlink, it.RECEIVED_HEAD], room.outputs())
+            ran = room.run(outgoing=name, given=it.OUTGOING_HEAD)
+            report.expect(f"outgoing {name} of a pipe", (ran.status, ran.out) == (0, LINE), ran)
+            for taken in ("downlink", "received"):
+                for given in ({"uplink": name}, {}):
+                    with open(room.uplink, "rb") as read:
+                        ran = room.run(streams={"stdin": read}, **given, **{taken: room.uplink})
+                    report.expect(f"{taken} is standard input", ran.is_error(f"{taken}: cannot open"), ran)
+                    report.expect("standard input is as it was", room.uplink.read_bytes() == it.ONE_CSBK)
+                other = room.path / "other"
+                other.write_bytes(OLD)
+                with open(other, "rb") as read:
+                    ran = room.run(streams={"stdin": read}, **{taken: other})
+                report.expect(f"{taken} is standard input that isn't read", ran.is_error(f"{taken}: cannot open"), ran)
+                report.expect("that file is as it was", other.read_bytes() == OLD)
+
+
+def check_pipes(report):
+    downlink = (report.top / "samples/one_csbk/downlink.dmrd").read_bytes()
+    with Room(report, it.ONE_CSBK, it.OUTGOING_HEAD) as room:
+        fifo = room.path / "pipe"
+        os.mkfifo(fifo)
+        reader = subprocess.Popen(["cat", fifo], stdout=subprocess.PIPE)
+        ran = room.run(downlink=fifo)
+        out = reader.communicate()[0]
+        report.expect("a downlink into a named pipe", (ran.status, out) == (0, downlink), ran)
+        writer = subprocess.Popen(["cp", room.uplink, fifo])
+        ran = room.run(uplink=fifo)
+        writer.wait()
+        report.expect("an uplink out of a named pipe", (ran.status, ran.out) == (0, LINE), ran)
+        room.downlink.write_bytes(b"")
+        room.downlink.chmod(0o600)
+        ran = room.run()
+        kept = room.downlink.stat().st_mode & 0o777
+        report.expect("an output keeps its permissions", (ran.status, kept) == (0, 0o600), ran)
+
+
+def check_colours(report):
+    """The block of the sample has another colour code than the call."""
+    folder = report.top / "samples/other_colour"
+    with Room(report, (folder / "uplink.dmru").read_bytes(), it.OUTGOING_HEAD) as room:
+        first = room.run("--colour", 2), room.outputs()
+        second = room.run("--color", 2), room.outputs()
+        report.expect("--color is --colour", repr(first) == repr(second), second)
+        report.expect("colour code 2 repeats its block alone", b" repeated 1 " in first[0].out, first)
+
+
+def check(report):
+    check_outputs_over_inputs(report)
+    check_one_output(report)
+    check_nothing_lost(report)
+    check_standard_streams(report)
+    check_pipes(report)
+    check_colours(report)

@@ -1,0 +1,88 @@
+"""The program as users run it, and what is expected of it."""
+
+import pathlib
+import subprocess
+import tempfile
+
+
+class Ran:
+    """How a run of the program ended: its status, and what it printed."""
+
+    def __init__(self, status, out, err):
+        self.status, self.out, self.err = status, out, err
+
+    def __repr__(self):
+        return f"status {self.status}, standard output {self.out[:300]!r}, standard error {self.err[:300]!r}"
+
+    def is_error(self, text, status=1):
+        """One line on standard error, and nothing else."""
+        return (self.status, self.out, self.err) == (status, b"", f"error: {text}\n".encode())
+
+
+class Report:
+    """Counts what passed and what failed, and names what failed."""
+
+    def __init__(self, top):
+        self.top, self.passed, self.failed = top, 0, 0
+        self.program = top / "dmrgate"
+        self.is_built = False
+
+    def begin(self, part):
+        if not self.is_built:
+            subprocess.run([self.program, "--version"], stdout=subprocess.DEVNULL, check=True)
+            self.is_built = True
+        print(f"== {part}", flush=True)
+
+    def expect(self, name, is_so, why=""):
+        if is_so:
+            self.passed += 1
+        else:
+            self.failed += 1
+            print(f"FAILED {name}: {why}", flush=True)
+
+    def call(self, *words, given=b"", cwd=None, env=None, **streams):
+        """Runs the program with these words, and this on its standard input."""
+        how = {"stdout": subprocess.PIPE, "stderr": subprocess.PIPE, **streams}
+        how.update({} if "stdin" in how else {"input": given})
+        ran = subprocess.run([self.program, *map(str, words)], cwd=cwd, env=env, timeout=600, **how)
+        return Ran(ran.returncode, ran.stdout or b"", ran.stderr or b"")
+
+
+class Room:
+    """A folder with the four files of a run, which is gone at the end."""
+
+    def __init__(self, report, uplink=b"", outgoing=b""):
+        self.report = report
+        self.held = tempfile.TemporaryDirectory(prefix="dmrgate-check-")
+        self.path = pathlib.Path(self.held.name)
+        self.uplink, self.outgoing = self.path / "uplink.dmru", self.path / "outgoing.dmro"
+        self.downlink, self.received = self.path / "downlink.dmrd", self.path / "received.dmri"
+        self.uplink.write_bytes(uplink)
+        self.outgoing.write_bytes(outgoing)
+
+    def __enter__(self):
+        return self
+
+    def __exit__(self, *_):
+        self.held.cleanup()
+
+    def words(self, *more, **places):
+        """The words of a run over these files, or over others in their places."""
+        words = ["run"]
+        for name in ("uplink", "outgoing", "downlink", "received"):
+            words += [f"--{name}", places.get(name, getattr(self, name))]
+        return [*words, *([] if "--llid" in more else ["--llid", 1]), *more]
+
+    def run(self, *more, given=b"", env=None, streams=None, **places):
+        words = self.words(*more, **places)
+        return self.report.call(*words, given=given, cwd=self.path, env=env, **(streams or {}))
+
+    def outputs(self):
+        """What both outputs hold, or None where there is none."""
+        return [it.read_bytes() if it.exists() else None for it in (self.downlink, self.received)]
+
+
+def summary(frames=6, repeated=0, unoffered=0, refused=0):
+    """The line of a run with no datagrams that went out or came in."""
+    counts = f"received 0 delivered 0 sent 0 given-up 0 refused {refused} unoffered {unoffered}"
+    return f"frames {frames} repeated {repeated} {counts}\n".encode()

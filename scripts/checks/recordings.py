@@ -1,0 +1,63 @@
+"""Files for the checks, and what a reader of files finds in them, written from docs/protocol.md alone."""
+
+UPLINK_HEAD, OUTGOING_HEAD = b"DMRU\1\0\0\0", b"DMRO\1\0\0\0"
+DOWNLINK_HEAD, RECEIVED_HEAD = b"DMRD\1\0\0\0", b"DMRI\1\0\0\0"
+
+# A control signalling block of ten zero octets, and the idle burst of colour code 1.
+CSBK = bytes.fromhex("0062008201900100042004E004CD5D7F77FD757AC81800280250028000C0120022")
+IDLE = "53C25EABA8671DC7383BD936065DFF57D75DF5D92BF6E465171B48CA6D4FC610B4"
+
+# The block in slot 1 of one frame, and silence in slot 2.
+ONE_CSBK = UPLINK_HEAD + b"\1" + CSBK + b"\0"
+
+# A datagram from 12.0.0.1 to 12.0.0.2 with no data, unconfirmed and at rate 1/2, in frame 5 and slot 1.
+DATAGRAM = bytes.fromhex("4500001C123400004011509B0C0000010C0000021398139A0008C0A9")
+ONE_DATAGRAM = OUTGOING_HEAD + bytes.fromhex("02 00000005 01 00 001C") + DATAGRAM
+
+LIMIT = 1_048_576
+
+
+def head_fault(octets, magic):
+    if len(octets) < 8:
+        return "cut record"
+    if octets[:4] != magic:
+        return "bad magic"
+    return None if octets[4:8] == b"\1\0\0\0" else "bad version"
+
+
+def uplink_fault(octets):
+    """The fault of an uplink file, or None."""
+    fault, at, slots = head_fault(octets, b"DMRU"), 8, 0
+    while fault is None and at < len(octets):
+        if octets[at] > 1:
+            return "bad tag"
+        size = 34 if octets[at] else 1
+        if at + size > len(octets):
+            return "cut record"
+        at, slots = at + size, slots + 1
+    return fault or ("half frame" if slots % 2 else None)
+
+
+def outgoing_fault(octets):
+    """The fault of an outgoing file, or None."""
+    fault, at, last = head_fault(octets, b"DMRO"), 8, 0
+    while fault is None and at < len(octets):
+        record = octets[at : at + 9]
+        if record[0] != 2:
+            return "bad tag"
+        if len(record) < 9:
+            return "cut record"
+        if record[5] not in (1, 2) or record[6] > 3:
+            return "bad tag"
+        frame, size = int.from_bytes(record[1:5], "big"), 9 + int.from_bytes(record[7:9], "big")
+        if at + size > len(octets):
+            return "cut record"
+        if frame < last:
+            return "frame order"
+        at, last = at + size, frame
+    return fault
+
+
+def outgoing_record(frame, slot=1, mode=0, octets=DATAGRAM):
+    """A record of the outgoing file."""
+    return b"\2" + frame.to_bytes(4, "big") + bytes([slot, mode]) + len(octets).to_bytes(2, "big") + octets

@@ -1,0 +1,171 @@
+"""The text and the status of each refusal, and of what is no fault but might be taken for one."""
+
+import os
+
+from checks import recordings as it
+from checks.program import Room, summary
+
+BURST = b"\1" + it.CSBK
+SHORT = b"\2" + bytes(4)
+
+# What an uplink file holds, and its fault.
+UPLINKS = [
+    (b"", "cut record"),
+    (b"DMRU\1\0\0", "cut record"),
+    (b"DMRO\1\0\0\0", "bad magic"),
+    (b"dmru\1\0\0\0", "bad magic"),
+    (b"DMRO\2\0\0\0", "bad magic"),
+    (b"DMRU\2\0\0\0", "bad version"),
+    (b"DMRU\1\0\0\1", "bad version"),
+    (it.UPLINK_HEAD + b"\7", "bad tag"),
+    (it.UPLINK_HEAD + b"\2", "bad tag"),
+    (it.UPLINK_HEAD + b"\0\7", "bad tag"),
+    (it.UPLINK_HEAD + b"\1", "cut record"),
+    (it.UPLINK_HEAD + BURST[:20], "cut record"),
+    (it.UPLINK_HEAD + BURST[:33], "cut record"),
+    (it.UPLINK_HEAD + b"\0", "half frame"),
+    (it.UPLINK_HEAD + BURST, "half frame"),
+    (it.UPLINK_HEAD + bytes(21), "half frame"),
+]
+
+# What an outgoing file holds, and its fault.
+OUTGOINGS = [
+    (b"", "cut record"),
+    (b"DMRU\1\0\0\0", "bad magic"),
+    (b"DMRO\0\0\0\0", "bad version"),
+    (it.OUTGOING_HEAD + b"\0", "bad tag"),
+    (it.OUTGOING_HEAD + b"\3", "bad tag"),
+    (it.OUTGOING_HEAD + SHORT, "cut record"),
+    (it.OUTGOING_HEAD + it.outgoing_record(0, slot=0), "bad tag"),
+    (it.OUTGOING_HEAD + it.outgoing_record(0, slot=3), "bad tag"),
+    (it.OUTGOING_HEAD + it.outgoing_record(0, mode=4), "bad tag"),
+    (it.OUTGOING_HEAD + it.outgoing_record(0, octets=bytes(1401))[:-1], "cut record"),
+    (it.OUTGOING_HEAD + it.outgoing_record(2) + it.outgoing_record(1), "frame order"),
+    (it.OUTGOING_HEAD + it.outgoing_record(9000) + it.outgoing_record(8999), "frame order"),
+]
+
+# Options that are refused by the parser of the command line, and a part of its text.
+REFUSED = [
+    (["--llid", "0"], "0 is not in 1..=16777215"),
+    (["--llid", "16777216"], "16777216 is not in 1..=16777215"),
+    (["--colour", "16"], "16 is not in 0..=15"),
+    (["--color", "16"], "16 is not in 0..=15"),
+    (["--call-hang", "65536"], "65536 is not in 0..=65535"),
+    (["--channel-hang", "65536"], "65536 is not in 0..=65535"),
+    (["--queue", "0"], "0 is not in 1..=64"),
+    (["--queue", "65"], "65 is not in 1..=64"),
+    (["--queue", "nine"], "invalid digit found in string"),
+    (["--queue", ""], "cannot parse integer from empty string"),
+    (["--colours", "1"], "unexpected argument '--colours' found"),
+    (["--colour", "1", "--colour", "2"], "cannot be used multiple times"),
+    (["more"], "unexpected argument 'more' found"),
+]
+
+HEXADECIMAL = "a burst is 66 hexadecimal digits"
+
+
+def check_files(report):
+    for octets, fault in UPLINKS:
+        with Room(report, octets, it.OUTGOING_HEAD) as room:
+            ran = room.run()
+            report.expect(f"uplink {octets[:12]!r}..: {fault}", ran.is_error(f"uplink: {fault}"), ran)
+    for octets, fault in OUTGOINGS:
+        with Room(report, it.UPLINK_HEAD, octets) as room:
+            ran = room.run()
+            report.expect(f"outgoing list {octets[:20]!r}..: {fault}", ran.is_error(f"outgoing: {fault}"), ran)
+    with Room(report, b"", b"") as room:
+        ran = room.run()
+        report.expect("both inputs faulty: the uplink's is told", ran.is_error("uplink: cut record"), ran)
+    with Room(report, it.UPLINK_HEAD, it.OUTGOING_HEAD) as room:
+        ran = room.run()
+        report.expect("no frames: six of silence", ran.out == summary() and ran.status == 0, ran)
+        wanted = [it.DOWNLINK_HEAD + bytes(12), it.RECEIVED_HEAD]
+        report.expect("no frames: the outputs", room.outputs() == wanted, room.outputs())
+    late = it.OUTGOING_HEAD + it.outgoing_record(6) + it.outgoing_record(6, slot=2, mode=3) + it.outgoing_record(2**32 - 1)
+    with Room(report, it.UPLINK_HEAD, late) as room:
+        ran = room.run()
+        report.expect("records of frames past the end", ran.out == summary(unoffered=3) and ran.status == 0, ran)
+
+
+def check_devices(report):
+    with Room(report, it.ONE_CSBK, it.OUTGOING_HEAD) as room:
+        for file in ("uplink", "outgoing"):
+            ran = room.run(**{file: room.path})
+            report.expect(f"a folder as {file}", ran.is_error(f"{file}: read failed"), ran)
+            ran = room.run(**{file: room.path / "nowhere"})
+            report.expect(f"no {file}", ran.is_error(f"{file}: cannot open"), ran)
+        for file in ("downlink", "received"):
+            ran = room.run(**{file: "/dev/full"})
+            report.expect(f"a full device as {file}", ran.is_error(f"{file}: write failed"), ran)
+            for place in (room.path, room.path / "nowhere" / "file", ""):
+                ran = room.run(**{file: place})
+                report.expect(f"{place} as {file}", ran.is_error(f"{file}: cannot open"), ran)
+        ran = room.run(downlink="/dev/full", received="/dev/full")
+        report.expect("both outputs full: the downlink's is told", ran.is_error("downlink: write failed"), ran)
+        with open("/dev/full", "wb") as full:
+            ran = room.run(streams={"stdout": full})
+            report.expect("standard output is full", (ran.status, ran.err) == (1, b""), ran)
+        read, write = os.pipe()
+        os.close(read)
+        with os.fdopen(write, "wb") as broken:
+            ran = room.run(streams={"stdout": broken})
+            report.expect("nobody reads standard output", (ran.status, ran.err) == (1, b""), ran)
+        ran = room.run(streams={"stdout": None, "preexec_fn": lambda: os.close(1)})
+        report.expect("standard output is closed", ran.status == 1, ran)
+        with open("/dev/full", "wb") as full:
+            ran = room.run(uplink=room.path / "nowhere", streams={"stderr": full})
+            report.expect("standard error is full", (ran.status, ran.out) == (1, b""), ran)
+
+
+def check_words(report):
+    with Room(report, it.ONE_CSBK, it.OUTGOING_HEAD) as room:
+        hang = "call hang is longer than channel hang"
+        for hangs in (["--call-hang", 6], ["--channel-hang", 2], ["--call-hang", 65535, "--channel-hang", 65534]):
+            ran = room.run(*hangs)
+            report.expect(f"{hangs}", ran.is_error(hang, 2), ran)
+        ran = room.run("--call-hang", 6, uplink=room.path / "nowhere")
+        report.expect("settings are tested before files are opened", ran.is_error(hang, 2), ran)
+        for words, text in REFUSED:
+            ran = room.run(*words)
+            is_told = ran.status == 2 and ran.out == b"" and ran.err.startswith(b"error: ") and text in ran.err.decode()
+            report.expect(f"{words}", is_told, ran)
+        report.expect("nothing was written at a refused command line", room.outputs() == [None, None])
+        for words in (["--llid", 16777215], ["--colour", 0], ["--colour", 15], ["--queue", 1], ["--queue", 64],
+                      ["--call-hang", 0], ["--call-hang", 65535, "--channel-hang", 65535]):
+            ran = room.run(*words)
+            report.expect(f"{words}", (ran.status, ran.err) == (0, b""), ran)
+        words = room.words()
+        for name in ("uplink", "outgoing", "downlink", "received", "llid"):
+            at = words.index(f"--{name}")
+            ran = report.call(*words[:at], *words[at + 2 :])
+            is_told = ran.status == 2 and ran.out == b"" and f"  --{name} <" in ran.err.decode()
+            report.expect(f"no --{name}", is_told, ran)
+    for words in ([], ["walk"], ["slot"], ["slot", it.IDLE, it.IDLE], ["--quiet"]):
+        ran = report.call(*words)
+        is_told = ran.status == 2 and ran.out == b"" and b"Usage: dmrgate" in ran.err
+        report.expect(f"words {words}", is_told, ran)
+    ran = report.call(b"slot", b"\xff".decode(errors="surrogateescape"))
+    report.expect("words that are no text", ran.is_error("the command line is not UTF-8 text", 2), ran)
+
+
+def check_bursts(report):
+    for burst, line in [
+        (it.IDLE, "data BS, colour 1, type 9, information FF83DF1732094ED1E7CD8A91"),
+        (it.IDLE.lower(), "data BS, colour 1, type 9, information FF83DF1732094ED1E7CD8A91"),
+        (it.CSBK.hex(), "data MS, colour 1, type 3, information 000000000000000000005A5A"),
+        ("0" * 27 + "5D00000000D" + "0" * 28, "voice, colour 5, PI 1, LCSS 2"),
+        ("0" * 66, "voice, colour 0, PI 0, LCSS 0"),
+        ("0" * 27 + "33000000008" + "0" * 28, "unreadable"),
+    ]:
+        ran = report.call("slot", burst)
+        report.expect(f"slot {burst}", (ran.status, ran.out, ran.err) == (0, line.encode() + b"\n", b""), ran)
+    for burst in ("", "0", it.IDLE[1:], it.IDLE + "0", it.IDLE[:-1] + "G", " " + it.IDLE[1:]):
+        ran = report.call("slot", burst)
+        report.expect(f"slot {burst!r}", ran.is_error(HEXADECIMAL, 2), ran)
+
+
+def check(report):
+    check_files(report)
+    check_devices(report)
+    check_words(report)
+    check_bursts(report)

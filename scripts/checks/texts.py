@@ -1,0 +1,150 @@
+"""Help, the version, the manual page, the completions and the README: they name the same commands, options and defaults."""
+
+import re
+import shutil
+import subprocess
+
+from checks import recordings
+from checks.program import Room
+
+MANUAL = "share/man/man1/dmrgate.1"
+BASH = "share/bash-completion/completions/dmrgate"
+ZSH = "share/zsh/site-functions/_dmrgate"
+FISH = "share/fish/vendor_completions.d/dmrgate.fish"
+
+# What bash offers for the words of an array, the last of them unfinished.
+COMPLETE = 'source "$1"; shift; COMP_WORDS=("$@"); COMP_CWORD=$(($# - 1)); _dmrgate; printf "%s\\n" "${COMPREPLY[@]}"'
+
+
+def options_in(text):
+    return set(re.findall(r"--[a-z][a-z-]*", text))
+
+
+def defaults_in(text):
+    """Each option that has a default, with it."""
+    return dict(re.findall(r"^ +(--[a-z-]+) .*\[default: (\d+)\]$", text, re.MULTILINE))
+
+
+def help_of(report, *words):
+    ran = report.call(*words, "--help")
+    report.expect(f"help of {words}", ran.status == 0 and ran.err == b"", ran)
+    return ran.out.decode()
+
+
+def check_help(report):
+    """The options of the program, of run and of slot."""
+    top, run, slot = help_of(report), help_of(report, "run"), help_of(report, "slot")
+    usages = "dmrgate <COMMAND>", "dmrgate run [OPTIONS] --uplink <FILE>", "dmrgate slot <HEX>"
+    for text, usage in zip((top, run, slot), usages):
+        report.expect(f"help has the usage {usage}", f"\nUsage: {usage}" in text, text)
+    commands = set(re.findall(r"^  ([a-z]+)  ", top, re.MULTILINE))
+    report.expect("the commands", commands == {"run", "slot", "help"}, commands)
+    defaults = {"--colour": "1", "--call-hang": "3", "--channel-hang": "5", "--queue": "9"}
+    report.expect("the defaults", defaults_in(run) == defaults, defaults_in(run))
+    for words in ("60 ms", "1 to 16777215", "0 to 15", "1 to 64", "0 to 65535", "Status 0", "Example", "docs/protocol.md"):
+        report.expect(f"help of run has {words!r}", words in run, run)
+    report.expect("--color is hidden", "--color " not in run, run)
+    for words in (["help"], ["help", "run"], ["help", "slot"]):
+        ran = report.call(*words)
+        report.expect(f"{words} is --help", ran.status == 0 and ran.out.decode() in (top, run, slot), ran)
+    options = re.compile(r"^Options:\n((?: .*\n)+)", re.MULTILINE)
+    return [options_in(options.search(text)[1]) for text in (top, run, slot)]
+
+
+def check_manual(report, top, run, slot, version):
+    text = (report.top / MANUAL).read_text()
+    plain = text.replace("\\-", "-")
+    report.expect("the manual's options", options_in(plain) == top | run | slot, options_in(plain) ^ (top | run | slot))
+    report.expect("the manual's version", f'"{version}"' in text, version)
+    told = dict(re.findall(r"^\.BI (--[a-z-]+) .*\n.*; (\d+) where it is left out\.$", plain, re.MULTILINE))
+    defaults = defaults_in(report.call("run", "--help").out.decode())
+    report.expect("the manual's defaults", told == defaults, told)
+    if shutil.which("groff"):
+        ran = subprocess.run(["groff", "-man", "-ww", "-Tascii", "-z", report.top / MANUAL], capture_output=True, text=True)
+        report.expect("the manual is laid out without a warning", (ran.returncode, ran.stderr) == (0, ""), ran.stderr)
+
+
+def offered(report, *words):
+    ran = subprocess.run(["bash", "-c", COMPLETE, "bash", report.top / BASH, *words], capture_output=True, text=True, cwd=report.top)
+    report.expect(f"bash completes {words}", ran.stderr == "", ran.stderr)
+    return set(ran.stdout.split())
+
+
+def check_completions(report, top, run, slot):
+    for words, wanted in (
+        (["dmrgate", ""], {"run", "slot", "help"} | top),
+        (["dmrgate", "-"], top),
+        (["dmrgate", "s"], {"slot"}),
+        (["dmrgate", "run", ""], run),
+        (["dmrgate", "run", "--c"], {"--colour", "--call-hang", "--channel-hang"}),
+        (["dmrgate", "run", "--uplink", "READ"], {"README.md"}),
+        (["dmrgate", "run", "--llid", ""], set()),
+        (["dmrgate", "slot", "-"], slot),
+        (["dmrgate", "help", ""], {"run", "slot"}),
+    ):
+        had = offered(report, *words)
+        report.expect(f"bash offers for {words}", had == wanted, had ^ wanted)
+    text = (report.top / ZSH).read_text()
+    parts = [text[: text.index("    run)")], *re.split(r"^    (?:slot|help)\)$", text[text.index("    run)") :], flags=re.MULTILINE)]
+    for name, part, wanted in zip(("the program", "run", "slot"), parts, (top, run, slot)):
+        report.expect(f"zsh's options of {name}", options_in(part) == wanted, options_in(part) ^ wanted)
+    lines = (report.top / FISH).read_text().splitlines()
+    everywhere = {"--help"}
+    for name, mark, wanted in (("the program", "__fish_use_subcommand", top), ("run", "from run'", run)):
+        had = everywhere | {f"--{word}" for line in lines if mark in line for word in re.findall(r" -l ([a-z-]+)", line)}
+        report.expect(f"fish's options of {name}", had == wanted, had ^ wanted)
+    for shell, file in (("zsh", ZSH), ("fish", FISH), ("bash", BASH)):
+        if shutil.which(shell):
+            ran = subprocess.run([shell, "-n", report.top / file], capture_output=True, text=True)
+            report.expect(f"{shell} reads its completions", (ran.returncode, ran.stderr) == (0, ""), ran.stderr)
+
+
+def shell(command, folder):
+    return subprocess.run(["sh", "-c", command], cwd=folder, capture_output=True, text=True)
+
+
+def check_readme(report):
+    """Its commands run, and do what it says; each option that it names is one."""
+    text = (report.top / "README.md").read_text()
+    command = re.search(r"^    (\./dmrgate run .*)$", text, re.MULTILINE)[1]
+    line = re.search(r"It prints `(frames .*?)`", text)[1]
+    with Room(report, b"", b"") as room:
+        (room.path / "dmrgate").symlink_to(report.top / "dmrgate")
+        (room.path / "samples").symlink_to(report.top / "samples")
+        ran = shell(command, room.path)
+        report.expect("the command of the README", (ran.returncode, ran.stdout) == (0, line + "\n"), ran)
+        wanted = (report.top / "samples/one_csbk/downlink.dmrd").read_bytes()
+        report.expect("its downlink", room.downlink.name == "downlink.dmrd" and room.downlink.read_bytes() == wanted)
+
+        shell(re.search(r"^    (printf .* > none\.dmro)$", text, re.MULTILINE)[1], room.path)
+        empty = (room.path / "none.dmro").read_bytes()
+        report.expect("an empty outgoing list", empty == recordings.OUTGOING_HEAD, empty)
+        if shutil.which("xxd"):
+            (room.path / "slots.txt").write_text(recordings.CSBK.hex().upper() + "\n\n")
+            ran = shell(re.search(r"^    (\{ printf .* > mine\.dmru)$", text, re.MULTILINE)[1], room.path)
+            mine = (room.path / "mine.dmru").read_bytes()
+            report.expect("a recording by hand", mine == recordings.ONE_CSBK, mine)
+        shown = re.search(r"^    (python3 - downlink\.dmrd <<'END'\n(?:    .*\n)*?    END)$", text, re.MULTILINE)[1]
+        ran = shell(re.sub(r"^    ", "", shown, flags=re.MULTILINE), room.path)
+        lines = "6 1  data BS, colour 1, type 3, information 000000000000000000005A5A\n"
+        lines += "6 2  data BS, colour 1, type 9, information FF83DF1732094ED1E7CD8A91\n"
+        report.expect("a downlink looked at", ran.stdout == lines, ran)
+        for name in ("one.dmru", "two.dmru"):
+            (room.path / name).write_bytes(recordings.ONE_CSBK)
+        room.uplink.unlink()
+        shell("rm -f mine.dmru", room.path)
+        ran = shell(re.search(r"^    (ls .* xargs .*)$", text, re.MULTILINE)[1], room.path)
+        report.expect("many at once", (ran.returncode, ran.stdout) == (0, 2 * (line + "\n")), ran)
+        made = [(room.path / f"{name}.dmru.dmrd").read_bytes() for name in ("one", "two")]
+        report.expect("their downlinks", made == [wanted, wanted])
+
+
+def check(report):
+    top, run, slot = check_help(report)
+    ran = report.call("--version")
+    version = ran.out.decode().strip()
+    is_version = re.fullmatch(r"dmrgate \d+\.\d+\.\d+", version) and ran.status == 0 and ran.err == b""
+    report.expect("the version", is_version, ran)
+    check_manual(report, top, run, slot, version)
+    check_completions(report, top, run, slot)
+    check_readme(report)

@@ -1,0 +1,17 @@
+# Completion of dmrgate for fish.
+complete -c dmrgate -f
+complete -c dmrgate -n __fish_use_subcommand -a run -d 'Repeat a recording of the uplink into the downlink'
+complete -c dmrgate -n __fish_use_subcommand -a slot -d 'Say what one burst is'
+complete -c dmrgate -n __fish_use_subcommand -a help -d 'Print help'
+complete -c dmrgate -n __fish_use_subcommand -s V -l version -d 'Print the version'
+complete -c dmrgate -s h -l help -d 'Print help'
+complete -c dmrgate -n '__fish_seen_subcommand_from help' -a 'run slot'
+complete -c dmrgate -n '__fish_seen_subcommand_from run' -l uplink -rF -d 'The recording of the uplink, to read'
+complete -c dmrgate -n '__fish_seen_subcommand_from run' -l outgoing -rF -d 'The datagrams to send, to read'
+complete -c dmrgate -n '__fish_seen_subcommand_from run' -l downlink -rF -d 'The downlink, to write'
+complete -c dmrgate -n '__fish_seen_subcommand_from run' -l received -rF -d 'The datagrams received, to write'
+complete -c dmrgate -n '__fish_seen_subcommand_from run' -l llid -x -d "The gateway's address on the air, 1 to 16777215"
+complete -c dmrgate -n '__fish_seen_subcommand_from run' -l colour -x -d 'The colour code, 0 to 15'
+complete -c dmrgate -n '__fish_seen_subcommand_from run' -l call-hang -x -d 'Frames of 60 ms that a call is held'
+complete -c dmrgate -n '__fish_seen_subcommand_from run' -l channel-hang -x -d 'Frames of 60 ms that the channel stays on the air'
+complete -c dmrgate -n '__fish_seen_subcommand_from run' -l queue -x -d 'Datagrams that may wait in a slot, 1 to 64'
