@@ -101,7 +101,8 @@ answer_fit h llid verdict flags own fit =
     (λ yes. record { from = own; to = fit.1.1.1.1.1.0; sap = fit.1.1.0; number = fit.1.1.1.1.1.1.1.0 })
     (λ other. tt)
 
-single_joined_fit : (h : Header) (body : Result (List ℕ) JoinFault) → IsFitHeader h → IsFitReceiverOut (receiver.single_joined h body)
+single_joined_fit : (h : Header) (body : Result (List ℕ) JoinFault) → IsFitHeader h →
+    IsFitReceiverOut (receiver.single_joined h body)
 single_joined_fit h (Ok body) fit = record { delivered = fit; answer = tt }
 single_joined_fit h (Err fault) fit = nothing_fits
 

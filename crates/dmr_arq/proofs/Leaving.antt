@@ -75,7 +75,11 @@ takes_fit packet route s fit to own =
       llid = own.llid;
       held = record { packet = fit; route = to; number = number_small _; serials = all_few packet fit };
     })
-    (λ u. record { llid = own.llid; held = record { packet = fit; route = to; number = omega arith; serials = all_few packet fit } })
+    (λ u.
+    record {
+      llid = own.llid;
+      held = record { packet = fit; route = to; number = omega arith; serials = all_few packet fit };
+    })
 
 offered_at_fit : (o : Option Held) (packet : Packet) (route : Route) (s : SenderState) → IsOfferedPacket packet → IsFitRoute route →
     IsFitSender s → IsFitSender (sender.offered_at o packet route s)

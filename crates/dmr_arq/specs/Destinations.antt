@@ -1,0 +1,77 @@
+-- Which number a confirmed packet gets: one more than the last that went to its destination.
+use Rattle.std.specs.Prelude.{◌≡◌, ℕ, ◌+◌, ◌%◌, ◌⊎◌, true, List, [], ◌∷◌, Option, Some, None, if◌then◌else◌}
+use Rattle.dmr_data.specs.declared.packet.Packet.{Packet}
+use Rattle.dmr_arq.specs.declared.answer.Answer.{Answer}
+use Rattle.dmr_arq.specs.declared.sender.Held.{Held}
+use Rattle.dmr_arq.specs.declared.sender.Route.{Route}
+use Rattle.dmr_arq.specs.declared.sender.SenderState.{SenderState}
+use Rattle.dmr_arq.specs.declared.table.Entry.{Entry}
+use Rattle.dmr_arq.specs.Sender.{offered, takes, sent, answered, ticked, cut_of, outcome_taken}
+use Rattle.dmr_arq.specs.Sources.{IsHeardLast}
+
+-- What a sender sees: a packet is offered; its next burst is asked for; an answer comes; a frame is over; a try can't go
+-- on; what became of a packet is taken.
+pub data SenderEvent : Type 0 where
+  Offers : Packet → Route → SenderEvent
+  Sends : SenderEvent
+  Hears : Answer → SenderEvent
+  Ticks : SenderEvent
+  Cuts : SenderEvent
+  Tells : SenderEvent
+
+abbrev pub seen : SenderEvent → SenderState → SenderState
+seen (Offers packet route) s = offered packet route s
+seen Sends s = sent s
+seen (Hears answer) s = answered answer s
+seen Ticks s = ticked s
+seen Cuts s = cut_of s
+seen Tells s = outcome_taken s
+
+-- after all events, the newest of them first
+abbrev pub sender_after : ℕ → List SenderEvent → SenderState
+sender_after llid [] = record { llid = llid; table = []; held = None; outcome = None }
+sender_after llid (newest ∷ earlier) = seen newest (sender_after llid earlier)
+
+-- the number of the packet in hand
+abbrev pub number_in_hand : Option Held → ℕ
+number_in_hand None = 0
+number_in_hand (Some h) = h.number
+
+-- an offer is taken where no packet is in hand; a confirmed packet leaves its destination, and the number that it got
+abbrev pub offer_calls : Option Held → Packet → Route → SenderState → List Entry → List Entry
+offer_calls None packet route s calls =
+    if packet.confirmed
+    then record { llid = route.destination; number = number_in_hand (takes packet route s).held } ∷ calls
+    else calls
+offer_calls (Some h) packet route s calls = calls
+
+abbrev pub with_call : SenderEvent → SenderState → List Entry → List Entry
+with_call (Offers packet route) s calls = offer_calls s.held packet route s calls
+with_call Sends s calls = calls
+with_call (Hears answer) s calls = calls
+with_call Ticks s calls = calls
+with_call Cuts s calls = calls
+with_call Tells s calls = calls
+
+-- The confirmed packets that were taken in hand, each as its destination and its number, the newest of them first.
+abbrev pub calls_of : ℕ → List SenderEvent → List Entry
+calls_of llid [] = []
+calls_of llid (newest ∷ earlier) = with_call newest (sender_after llid earlier) (calls_of llid earlier)
+
+-- The last packet to this destination had this number, and fewer than 64 other destinations have had one since.
+abbrev pub IsCalledLast : ℕ → ℕ → List Entry → Type 0
+IsCalledLast destination number calls = IsHeardLast (record { llid = destination; number = number }) calls
+
+-- One more than that number, modulo 8, where there is one; else 0.
+abbrev pub IsNextNumber : ℕ → List Entry → ℕ → Type 0
+IsNextNumber destination calls number =
+    ((last : ℕ) × IsCalledLast destination last calls × (number ≡ (last + 1) % 8))
+    ⊎ (((last : ℕ) → IsCalledLast destination last calls → ⊥) × (number ≡ 0))
+
+-- After every list of events a confirmed packet that is taken in hand gets the next number of its destination.
+abbrev pub SequenceNumbers : Type 0
+SequenceNumbers =
+    (llid : ℕ) (events : List SenderEvent) (packet : Packet) (route : Route) →
+    (sender_after llid events).held ≡ None → packet.confirmed ≡ true →
+    IsNextNumber route.destination (calls_of llid events)
+    (number_in_hand (offered packet route (sender_after llid events)).held)
