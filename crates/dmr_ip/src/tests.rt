@@ -303,3 +303,29 @@ fn number(octets: &[u8], place: usize) -> u64
 {
     256 * u64::from(octets[place]) + u64::from(octets[place + 1])
 }
+
+#[test]
+fn texts(rt: HostRuntime) -> Result<(), Fail> {
+    for (fault, text) in [
+        (IpFault::Length, "bad length"),
+        (IpFault::Version, "bad version"),
+        (IpFault::Options, "header with options"),
+        (IpFault::HeaderSum, "bad header checksum"),
+        (IpFault::Fragment, "fragment"),
+        (IpFault::Protocol, "not UDP"),
+        (IpFault::UdpLength, "bad UDP length"),
+        (IpFault::UdpSum, "bad UDP checksum"),
+    ] {
+        assert_eq!(rt; format!(in rt.alloc(); "{fault}")?.as_str(), text);
+    }
+    for (fault, text) in [
+        (ExpandFault::Short, "too short"),
+        (ExpandFault::Opcode, "unknown opcode"),
+        (ExpandFault::Address, "unknown address identifier"),
+        (ExpandFault::Port, "unknown port identifier"),
+        (ExpandFault::Long, "too long"),
+    ] {
+        assert_eq!(rt; format!(in rt.alloc(); "{fault}")?.as_str(), text);
+    }
+    Ok(())
+}

@@ -6,6 +6,7 @@ use dmr_record::{RecordFault, ToWrite};
 use dmr_repeater::{RunFault, Stream, Summary};
 use std::fmt::Write;
 use std::process::Abort;
+use std::test::Fail;
 
 /// The idle burst of a base station of colour code 1.
 const IDLE_BURST: &str = "53C25EABA8671DC7383BD936065DFF57D75DF5D92BF6E465171B48CA6D4FC610B4";
@@ -297,8 +298,25 @@ fn texts_and_errors(rt: HostRuntime) {
     let mut output = ToWrite::new(Vec::new(alloc));
     assert_eq!(rt; print_text(&mut output, "one\ntwo\n", 0), 0);
     assert_eq!(rt; print_error(&mut output, "three", 2), 2);
-    assert!(rt; output.into_inner().as_slice() == b"one\ntwo\nerror: three\n");
+    assert!(rt; output.into_inner().as_slice() == b"one\ntwo\nerror: three\n".as_slice());
     let mut room = [0u8; 4];
     let mut full = ToWrite::new(&mut room[..]);
     assert_eq!(rt; print_text(&mut full, "one\ntwo\n", 0), 1);
+}
+
+/// What the library of the settings says of each, which a run prints of the hang alone.
+#[test]
+fn texts_of_settings(rt: HostRuntime) -> Result<(), Fail> {
+    for (fault, text) in [
+        (ConfigFault::Colour, "the colour code is over 15"),
+        (
+            ConfigFault::Llid,
+            "the gateway's address is not in 1..=16777215",
+        ),
+        (ConfigFault::Hang, "call hang is longer than channel hang"),
+        (ConfigFault::Queue, "the queue is not in 1..=64"),
+    ] {
+        assert_eq!(rt; format!(in rt.alloc(); "{fault}")?.as_str(), text);
+    }
+    Ok(())
 }
