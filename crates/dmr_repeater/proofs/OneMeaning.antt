@@ -1,0 +1,31 @@
+-- What a recording means.
+use Rattle.std.proofs.Common.{ℕ, List, [], ◌∷◌, length, Option, arith}
+use Rattle.std.specs.List.{AllByRecursion}
+use Rattle.std.proofs.lemmas.List.Elements.{All-from_recursion}
+use Rattle.dmr_record.specs.Uplink.{IsFrame}
+use Rattle.dmr_station.specs.Downlink.{slots_in}
+use Rattle.dmr_voice.proofs.Law.{repeats_what_is_meant}
+use Rattle.dmr_voice.proofs.OneMeaning.{one_meaning as one_meaning_of_slots}
+use Rattle.dmr_voice.specs.DamagedRecordings.{IsSlot}
+use Rattle.dmr_repeater.specs.Headline.{HasOneMeaning}
+
+first_slots_are : (frames : List (List (Option (List ℕ)))) → AllByRecursion IsFrame frames
+    → AllByRecursion IsSlot (slots_in 0 frames)
+first_slots_are [] each = tt
+first_slots_are ([] ∷ frames) each = absurd (omega (arith, each.0.0))
+first_slots_are ((a ∷ rest) ∷ frames) each = (each.0.1.0, first_slots_are frames each.1)
+
+second_slots_are : (frames : List (List (Option (List ℕ)))) → AllByRecursion IsFrame frames
+    → AllByRecursion IsSlot (slots_in 1 frames)
+second_slots_are [] each = tt
+second_slots_are ([] ∷ frames) each = absurd (omega (arith, each.0.0))
+second_slots_are ((a ∷ []) ∷ frames) each = absurd (omega (arith, each.0.0))
+second_slots_are ((a ∷ b ∷ rest) ∷ frames) each = (each.0.1.1.0, second_slots_are frames each.1)
+
+pub one_meaning : HasOneMeaning
+one_meaning colour lead_a lead_b lead_c lead_d a b c d frames left well_a well_b well_c well_d u v = (
+  one_meaning_of_slots repeats_what_is_meant colour lead_a lead_c a c (slots_in 0 frames) (All-from_recursion IsSlot
+      (slots_in 0 frames) (first_slots_are frames u.each)) well_a well_c u.recording.first_slot v.recording.first_slot,
+  one_meaning_of_slots repeats_what_is_meant colour lead_b lead_d b d (slots_in 1 frames) (All-from_recursion IsSlot
+      (slots_in 1 frames) (second_slots_are frames u.each)) well_b well_d u.recording.second_slot v.recording.second_slot,
+)

@@ -1,0 +1,163 @@
+-- What is sent of clean bursts is clean, and so is what the rules make of any frames.
+use Rattle.std.proofs.Common.{◌≡◌, ℕ, suc, ◌+◌, ◌%◌, ◌==◌, Bool, List, [], ◌∷◌, Option, Some, None, slice_index_or, length, map}
+use Rattle.std.proofs.Common.{refl, sym, ap, ◌∙◌, subst, arith}
+use Rattle.std.proofs.lemmas.List.{length-map}
+use Rattle.dmr_burst.specs.declared.burst.Burst.{Burst}
+use Rattle.dmr_slot.specs.Channel.{ChannelOut, claims_of, frame_of, frames_of, has_traffic_within}
+use Rattle.dmr_slot.specs.Clean.{AreCleanBursts, burst_of}
+use Rattle.dmr_slot.specs.Frames.{AreSent}
+use Rattle.dmr_slot.specs.Push.{Memory as Line, ArePushed}
+use Rattle.dmr_slot.specs.declared.channel.Claim.{Claim}
+use Rattle.dmr_slot.specs.declared.line.SlotOut.{SlotOut}
+use Rattle.dmr_slot.proofs.CleanLines.{pushed_lines_are_clean}
+use Rattle.dmr_slot.proofs.Cleaning.{ArePairs, AllFramesSent, both_clean_alone, firsts, frame_claims, no_gate_frames, seconds}
+use Rattle.dmr_station.specs.Announced.{AreAnnounced}
+use Rattle.dmr_station.specs.declared.announcing.Message.{Message}
+use Rattle.dmr_station.specs.declared.sending.DownlinkBurst.{DownlinkBurst}
+use Rattle.dmr_station.specs.Clean.{AreCleanSlots, IsCleanCach, IsCleanDownlink, IsEncodedAs, burst_in, bursts_in, first_slots}
+use Rattle.dmr_station.specs.Clean.{second_slots}
+use Rattle.dmr_station.specs.Downlink.{Makes, slots_of, slots_in, frames_in, claims_in, marked_frames}
+use Rattle.dmr_station.specs.Frames.{Settings, slot_in, no_gateway, marked}
+use Rattle.dmr_station.specs.Pairs.{Pairwise}
+use Rattle.dmr_station.specs.Sent.{lcss_of, IsCachOf, IsSentAs, AreSentAs}
+
+-- ---- any bursts
+clean_cach : (busy : Bool) (m : Message) (place : ℕ) (octets : List ℕ) → IsCachOf busy m place octets → IsCleanCach octets
+clean_cach busy m place octets u = record {
+  at = busy;
+  tc =
+      (place % 2 == 1);
+  lcss = lcss_of place;
+  fragment = slice_index_or u.0 (place % 4) [];
+  fields = u.2;
+}
+
+encoded_slot : (place : ℕ) (slot : Option DownlinkBurst) (sent : Option (List ℕ × List ℕ)) → IsSentAs place slot sent
+    → IsEncodedAs (burst_in slot) sent
+encoded_slot place None sent u = u
+encoded_slot place (Some d) None u = absurd u
+encoded_slot place (Some d) (Some s) u = (clean_cach d.is_repeated d.message place s.0 u.0, u.1)
+
+encoded_slots : (place : ℕ) (slots : List (Option DownlinkBurst)) (sent : List (Option (List ℕ × List ℕ)))
+    → AreSentAs place slots sent → Pairwise IsEncodedAs (bursts_in slots) sent
+encoded_slots place [] [] u = tt
+encoded_slots place [] (s ∷ more) u = absurd u
+encoded_slots place (slot ∷ slots) [] u = absurd u
+encoded_slots place (slot ∷ slots) (s ∷ more) u = (encoded_slot place slot s u.0, encoded_slots (place + 1) slots more u.1)
+
+pub sent_bursts_are_clean : (colour place : ℕ) (slots : List (Option DownlinkBurst)) (sent : List (Option (List ℕ × List ℕ)))
+    → AreCleanSlots colour (bursts_in slots)
+    → AreSentAs place slots sent → IsCleanDownlink colour sent
+sent_bursts_are_clean colour place slots sent clean u =
+    record { bursts = bursts_in slots; encoded = encoded_slots place slots sent u; clean = clean }
+
+-- ---- both slots, side by side
+long_line : (m : Line) (slots : List (Option (List ℕ))) (outs : List SlotOut) (after : Line) → ArePushed m slots outs after
+    → length outs ≡ length slots
+long_line m [] [] after u = refl
+long_line m [] (out ∷ outs) after u = absurd u
+long_line m (slot ∷ slots) [] after u = absurd u
+long_line m (slot ∷ slots) (out ∷ outs) after u = ap suc (long_line u.0 slots outs after u.2)
+
+pairs_in : (first second : List SlotOut) → ArePairs (frames_in first second)
+pairs_in [] second = tt
+pairs_in (a ∷ first) [] = tt
+pairs_in (a ∷ first) (b ∷ second) = (refl, pairs_in first second)
+
+firsts_in : (first second : List SlotOut) → length first ≡ length second → firsts (frames_in first second) ≡ first
+firsts_in [] second e = refl
+firsts_in (a ∷ first) [] e = absurd (omega (arith, e))
+firsts_in (a ∷ first) (b ∷ second) e = ap (λ (outs : List SlotOut). a ∷ outs) (firsts_in first second (omega (arith, e)))
+
+seconds_in : (first second : List SlotOut) → length first ≡ length second → seconds (frames_in first second) ≡ second
+seconds_in [] [] e = refl
+seconds_in [] (b ∷ second) e = absurd (omega (arith, e))
+seconds_in (a ∷ first) [] e = absurd (omega (arith, e))
+seconds_in (a ∷ first) (b ∷ second) e = ap (λ (outs : List SlotOut). b ∷ outs) (seconds_in first second (omega (arith, e)))
+
+claims_alone : (outs : List (List SlotOut)) → claims_in outs ≡ frame_claims outs (no_gate_frames (length outs))
+claims_alone [] = refl
+claims_alone (slots ∷ outs) = ap (λ (claims : List (List Claim)). claims_of slots no_gateway ∷ claims) (claims_alone outs)
+
+all_frames_sent : (colour : ℕ) (frames : List (List ChannelOut)) (bursts : List (List (Option Burst)))
+    → Pairwise (AreSent colour) frames bursts → AllFramesSent colour frames bursts
+all_frames_sent colour [] [] u = tt
+all_frames_sent colour [] (sent ∷ bursts) u = absurd u
+all_frames_sent colour (frame ∷ frames) [] u = absurd u
+all_frames_sent colour (frame ∷ frames) (sent ∷ bursts) u = (u.0, all_frames_sent colour frames bursts u.1)
+
+-- ---- what goes out, slot by slot
+burst_in_marked : (m : Message) (out : SlotOut) (burst : Option Burst) → burst_in (marked m out burst) ≡ burst
+burst_in_marked m out None = refl
+burst_in_marked m out (Some burst) = refl
+
+pub two_sent : (colour : ℕ) (on_air : Bool) (a b : SlotOut) (sent : List (Option Burst))
+    → AreSent colour (frame_of on_air (claims_of (a ∷ b ∷ []) no_gateway)) sent → length sent ≡ 2
+two_sent colour on_air a b [] u = absurd u
+two_sent colour on_air a b (x ∷ []) u = absurd u.1
+two_sent colour on_air a b (x ∷ y ∷ []) u = refl
+two_sent colour on_air a b (x ∷ y ∷ z ∷ more) u = absurd u.1.1
+
+cons_by : (a b : Option Burst) (more others : List (Option Burst)) → a ≡ b → more ≡ others → a ∷ more ≡ b ∷ others
+cons_by a b more others e f = cc
+
+record SlotBySlot (messages : List Message) (first second : List SlotOut) (bursts : List (List (Option Burst))) : Type 0 where
+  first_is : first_slots (bursts_in (slots_of (marked_frames messages (frames_in first second) bursts))) ≡ firsts bursts
+  second_is : second_slots (bursts_in (slots_of (marked_frames messages (frames_in first second) bursts))) ≡ seconds bursts
+
+one_more : (m : Message) (messages : List Message) (a b : SlotOut) (first second : List SlotOut) (sent : List (Option Burst))
+    (bursts : List (List (Option Burst))) → length sent ≡ 2 → SlotBySlot messages first second bursts
+    → SlotBySlot (m ∷ messages) (a ∷ first) (b ∷ second) (sent ∷ bursts)
+one_more m messages a b first second [] bursts two u = absurd (omega (arith, two))
+one_more m messages a b first second (x ∷ []) bursts two u = absurd (omega (arith, two))
+one_more m messages a b first second (x ∷ y ∷ z ∷ more) bursts two u = absurd (omega (arith, two))
+one_more m messages a b first second (x ∷ y ∷ []) bursts two u = record {
+  first_is = cons_by _ x _ _ (burst_in_marked m a x) u.first_is;
+  second_is = cons_by _ y _ _ (burst_in_marked m b y) u.second_is;
+}
+
+slot_by_slot : (colour hang : ℕ) (back : List (List Claim)) (past : List (List SlotOut)) (messages : List Message)
+    (first second : List SlotOut) (bursts : List (List (Option Burst))) → AreAnnounced past (frames_in first second) messages
+    → Pairwise (AreSent colour) (frames_of hang back (claims_in (frames_in first second))) bursts
+    → SlotBySlot messages first second bursts
+slot_by_slot colour hang back past [] [] second [] v u = record { first_is = refl; second_is = refl }
+slot_by_slot colour hang back past (m ∷ messages) [] second [] v u = absurd v
+slot_by_slot colour hang back past messages [] second (sent ∷ bursts) v u = absurd u
+slot_by_slot colour hang back past [] (a ∷ first) [] [] v u = record { first_is = refl; second_is = refl }
+slot_by_slot colour hang back past (m ∷ messages) (a ∷ first) [] [] v u = absurd v
+slot_by_slot colour hang back past messages (a ∷ first) [] (sent ∷ bursts) v u = absurd u
+slot_by_slot colour hang back past messages (a ∷ first) (b ∷ second) [] v u = absurd u
+slot_by_slot colour hang back past [] (a ∷ first) (b ∷ second) (sent ∷ bursts) v u = absurd v
+slot_by_slot colour hang back past (m ∷ messages) (a ∷ first) (b ∷ second) (sent ∷ bursts) v u =
+    let frame : List Claim = claims_of (a ∷ b ∷ []) no_gateway in
+    one_more m messages a b first second sent bursts
+    (two_sent colour (has_traffic_within (suc hang) (frame ∷ back)) a b sent u.0)
+    (slot_by_slot colour hang (frame ∷ back) ((a ∷ b ∷ []) ∷ past) messages first second bursts v.1 u.1)
+
+-- ---- what the rules make
+pub clean_made : (s : Settings) (frames : List (List (Option (List ℕ)))) (sending : List (List (Option DownlinkBurst)))
+    → Makes s frames sending
+    → AreCleanSlots s.colour (bursts_in (slots_of sending))
+clean_made s frames sending u =
+    let outs : List (List SlotOut) = frames_in u.first u.second in
+    let bursts = u.downlink.bursts in
+    let long : length u.first ≡ length u.second =
+    long_line _ (slots_in 0 frames) u.first u.first_line.0 u.first_line.1 ∙ length-map frames (slot_in 0)
+    ∙ sym (long_line _ (slots_in 1 frames) u.second u.second_line.0 u.second_line.1 ∙ length-map frames (slot_in 1)) in
+    let clean_first = pushed_lines_are_clean s.colour s.call_hang (slots_in 0 frames) u.first u.first_line.0 u.first_line.1 in
+    let clean_second = pushed_lines_are_clean s.colour s.call_hang (slots_in 1 frames) u.second u.second_line.0 u.second_line.1 in
+    let sent = all_frames_sent s.colour (frames_of s.channel_hang [] (claims_in outs)) bursts u.downlink.channel in
+    let both = both_clean_alone s.colour s.channel_hang [] outs bursts (pairs_in u.first u.second)
+    (subst (λ (line : List SlotOut). AreCleanBursts s.colour (map burst_of line)) (sym
+    (firsts_in u.first u.second long)) clean_first)
+    (subst (λ (line : List SlotOut). AreCleanBursts s.colour (map burst_of line)) (sym
+    (seconds_in u.first u.second long)) clean_second)
+    (subst (λ (claims : List (List Claim)). AllFramesSent s.colour (frames_of s.channel_hang [] claims) bursts)
+    (claims_alone outs) sent) in
+    let slots = slot_by_slot s.colour s.channel_hang [] [] u.downlink.messages u.first u.second bursts u.downlink.announced
+    u.downlink.channel in
+    subst (λ (out : List (List (Option DownlinkBurst))). AreCleanSlots s.colour (bursts_in (slots_of out))) (sym u.downlink.marks)
+    (record {
+      first = subst (AreCleanBursts s.colour) (sym slots.first_is) both.first;
+      second = subst (AreCleanBursts s.colour) (sym slots.second_is) both.second;
+    })

@@ -1,0 +1,212 @@
+-- What the rules make of frames, slot by slot.
+use Rattle.std.proofs.Common.{◌≡◌, ℕ, List, [], ◌∷◌, ◌++◌, length, replicate, Option, None, refl, sym, ap, ◌∙◌, subst, arith}
+use Rattle.std.proofs.lemmas.List.{map-append, length-map}
+use Rattle.dmr_burst.specs.declared.burst.Burst.{Burst}
+use Rattle.dmr_slot.specs.Channel.{ChannelOut, frames_of}
+use Rattle.dmr_slot.specs.Frames.{OnAir, frames_out, AreSent}
+use Rattle.dmr_slot.specs.Push.{Memory as Line, start as silent_line, ArePushed}
+use Rattle.dmr_slot.specs.Recordings.{handed as handed_slots}
+use Rattle.dmr_slot.specs.declared.line.SlotOut.{SlotOut}
+use Rattle.dmr_slot.proofs.Channels.{looks_back}
+use Rattle.dmr_slot.proofs.Recorded.{line_of_what_is_meant}
+use Rattle.dmr_slot.proofs.Fronts.{front_of_what_is_meant}
+use Rattle.dmr_slot.proofs.Unique.{one_sent}
+use Rattle.dmr_voice.proofs.Law.{repeats_what_is_meant}
+use Rattle.dmr_voice.specs.DamagedRecordings.{IsDamagedRecordingOf}
+use Rattle.dmr_voice.specs.Transmissions.{Transmission, sent_list}
+use Rattle.dmr_voice.specs.WellFormed.{IsWellFormed}
+use Rattle.dmr_station.specs.declared.announcing.Message.{Message}
+use Rattle.dmr_station.specs.declared.sending.DownlinkBurst.{DownlinkBurst}
+use Rattle.dmr_station.specs.Downlink.{slots_in, frames_in, claims_in, marked_frames, IsDownlinkOf, IsPushedLine, Makes, silence}
+use Rattle.dmr_station.specs.Downlink.{handed}
+use Rattle.dmr_station.specs.Frames.{Settings, Memory, start, slot_in, ArePassed}
+use Rattle.dmr_station.specs.Meaning.{IsFrontOfWhatIsMeant, IsLineOfWhatIsMeant, SendsFrontOfWhatIsMeant, SendsWhatIsMeant}
+use Rattle.dmr_station.specs.Pairs.{Pairwise}
+use Rattle.dmr_station.proofs.LookingBack.{Announces, looks_back as messages_look_back, one_announced}
+
+-- ---- from frames to slots
+record Apart (m : Memory) (frames : List (List (Option (List ℕ)))) (sending : List (List (Option DownlinkBurst))) : Type 0 where
+  first : List SlotOut
+  second : List SlotOut
+  first_after : Line
+  second_after : Line
+  first_pushed : ArePushed m.first (slots_in 0 frames) first first_after
+  second_pushed : ArePushed m.second (slots_in 1 frames) second second_after
+  bursts : List (List (Option Burst))
+  channel : Pairwise (AreSent m.channel.colour) (frames_out m.channel (claims_in (frames_in first second))) bursts
+  messages : List Message
+  announces : Announces m.kept (frames_in first second) messages
+  marks : sending ≡ marked_frames messages (frames_in first second) bursts
+
+cons_by : (a b : List (Option DownlinkBurst)) (more others : List (List (Option DownlinkBurst))) → a ≡ b → more ≡ others
+    → a ∷ more ≡ b ∷ others
+cons_by a b more others e f = cc
+
+apart : (m : Memory) (frames : List (List (Option (List ℕ)))) (sending : List (List (Option DownlinkBurst))) (after : Memory)
+    → ArePassed m frames sending after
+    → Apart m frames sending
+apart m [] [] after u = record {
+  first = [];
+  second = [];
+  first_after = m.first;
+  second_after = m.second;
+  first_pushed = refl;
+  second_pushed = refl;
+  bursts = [];
+  channel = tt;
+  messages = [];
+  announces = tt;
+  marks = refl;
+}
+apart m [] (s ∷ ss) after u = absurd u
+apart m (f ∷ fs) [] after u = absurd u
+apart m (f ∷ fs) (s ∷ ss) after u =
+    let step = u.1 in
+    let more = apart u.0 fs ss after u.2 in
+    record {
+      first = step.first ∷ more.first;
+      second = step.second ∷ more.second;
+      first_after = more.first_after;
+      second_after = more.second_after;
+      first_pushed = (u.0.first, step.first_line, more.first_pushed);
+      second_pushed = (u.0.second, step.second_line, more.second_pushed);
+      bursts = step.bursts ∷ more.bursts;
+      channel = (
+        step.sent,
+        subst (λ (c : OnAir). Pairwise (AreSent c.colour) (frames_out c (claims_in
+            (frames_in more.first more.second))) more.bursts) step.channel more.channel,
+      );
+      messages = step.message ∷ more.messages;
+      announces = (u.0.kept, step.announces, more.announces);
+      marks = cons_by s _ ss _ step.marks more.marks;
+    }
+
+pub makes : (s : Settings) (frames : List (List (Option (List ℕ)))) (sending : List (List (Option DownlinkBurst)))
+    (after : Memory) → ArePassed (start s) frames sending after
+    → Makes s frames sending
+makes s frames sending after u =
+    let both = apart (start s) frames sending after u in
+    record {
+      first = both.first;
+      second = both.second;
+      first_line = (both.first_after, both.first_pushed);
+      second_line = (both.second_after, both.second_pushed);
+      downlink = record {
+        bursts = both.bursts;
+        channel = subst (λ (l : List (List ChannelOut)). Pairwise (AreSent s.colour) l both.bursts)
+            (looks_back s.colour s.channel_hang (claims_in (frames_in both.first both.second))) both.channel;
+        messages = both.messages;
+        announced = messages_look_back None [] (frames_in both.first both.second) both.messages refl both.announces;
+        marks = both.marks;
+      };
+    }
+
+-- ---- from slots to what was sent
+handed_in_first : (frames : List (List (Option (List ℕ)))) → slots_in 0 (handed frames) ≡ handed_slots (slots_in 0 frames)
+handed_in_first frames = ap (λ (l : List (Option (List ℕ))). None ∷ l) (map-append (slot_in 0) frames (replicate 5 silence))
+
+handed_in_second : (frames : List (List (Option (List ℕ)))) → slots_in 1 (handed frames) ≡ handed_slots (slots_in 1 frames)
+handed_in_second frames = ap (λ (l : List (Option (List ℕ))). None ∷ l) (map-append (slot_in 1) frames (replicate 5 silence))
+
+-- in one slot, of which this was handed over
+module _ (s : Settings) (lead : ℕ) (ts : List (Transmission
+    × ℕ)) (number : ℕ) (frames : List (List (Option (List ℕ)))) (outs : List SlotOut)
+    (well : IsWellFormed s.colour ts) (recorded : IsDamagedRecordingOf s.colour (sent_list s.colour lead ts)
+    (slots_in number frames))
+    (same : slots_in number (handed frames) ≡ handed_slots (slots_in number frames)) where
+  whole_of_meaning : IsPushedLine s (slots_in number (handed frames)) outs
+      → IsLineOfWhatIsMeant s (sent_list s.colour lead ts) (slots_in number frames) outs
+  whole_of_meaning (after, pushed) =
+      line_of_what_is_meant repeats_what_is_meant s.colour s.call_hang lead ts (slots_in number frames) outs after well recorded
+      (subst (λ (l : List (Option (List ℕ))). ArePushed (silent_line s.colour s.call_hang) l outs after) same pushed)
+
+  front_of_meaning : (xs ys : List (List (Option (List ℕ)))) → handed frames ≡ xs ++ ys → IsPushedLine s (slots_in number xs) outs
+      → IsFrontOfWhatIsMeant s (sent_list s.colour lead ts) (slots_in number frames) (length xs) outs
+  front_of_meaning xs ys split (after, pushed) =
+      let slots_split : handed_slots (slots_in number frames) ≡ slots_in number xs ++ slots_in number ys =
+      sym same ∙ ap (slots_in number) split ∙ map-append (slot_in number) xs ys in
+      subst (λ (count : ℕ). IsFrontOfWhatIsMeant s (sent_list s.colour lead ts) (slots_in number frames) count outs)
+      (length-map xs (slot_in number))
+      (front_of_what_is_meant repeats_what_is_meant s.colour s.call_hang lead ts (slots_in number frames) (slots_in number xs)
+      (slots_in number ys) outs after
+      well recorded slots_split pushed)
+
+-- in both slots
+module _ (s : Settings) (lead : ℕ) (ts : List (Transmission
+    × ℕ)) (frames : List (List (Option (List ℕ)))) (outs : List SlotOut) (well : IsWellFormed s.colour ts) where
+  first_of_meaning : IsDamagedRecordingOf s.colour (sent_list s.colour lead ts) (slots_in 0 frames)
+      → IsPushedLine s (slots_in 0 (handed frames)) outs
+      → IsLineOfWhatIsMeant s (sent_list s.colour lead ts) (slots_in 0 frames) outs
+  first_of_meaning recorded pushed = whole_of_meaning s lead ts 0 frames outs well recorded (handed_in_first frames) pushed
+
+  second_of_meaning : IsDamagedRecordingOf s.colour (sent_list s.colour lead ts) (slots_in 1 frames)
+      → IsPushedLine s (slots_in 1 (handed frames)) outs
+      → IsLineOfWhatIsMeant s (sent_list s.colour lead ts) (slots_in 1 frames) outs
+  second_of_meaning recorded pushed = whole_of_meaning s lead ts 1 frames outs well recorded (handed_in_second frames) pushed
+
+  first_front : (xs ys : List (List (Option (List ℕ))))
+      → IsDamagedRecordingOf s.colour (sent_list s.colour lead ts) (slots_in 0 frames) → handed frames ≡ xs ++ ys
+      → IsPushedLine s (slots_in 0 xs) outs → IsFrontOfWhatIsMeant s (sent_list s.colour lead ts) (slots_in 0 frames)
+      (length xs) outs
+  first_front xs ys recorded split pushed = front_of_meaning s lead ts 0 frames outs well recorded
+      (handed_in_first frames) xs ys split pushed
+
+  second_front : (xs ys : List (List (Option (List ℕ))))
+      → IsDamagedRecordingOf s.colour (sent_list s.colour lead ts) (slots_in 1 frames) → handed frames ≡ xs ++ ys
+      → IsPushedLine s (slots_in 1 xs) outs → IsFrontOfWhatIsMeant s (sent_list s.colour lead ts) (slots_in 1 frames)
+      (length xs) outs
+  second_front xs ys recorded split pushed = front_of_meaning s lead ts 1 frames outs well recorded
+      (handed_in_second frames) xs ys split pushed
+
+-- ---- what was sent in both slots
+pub sends_what_is_meant : SendsWhatIsMeant
+sends_what_is_meant s lead_1 lead_2 first second frames well_1 well_2 recording sending made = record {
+  first_outs = made.first;
+  second_outs = made.second;
+  first_line = first_of_meaning s lead_1 first frames made.first well_1 recording.first_slot made.first_line;
+  second_line = second_of_meaning s lead_2 second frames made.second well_2 recording.second_slot made.second_line;
+  downlink = made.downlink;
+}
+
+pub sends_front_of_what_is_meant : SendsFrontOfWhatIsMeant
+sends_front_of_what_is_meant s lead_1 lead_2 first second frames well_1 well_2 recording front rest sending split made = record {
+  first_outs = made.first;
+  second_outs = made.second;
+  first_line = first_front s lead_1 first frames made.first well_1 front rest recording.first_slot split made.first_line;
+  second_line = second_front s lead_2 second frames made.second well_2 front rest recording.second_slot split made.second_line;
+  downlink = made.downlink;
+}
+
+-- ---- there is one downlink
+one_sent_frame : (colour : ℕ) (slots : List ChannelOut) (a b : List (Option Burst)) → AreSent colour slots a
+    → AreSent colour slots b → a ≡ b
+one_sent_frame colour [] [] [] u v = refl
+one_sent_frame colour [] (a ∷ as') b u v = absurd u
+one_sent_frame colour [] [] (b ∷ bs) u v = absurd v
+one_sent_frame colour (slot ∷ slots) [] b u v = absurd u
+one_sent_frame colour (slot ∷ slots) (a ∷ as') [] u v = absurd v
+one_sent_frame colour (slot ∷ slots) (a ∷ as') (b ∷ bs) u v =
+    let head = one_sent colour slot a b u.0 v.0 in
+    let tail = one_sent_frame colour slots as' bs u.1 v.1 in
+    cc
+
+one_sent_list : (colour : ℕ) (frames : List (List ChannelOut)) (a b : List (List (Option Burst)))
+    → Pairwise (AreSent colour) frames a → Pairwise (AreSent colour) frames b → a ≡ b
+one_sent_list colour [] [] [] u v = refl
+one_sent_list colour [] (a ∷ as') b u v = absurd u
+one_sent_list colour [] [] (b ∷ bs) u v = absurd v
+one_sent_list colour (f ∷ fs) [] b u v = absurd u
+one_sent_list colour (f ∷ fs) (a ∷ as') [] u v = absurd v
+one_sent_list colour (f ∷ fs) (a ∷ as') (b ∷ bs) u v =
+    let head = one_sent_frame colour f a b u.0 v.0 in
+    let tail = one_sent_list colour fs as' bs u.1 v.1 in
+    cc
+
+pub one_downlink : (s : Settings) (first second : List SlotOut) (a b : List (List (Option DownlinkBurst)))
+    → IsDownlinkOf s first second a → IsDownlinkOf s first second b → a ≡ b
+one_downlink s first second a b u v =
+    let same = one_sent_list s.colour (frames_of s.channel_hang [] (claims_in
+    (frames_in first second))) u.bursts v.bursts u.channel v.channel in
+    let announced = one_announced [] (frames_in first second) u.messages v.messages u.announced v.announced in
+    u.marks ∙ ap (λ (messages : List Message). marked_frames messages (frames_in first second) u.bursts) announced
+    ∙ ap (marked_frames v.messages (frames_in first second)) same ∙ sym v.marks

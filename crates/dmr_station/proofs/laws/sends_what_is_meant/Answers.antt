@@ -1,0 +1,5 @@
+use Rattle.dmr_station.proofs.Made.{sends_what_is_meant}
+use Rattle.dmr_station.proofs.laws.sends_what_is_meant.Goals as goal
+
+pub returns : goal.returns
+returns c = record { law = sends_what_is_meant }

@@ -1,0 +1,60 @@
+-- What may be transmitted on the downlink.
+use Rattle.std.specs.Prelude.{ℕ, ◌≡◌, Bool, List, [], ◌∷◌, Option, Some, None, IsSomeAnd, map}
+use Rattle.dmr_bits.specs.Bits.{bits_of_octets}
+use Rattle.dmr_burst.specs.Cach.{IsCach}
+use Rattle.dmr_burst.specs.Layout.{IsEncoding}
+use Rattle.dmr_burst.specs.declared.burst.Burst.{Burst}
+use Rattle.dmr_burst.specs.declared.burst.Side.TheVariants.{Bs}
+use Rattle.dmr_slot.specs.Clean.{AreCleanBursts}
+use Rattle.dmr_station.specs.declared.sending.DownlinkBurst.{DownlinkBurst}
+use Rattle.dmr_station.specs.Pairs.{Pairwise}
+
+-- 1. Bursts of both slots in turn.
+
+-- The records of slot 1, which stand first in each frame.
+abbrev pub first_slots : {X : Type 0} → List X → List X
+first_slots [] = []
+first_slots (a ∷ []) = a ∷ []
+first_slots (a ∷ b ∷ more) = a ∷ first_slots more
+
+-- The records of slot 2.
+abbrev pub second_slots : {X : Type 0} → List X → List X
+second_slots [] = []
+second_slots (a ∷ []) = []
+second_slots (a ∷ b ∷ more) = b ∷ second_slots more
+
+-- From slot 1 of a frame on: the bursts of each slot are clean, superframes and all.
+pub record AreCleanSlots (colour : ℕ) (bursts : List (Option Burst)) : Type 0 where
+  pub first : AreCleanBursts colour (first_slots bursts)
+  pub second : AreCleanBursts colour (second_slots bursts)
+
+-- 2. Records of the downlink.
+
+-- A CACH with its fields.
+pub record IsCleanCach (octets : List ℕ) : Type 0 where
+  pub at : Bool
+  pub tc : Bool
+  pub lcss : ℕ
+  pub fragment : List Bool
+  pub fields : IsCach at tc lcss fragment (bits_of_octets octets)
+
+-- A slot's octets: a CACH and the base station's encoding of the burst, or nothing where it is silent.
+abbrev pub IsEncodedAs : Option Burst → Option (List ℕ × List ℕ) → Type 0
+IsEncodedAs None sent = sent ≡ None
+IsEncodedAs (Some burst) sent = IsSomeAnd sent (λ s. IsCleanCach s.0 × IsEncoding burst Bs (bits_of_octets s.1))
+
+-- Records that may be transmitted: the encoding of clean bursts.
+pub record IsCleanDownlink (colour : ℕ) (sent : List (Option (List ℕ × List ℕ))) : Type 0 where
+  pub bursts : List (Option Burst)
+  pub encoded : Pairwise IsEncodedAs bursts sent
+  pub clean : AreCleanSlots colour bursts
+
+-- 3. What is sent.
+
+-- The bursts of what slots of the downlink send.
+abbrev pub burst_in : Option DownlinkBurst → Option Burst
+burst_in None = None
+burst_in (Some d) = Some d.burst
+
+abbrev pub bursts_in : List (Option DownlinkBurst) → List (Option Burst)
+bursts_in slots = map burst_in slots

@@ -1,0 +1,82 @@
+-- What the downlink sends in both slots, from what their lines give.
+use Rattle.std.specs.Prelude.{ℕ, ◌≡◌, Bool, false, List, [], ◌∷◌, ◌++◌, map, replicate, count_by, Option, Some, None}
+use Rattle.std.specs.List.{flat_map}
+use Rattle.dmr_burst.specs.declared.burst.Burst.{Burst}
+use Rattle.dmr_slot.specs.Channel.{claims_of, frames_of}
+use Rattle.dmr_slot.specs.Frames.{AreSent}
+use Rattle.dmr_slot.specs.Push.{Memory as Line, start as silent_line, ArePushed}
+use Rattle.dmr_slot.specs.declared.channel.Claim.{Claim}
+use Rattle.dmr_slot.specs.declared.line.SlotOut.{SlotOut}
+use Rattle.dmr_station.specs.Announced.{AreAnnounced}
+use Rattle.dmr_station.specs.declared.announcing.Message.{Message}
+use Rattle.dmr_station.specs.declared.sending.DownlinkBurst.{DownlinkBurst}
+use Rattle.dmr_station.specs.Frames.{Settings, slot_in, no_gateway, marked_slots}
+use Rattle.dmr_station.specs.Pairs.{Pairwise}
+
+-- 1. Frames of both slots.
+
+-- What stands in one slot of each frame.
+abbrev pub slots_in : ℕ → List (List (Option (List ℕ))) → List (Option (List ℕ))
+slots_in number frames = map (slot_in number) frames
+
+-- Both slots side by side.
+abbrev pub frames_in : List SlotOut → List SlotOut → List (List SlotOut)
+frames_in [] second = []
+frames_in (a ∷ first) [] = []
+frames_in (a ∷ first) (b ∷ second) = (a ∷ b ∷ []) ∷ frames_in first second
+
+-- The slots of frames, in order.
+abbrev pub slots_of : List (List (Option DownlinkBurst)) → List (Option DownlinkBurst)
+slots_of frames = flat_map (λ frame. frame) frames
+
+abbrev pub is_repeated : Option DownlinkBurst → Bool
+is_repeated None = false
+is_repeated (Some d) = d.is_repeated
+
+-- How many slots repeat a burst.
+abbrev pub repeated_count : List (Option DownlinkBurst) → ℕ
+repeated_count slots = count_by is_repeated slots
+
+-- 2. What goes out.
+
+-- What claims the slots of each frame, where the gateway has nothing for them.
+abbrev pub claims_in : List (List SlotOut) → List (List Claim)
+claims_in outs = map (λ frame. claims_of frame no_gateway) outs
+
+abbrev pub marked_frames : List Message → List (List SlotOut) → List (List (Option Burst)) → List (List (Option DownlinkBurst))
+marked_frames [] outs bursts = []
+marked_frames (m ∷ messages) [] bursts = []
+marked_frames (m ∷ messages) (outs ∷ more) [] = []
+marked_frames (m ∷ messages) (outs ∷ more) (frame ∷ bursts) = marked_slots m outs frame ∷ marked_frames messages more bursts
+
+-- Frame by frame: what the lines of both slots give goes out, a repeated burst first and then the call hang; without either,
+-- idle while the channel is on the air, and else nothing. The message of each two frames is the one for the first of them.
+pub record IsDownlinkOf (s : Settings) (first second : List SlotOut) (sending : List (List (Option DownlinkBurst))) : Type 0 where
+  pub bursts : List (List (Option Burst))
+  pub channel : Pairwise (AreSent s.colour) (frames_of s.channel_hang [] (claims_in (frames_in first second))) bursts
+  pub messages : List Message
+  pub announced : AreAnnounced [] (frames_in first second) messages
+  pub marks : sending ≡ marked_frames messages (frames_in first second) bursts
+
+-- 3. By the rules, whatever is read.
+
+-- What a line that heard nothing gives for slots, one push after another.
+abbrev pub IsPushedLine : Settings → List (Option (List ℕ)) → List SlotOut → Type 0
+IsPushedLine s slots outs = (after : Line) × ArePushed (silent_line s.colour s.call_hang) slots outs after
+
+-- What the rules make of frames that are handed over one after another: the lines of both slots, and what goes out for them.
+pub record Makes (s : Settings) (frames : List (List (Option (List ℕ)))) (sending : List (List
+    (Option DownlinkBurst))) : Type 0 where
+  pub first : List SlotOut
+  pub second : List SlotOut
+  pub first_line : IsPushedLine s (slots_in 0 frames) first
+  pub second_line : IsPushedLine s (slots_in 1 frames) second
+  pub downlink : IsDownlinkOf s first second sending
+
+-- A frame in which nothing is received.
+abbrev pub silence : List (Option (List ℕ))
+silence = None ∷ None ∷ []
+
+-- The frames that are handed over for a recording: nothing first, and five times past its end.
+abbrev pub handed : List (List (Option (List ℕ))) → List (List (Option (List ℕ)))
+handed frames = silence ∷ (frames ++ replicate 5 silence)

@@ -1,0 +1,45 @@
+-- The octets that a slot of the downlink has: the exact encoding of what it sends.
+use Rattle.std.specs.Prelude.{ℕ, ◌≡◌, ◌+◌, ◌%◌, ◌==◌, ◌<◌, Bool, List, [], ◌∷◌, Option, Some, None, All, IfSome, IsSomeAnd}
+use Rattle.std.specs.Prelude.{slice_index_or, if◌then◌else◌}
+use Rattle.dmr_bits.specs.Bits.{bits_of_octets}
+use Rattle.dmr_burst.specs.Cach.{IsCach}
+use Rattle.dmr_burst.specs.Layout.{IsBurst, IsEncoding}
+use Rattle.dmr_burst.specs.declared.burst.Side.TheVariants.{Bs}
+use Rattle.dmr_embedded.specs.ShortLc.{IsShortLc}
+use Rattle.dmr_station.specs.Announced.{IsFitMessage}
+use Rattle.dmr_station.specs.declared.announcing.Message.{Message}
+use Rattle.dmr_station.specs.declared.sending.DownlinkBurst.{DownlinkBurst}
+
+-- the numbers of a burst fit their bits, where the slot isn't silent
+abbrev pub FitsItsFields : Option DownlinkBurst → Type 0
+FitsItsFields slot = IfSome slot (λ d. IsBurst d.burst × IsFitMessage d.message)
+
+-- The records of the downlink are counted from 0, slot 1 first. Four of them carry one Short LC: the first fragment, two that
+-- continue it, and the last.
+abbrev pub lcss_of : ℕ → ℕ
+lcss_of place = if place % 4 == 0 then 1 else (if place % 4 == 3 then 2 else 3)
+
+-- The CACH of a record: AT is 1 where a repeated burst follows, TC is 0 where slot 1 follows, and of the four fragments of a
+-- message it has the one of its place.
+abbrev pub IsCachOf : Bool → Message → ℕ → List ℕ → Type 0
+IsCachOf busy m place octets =
+    (fragments : List (List Bool)) × IsShortLc m.slco m.body fragments
+    × IsCach busy (place % 2 == 1) (lcss_of place) (slice_index_or fragments (place % 4) []) (bits_of_octets octets)
+
+-- What is sent for a slot: the CACH and the base station's encoding of its burst, or nothing.
+abbrev pub IsSentAs : ℕ → Option DownlinkBurst → Option (List ℕ × List ℕ) → Type 0
+IsSentAs place (Some d) sent =
+    IsSomeAnd sent (λ s. IsCachOf d.is_repeated d.message place s.0 × IsEncoding d.burst Bs (bits_of_octets s.1))
+IsSentAs place None sent = sent ≡ None
+
+-- slots one after the other, from a record's place on
+abbrev pub AreSentAs : ℕ → List (Option DownlinkBurst) → List (Option (List ℕ × List ℕ)) → Type 0
+AreSentAs place [] [] = Unit {0}
+AreSentAs place [] (sent ∷ more) = ⊥
+AreSentAs place (slot ∷ slots) [] = ⊥
+AreSentAs place (slot ∷ slots) (sent ∷ more) = IsSentAs place slot sent × AreSentAs (place + 1) slots more
+
+-- octets of a slot, where it isn't silent
+abbrev pub AreOctets : Option (List ℕ × List ℕ) → Type 0
+AreOctets None = Unit {0}
+AreOctets (Some sent) = All (λ octet. octet < 256) sent.0 × All (λ octet. octet < 256) sent.1

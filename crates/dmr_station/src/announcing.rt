@@ -1,0 +1,59 @@
+//! What the CACHs announce of the calls in both slots.
+ghost use Rattle.std.specs.Prelude.{◌≡◌, IfSome};
+ghost use Rattle.dmr_station.specs.Announced.{IsAnnounced, IsFitMessage, IsMessageFor};
+
+use dmr_slot::{Channel, SlotOut};
+
+/// A Short LC, which four records carry in turn.
+#[derive(Clone, Copy, Debug, PartialEq, Eq)]
+pub struct Message {
+    /// SLCO, the opcode, in four bits.
+    pub slco: u8,
+    /// The 24 bits whose meaning the opcode gives.
+    pub body: u32,
+}
+
+/// The message that is announced. Two frames have the four records of one message, and the first of them decides it.
+#[derive(Clone, Copy, Debug, PartialEq, Eq)]
+pub struct Announcer {
+    /// The message whose second half is to come.
+    pub kept: Option<Message>,
+}
+
+/// The message for what the lines of both slots give in a frame.
+fn message_for(outs: &[SlotOut; 2]) -> Message
+    ensures message { IsMessageFor outs.now result }
+    ensures fit { IsFitMessage result }
+{
+    let (slco, body) = Channel::message(outs[0].lc.as_ref(), outs[1].lc.as_ref());
+    Message { slco, body }
+}
+
+impl Announcer {
+    /// Nothing was announced.
+    pub fn new() -> Self
+        ensures kept { result.kept ≡ None }
+    {
+        Announcer { kept: None }
+    }
+
+    /// The message of the next frame, in which the lines of both slots give this.
+    pub fn next(&mut self, outs: &[SlotOut; 2]) -> Message
+        requires kept { IfSome self.old.kept IsFitMessage }
+        ensures announced { IsAnnounced self.old.kept outs.now result self.new.kept }
+        ensures fit { IsFitMessage result }
+        ensures kept { IfSome self.new.kept IsFitMessage }
+    {
+        match self.kept {
+            Some(message) => {
+                self.kept = None;
+                message
+            }
+            None => {
+                let message = message_for(outs);
+                self.kept = Some(message);
+                message
+            }
+        }
+    }
+}

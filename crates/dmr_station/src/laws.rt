@@ -1,0 +1,52 @@
+//! Laws of what is sent and what it means, as the contracts of functions that do nothing.
+ghost use Rattle.std.specs.Prelude.{◌≡◌, ℕ, List, Option};
+ghost use Rattle.std.specs.List.{AllByRecursion};
+ghost use Rattle.dmr_burst.specs.declared.burst.Burst.{Burst};
+ghost use Rattle.dmr_slot.specs.declared.line.SlotOut.{SlotOut};
+ghost use Rattle.dmr_station.specs.declared.sending.DownlinkBurst.{DownlinkBurst};
+ghost use Rattle.dmr_station.specs.Clean.{AreCleanSlots, IsCleanDownlink, IsEncodedAs, bursts_in};
+ghost use Rattle.dmr_station.specs.Downlink.{IsDownlinkOf};
+ghost use Rattle.dmr_station.specs.Frames.{Settings};
+ghost use Rattle.dmr_station.specs.Meaning.{SendsFrontOfWhatIsMeant, SendsWhatIsMeant};
+ghost use Rattle.dmr_station.specs.Sent.{AreOctets, AreSentAs};
+ghost use Rattle.dmr_station.specs.Station.{SendsByTheRules};
+
+/// Whatever frames a new station takes, one after another, it gives the exact encoding of what the rules make of them by looking
+/// back, all clean, and counts it.
+pub fn sends_by_the_rules()
+    ensures law { SendsByTheRules }
+{}
+
+/// Of any well-formed transmissions in both slots, and of any recording of them that is damaged within the limits, the rules make
+/// what they mean.
+pub fn sends_what_is_meant()
+    ensures law { SendsWhatIsMeant }
+{}
+
+/// As long as such a recording lasts, the rules make a front of what its transmissions mean.
+pub fn sends_front_of_what_is_meant()
+    ensures law { SendsFrontOfWhatIsMeant }
+{}
+
+/// What the lines of both slots give goes out in one way.
+pub fn one_downlink()
+    ensures law { (s : Settings) (first second : List SlotOut) (a b : List (List (Option DownlinkBurst)))
+        → IsDownlinkOf s first second a → IsDownlinkOf s first second b → a ≡ b }
+{}
+
+/// What slots of the downlink send has one encoding.
+pub fn one_encoding()
+    ensures law { (place : ℕ) (slots : List (Option DownlinkBurst)) (a b : List (Option (List ℕ × List ℕ)))
+        → AllByRecursion AreOctets a → AllByRecursion AreOctets b → AreSentAs place slots a → AreSentAs place slots b → a ≡ b }
+{}
+
+/// The octets of a slot are the encoding of one burst, so that what is clean in one reading is clean in all.
+pub fn one_burst_in_a_slot()
+    ensures law { (a b : Option Burst) (sent : Option (List ℕ × List ℕ)) → IsEncodedAs a sent → IsEncodedAs b sent → a ≡ b }
+{}
+
+/// The encoding of clean bursts may be transmitted.
+pub fn sent_bursts_are_clean()
+    ensures law { (colour place : ℕ) (slots : List (Option DownlinkBurst)) (sent : List (Option (List ℕ × List ℕ)))
+        → AreCleanSlots colour (bursts_in slots) → AreSentAs place slots sent → IsCleanDownlink colour sent }
+{}
