@@ -42,7 +42,7 @@ encoded_slot : (place : ℕ) (slot : Option DownlinkBurst) (sent : Option (List 
     → IsEncodedAs (burst_in slot) sent
 encoded_slot place None sent u = u
 encoded_slot place (Some d) None u = absurd u
-encoded_slot place (Some d) (Some s) u = (clean_cach d.is_repeated d.message place s.0 u.0, u.1)
+encoded_slot place (Some d) (Some s) u = (clean_cach d.is_repeated d.message place s.0 u.announces, u.encodes)
 
 encoded_slots : (place : ℕ) (slots : List (Option DownlinkBurst)) (sent : List (Option (List ℕ × List ℕ)))
     → AreSentAs place slots sent → Pairwise IsEncodedAs (bursts_in slots) sent

@@ -1,7 +1,7 @@
 -- The octets of slots: there is one encoding.
 use Rattle.std.proofs.Common.{◌≡◌, ℕ, suc, ◌+◌, ◌<◌, List, [], ◌∷◌, ◌++◌, length, Option, Some, None, refl, sym, ap, ◌∙◌, subst}
 use Rattle.std.proofs.Common.{arith, slice_index_or, ◌==◌, ◌%◌, Bool}
-use Rattle.std.specs.List.{All, AllByRecursion}
+use Rattle.std.specs.List.{All}
 use Rattle.dmr_bits.specs.Bits.{bits_of_octets}
 use Rattle.dmr_bits.proofs.OctetFronts.{length-bits_of_octets}
 use Rattle.dmr_bits.proofs.Spelled.{same_octets}
@@ -12,7 +12,7 @@ use Rattle.dmr_burst.proofs.Interleaving.{one_announcement}
 use Rattle.dmr_embedded.proofs.ShortUnique.{one_short}
 use Rattle.dmr_station.specs.declared.announcing.Message.{Message}
 use Rattle.dmr_station.specs.declared.sending.DownlinkBurst.{DownlinkBurst}
-use Rattle.dmr_station.specs.Sent.{lcss_of, IsCachOf, IsSentAs, AreSentAs, AreOctets}
+use Rattle.dmr_station.specs.Sent.{lcss_of, IsCachOf, IsSentAs, AreSentAs}
 
 octets_from_bits : (xs ys : List ℕ) → All (λ octet. octet < 256) xs → All (λ octet. octet < 256) ys
     → bits_of_octets xs ≡ bits_of_octets ys → xs ≡ ys
@@ -32,26 +32,26 @@ one_cach busy m place a b p q u v =
 same_pair : (a b : List ℕ × List ℕ) → a.0 ≡ b.0 → a.1 ≡ b.1 → Some a ≡ Some b
 same_pair (a0, a1) (b0, b1) e f = cc
 
-one_slot : (place : ℕ) (slot : Option DownlinkBurst) (a b : Option (List ℕ × List ℕ)) → AreOctets a → AreOctets b
-    → IsSentAs place slot a → IsSentAs place slot b → a ≡ b
-one_slot place None a b p q u v = u ∙ sym v
-one_slot place (Some d) None b p q u v = absurd u
-one_slot place (Some d) (Some a) None p q u v = absurd v
-one_slot place (Some d) (Some a) (Some b) p q u v =
-    same_pair a b (one_cach d.is_repeated d.message place a.0 b.0 p.0 q.0 u.0 v.0)
-    (octets_from_bits a.1 b.1 p.1 q.1 (same.one_encoding d.burst Bs (bits_of_octets a.1) (bits_of_octets b.1) u.1 v.1))
+one_slot : (place : ℕ) (slot : Option DownlinkBurst) (a b : Option (List ℕ × List ℕ)) → IsSentAs place slot a
+    → IsSentAs place slot b → a ≡ b
+one_slot place None a b u v = u ∙ sym v
+one_slot place (Some d) None b u v = absurd u
+one_slot place (Some d) (Some a) None u v = absurd v
+one_slot place (Some d) (Some a) (Some b) u v =
+    same_pair a b (one_cach d.is_repeated d.message place a.0 b.0 u.cach_octets v.cach_octets u.announces v.announces)
+    (octets_from_bits a.1 b.1 u.burst_octets v.burst_octets
+    (same.one_encoding d.burst Bs (bits_of_octets a.1) (bits_of_octets b.1) u.encodes v.encodes))
 
 pub one_encoding : (place : ℕ) (slots : List (Option DownlinkBurst)) (a b : List (Option (List ℕ × List ℕ)))
-    → AllByRecursion AreOctets a → AllByRecursion AreOctets b
     → AreSentAs place slots a → AreSentAs place slots b → a ≡ b
-one_encoding place [] [] [] p q u v = refl
-one_encoding place [] (a ∷ as') b p q u v = absurd u
-one_encoding place [] [] (b ∷ bs) p q u v = absurd v
-one_encoding place (slot ∷ slots) [] b p q u v = absurd u
-one_encoding place (slot ∷ slots) (a ∷ as') [] p q u v = absurd v
-one_encoding place (slot ∷ slots) (a ∷ as') (b ∷ bs) p q u v =
-    let head = one_slot place slot a b p.0 q.0 u.0 v.0 in
-    let tail = one_encoding (place + 1) slots as' bs p.1 q.1 u.1 v.1 in
+one_encoding place [] [] [] u v = refl
+one_encoding place [] (a ∷ as') b u v = absurd u
+one_encoding place [] [] (b ∷ bs) u v = absurd v
+one_encoding place (slot ∷ slots) [] b u v = absurd u
+one_encoding place (slot ∷ slots) (a ∷ as') [] u v = absurd v
+one_encoding place (slot ∷ slots) (a ∷ as') (b ∷ bs) u v =
+    let head = one_slot place slot a b u.0 v.0 in
+    let tail = one_encoding (place + 1) slots as' bs u.1 v.1 in
     cc
 
 -- ---- slots one after the other

@@ -26,10 +26,18 @@ IsCachOf busy m place octets =
     (fragments : List (List Bool)) × IsShortLc m.slco m.body fragments
     × IsCach busy (place % 2 == 1) (lcss_of place) (slice_index_or fragments (place % 4) []) (bits_of_octets octets)
 
--- What is sent for a slot: the CACH and the base station's encoding of its burst, or nothing.
+abbrev pub AreOctets : List ℕ → Type 0
+AreOctets octets = All (λ octet. octet < 256) octets
+
+-- What is sent for a slot: the octets of the CACH and of the base station's encoding of its burst, or nothing.
+pub record IsSentBurst (place : ℕ) (d : DownlinkBurst) (cach burst : List ℕ) : Type 0 where
+  pub cach_octets : AreOctets cach
+  pub announces : IsCachOf d.is_repeated d.message place cach
+  pub burst_octets : AreOctets burst
+  pub encodes : IsEncoding d.burst Bs (bits_of_octets burst)
+
 abbrev pub IsSentAs : ℕ → Option DownlinkBurst → Option (List ℕ × List ℕ) → Type 0
-IsSentAs place (Some d) sent =
-    IsSomeAnd sent (λ s. IsCachOf d.is_repeated d.message place s.0 × IsEncoding d.burst Bs (bits_of_octets s.1))
+IsSentAs place (Some d) sent = IsSomeAnd sent (λ s. IsSentBurst place d s.0 s.1)
 IsSentAs place None sent = sent ≡ None
 
 -- slots one after the other, from a record's place on
@@ -38,8 +46,3 @@ AreSentAs place [] [] = Unit {0}
 AreSentAs place [] (sent ∷ more) = ⊥
 AreSentAs place (slot ∷ slots) [] = ⊥
 AreSentAs place (slot ∷ slots) (sent ∷ more) = IsSentAs place slot sent × AreSentAs (place + 1) slots more
-
--- octets of a slot, where it isn't silent
-abbrev pub AreOctets : Option (List ℕ × List ℕ) → Type 0
-AreOctets None = Unit {0}
-AreOctets (Some sent) = All (λ octet. octet < 256) sent.0 × All (λ octet. octet < 256) sent.1

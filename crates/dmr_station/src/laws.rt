@@ -1,6 +1,5 @@
 //! Laws of what is sent and what it means, as the contracts of functions that do nothing.
 ghost use Rattle.std.specs.Prelude.{◌≡◌, ℕ, List, Option};
-ghost use Rattle.std.specs.List.{AllByRecursion};
 ghost use Rattle.dmr_burst.specs.declared.burst.Burst.{Burst};
 ghost use Rattle.dmr_slot.specs.declared.line.SlotOut.{SlotOut};
 ghost use Rattle.dmr_station.specs.declared.sending.DownlinkBurst.{DownlinkBurst};
@@ -8,7 +7,7 @@ ghost use Rattle.dmr_station.specs.Clean.{AreCleanSlots, IsCleanDownlink, IsEnco
 ghost use Rattle.dmr_station.specs.Downlink.{IsDownlinkOf};
 ghost use Rattle.dmr_station.specs.Frames.{Settings};
 ghost use Rattle.dmr_station.specs.Meaning.{SendsFrontOfWhatIsMeant, SendsWhatIsMeant};
-ghost use Rattle.dmr_station.specs.Sent.{AreOctets, AreSentAs};
+ghost use Rattle.dmr_station.specs.Sent.{AreSentAs};
 ghost use Rattle.dmr_station.specs.Station.{SendsByTheRules};
 
 /// Whatever frames a new station takes, one after another, and whatever datagrams it is offered before each, it gives the exact
@@ -37,7 +36,7 @@ pub fn one_downlink()
 /// What slots of the downlink send has one encoding.
 pub fn one_encoding()
     ensures law { (place : ℕ) (slots : List (Option DownlinkBurst)) (a b : List (Option (List ℕ × List ℕ)))
-        → AllByRecursion AreOctets a → AllByRecursion AreOctets b → AreSentAs place slots a → AreSentAs place slots b → a ≡ b }
+        → AreSentAs place slots a → AreSentAs place slots b → a ≡ b }
 {}
 
 /// The octets of a slot are the encoding of one burst, so that what is clean in one reading is clean in all.

@@ -1,7 +1,7 @@
 //! The octets of what a slot of the downlink sends.
 ghost use Rattle.std.specs.Prelude.{◌≡◌, ◌<◌, ◌^◌, ◌+◌, All};
 ghost use Rattle.dmr_station.specs.Announced.{IsFitMessage};
-ghost use Rattle.dmr_station.specs.Sent.{lcss_of, FitsItsFields, IsCachOf, IsSentAs, AreSentAs};
+ghost use Rattle.dmr_station.specs.Sent.{lcss_of, AreOctets, AreSentAs, FitsItsFields, IsCachOf, IsSentAs};
 
 use crate::announcing::Message;
 use dmr_burst::{Burst, Side, cach, encode_burst};
@@ -44,16 +44,28 @@ fn cach_of(busy: bool, message: Message, place: u32) -> [u8; 3]
     )
 }
 
+/// Tells the proof that octets are below 256, which the array that a call gives doesn't.
+fn below_256(octets: &[u8])
+    ensures octets { AreOctets octets.now }
+{
+    let _count = octets.len();
+}
+
 /// The octets of a slot, which is the record at this place of the downlink, counted from 0.
 fn encode_slot(place: u32, slot: &Option<DownlinkBurst>) -> Option<([u8; 3], [u8; 33])>
     requires fits { FitsItsFields slot.now }
     ensures sent { IsSentAs place slot.now result }
 {
     match slot {
-        Some(sending) => Some((
-            cach_of(sending.is_repeated, sending.message, place),
-            encode_burst(&sending.burst, Side::Bs),
-        )),
+        Some(sending) => {
+            let sent = (
+                cach_of(sending.is_repeated, sending.message, place),
+                encode_burst(&sending.burst, Side::Bs),
+            );
+            below_256(&sent.0);
+            below_256(&sent.1);
+            Some(sent)
+        }
         None => None,
     }
 }
