@@ -1,13 +1,24 @@
 -- The records that are offered in a frame are those that the file has for it.
 use Rattle.std.proofs.Common.{◌≡◌, ℕ, zero, suc, ◌+◌, ◌<◌, ◌≤◌, eqb, ltb, Bool, true, false, cond, List, [], ◌∷◌, ◌++◌, length, filter, Option, Some, None}
-use Rattle.std.proofs.Common.{inl, inr, refl, sym, ◌∙◌, ap, subst, arith, append_assoc, append-nil, option_to_list}
+use Rattle.std.proofs.Common.{inl, inr, refl, sym, ◌∙◌, ap, subst, arith, append_assoc, append-nil, option_to_list, ◌⊎◌, nat_le}
 use Rattle.std.specs.List.{AllByRecursion}
+use Rattle.std.proofs.KnownBytes.{Consumes-trans}
+use Rattle.std.proofs.lemmas.Bool.{cases_lt}
+use Rattle.std.proofs.lemmas.List.{length-append}
+use Rattle.std.proofs.lemmas.List.Elements.{filter-append}
+use Rattle.dmr_record.specs.declared.head.TheConstants.{OUTGOING_MAGIC}
+use Rattle.dmr_record.specs.declared.outgoing.TheConstants.{RECORD_LIMIT}
+use Rattle.dmr_record.specs.Head.{head_octets}
+use Rattle.dmr_gateway.specs.Gateway.{IsSlot}
+use Rattle.dmr_station.proofs.Exchanges.{offer_count}
+use Rattle.dmr_repeater.specs.Runs.{ReadsRecords, from_frame}
+use Rattle.dmr_repeater.proofs.Records.{All-append, AreDue-later, Gives-same, Gives-trans}
 use Rattle.std.specs.Io.KnownBytes.{Consumes}
 use Rattle.dmr_record.specs.declared.outgoing.Outgoing.{Outgoing}
-use Rattle.dmr_record.specs.Outgoing.{Sending, AreInOrder}
-use Rattle.dmr_station.specs.GatewayFrames.{IsReadFrom, AreReadFrom, by_frame}
+use Rattle.dmr_record.specs.Outgoing.{Sending, IsSending, AreInOrder, sendings_octets}
+use Rattle.dmr_station.specs.GatewayFrames.{IsReadFrom, AreReadFrom, AreForSlots, by_frame}
 use Rattle.dmr_station.specs.Pairs.{Pairwise}
-use Rattle.dmr_repeater.specs.Schedule.{Progress, waiting, Gives, AreDue, IsPast, AreOfferedInTurn}
+use Rattle.dmr_repeater.specs.Schedule.{Progress, unread, waiting, last_frame, Gives, AreDue, GivesDue, IsPast, AreOfferedInTurn}
 
 -- 1. Lists that go together, taken apart.
 
@@ -44,7 +55,7 @@ together R (x ∷ xs) ys (u ∷ us) vs p q = (p.0, together R xs ys us vs p.1 q)
 abbrev AreOf : ℕ → List Sending → Type 0
 AreOf frame ss = AllByRecursion (λ s. s.frame ≡ frame) ss
 
-later : (f g : ℕ) (ss : List Sending) → g ≤ f → AreInOrder f ss → AreInOrder g ss
+pub later : (f g : ℕ) (ss : List Sending) → g ≤ f → AreInOrder f ss → AreInOrder g ss
 later f g [] h p = tt
 later f g (s ∷ ss) h p = let first = p.0 in (omega (arith, first), p.1)
 
@@ -140,7 +151,7 @@ left_behind : (f : ℕ) (p : Progress) (ws rest : List Sending) → IsPast f p �
     → (p.at_end ≡ true → rest ≡ []) → AreInOrder f (ws ++ rest) → AreInOrder (f + 1) (ws ++ rest)
 left_behind f p ws rest (inl past) pairs end order =
     next_waits f past.0 ws rest
-    (subst (λ (x : Option Outgoing). Pairwise IsReadFrom (option_to_list x) ws) past.1 pairs) past.2 order
+    (subst (λ (x : Option Outgoing). Pairwise IsReadFrom (option_to_list x) ws) past.1 pairs) past.3 order
 left_behind f p ws rest (inr past) pairs end order =
     none_waits f ws rest (subst (λ (x : Option Outgoing). Pairwise IsReadFrom (option_to_list x) ws) past.0 pairs) (end past.1)
 
@@ -177,3 +188,181 @@ in_turn f (given ∷ more) p q a b u waits rest pairs end order =
       subst (λ l. Pairwise AreReadFrom more l) (sym (passed f (f + 1) (length more) cut.front left (omega arith) due.0))
           (in_turn (f + 1) more u.0 q u.1 b u.5 cut.rest rest cut.second end next),
     )
+
+-- 4. What was read in all.
+
+pub record ReadInTurn (f bound : ℕ) (offers : List (List Outgoing)) (p q : Progress) (a b : Option (List ℕ))
+    (u : AreOfferedInTurn f offers p q a b) : Type 0 where
+  pub due : GivesDue bound p q a b
+  pub same : due.gives.sendings ≡ read_in_turn f offers p q a b u
+
+pub given_in_turn : (f bound : ℕ) (offers : List (List Outgoing)) (p q : Progress) (a b : Option (List ℕ))
+    (u : AreOfferedInTurn f offers p q a b) → f + length offers ≤ bound + 1 → ReadInTurn f bound offers p q a b u
+unfolding Gives-same Gives-trans
+given_in_turn f bound [] p q a b u h = record {
+  due = record {
+    given = [];
+    due = tt;
+    gives = Gives-same p q a b (ap (λ (x : Progress). x.records) u.0) (ap (λ (x : Progress). x.last) u.0)
+        (ap (λ (x : Progress). x.ahead) u.0) u.1 (λ end. ap (λ (x : Progress). x.at_end) u.0 ∙ end);
+  };
+  same = refl;
+}
+given_in_turn f bound (given ∷ more) p q a b u h =
+    let rest = given_in_turn (f + 1) bound more u.0 q u.1 b u.5 (omega (arith, h)) in
+    record {
+      due = record {
+        given = given ++ rest.due.given;
+        due = All-append (λ o. o.frame ≤ bound) given rest.due.given (AreDue-later f bound given (omega (arith, h)) u.2) rest.due.due;
+        gives = Gives-trans p u.0 q given rest.due.given [] a u.1 b u.3 rest.due.gives;
+      };
+      same = ap (λ l. u.3.sendings ++ l) rest.same;
+    }
+
+kept_slots : (b : Bool) (s : Sending) (ss : List Sending) → IsSlot s.slot → AreForSlots ss → AreForSlots (cond b (s ∷ ss) ss)
+kept_slots true s ss first more = (first, more)
+kept_slots false s ss first more = more
+
+slots_of_frame : (f : ℕ) (ss : List Sending) → AllByRecursion IsSending ss → AreForSlots (filter (λ (s : Sending). eqb s.frame f) ss)
+slots_of_frame f [] each = tt
+slots_of_frame f (s ∷ ss) each =
+    kept_slots (eqb s.frame f) s (filter (λ (x : Sending). eqb x.frame f) ss) each.0.slot (slots_of_frame f ss each.1)
+
+pub slots_in_turn : (f count : ℕ) (ss : List Sending) → AllByRecursion IsSending ss → AllByRecursion AreForSlots (by_frame f count ss)
+slots_in_turn f zero ss each = tt
+slots_in_turn f (suc count) ss each = (slots_of_frame f ss each, slots_in_turn (f + 1) count ss each)
+
+-- What was offered in turn, and what was read further, are records of the file.
+pub record ReadInAll (offers : List (List Outgoing)) (r : Progress) (part : List ℕ) (o d : Option (List ℕ)) (ss : List Sending) : Type 0
+    where
+  pub reads : ReadsRecords ss part o d
+  pub pairs : Pairwise AreReadFrom offers (by_frame 0 (length offers) ss)
+  pub slots : AllByRecursion AreForSlots (by_frame 0 (length offers) ss)
+  pub last : r.last ≡ last_frame 0 ss
+  pub count : r.records ≡ length ss
+
+pub read_in_all : (offers : List (List Outgoing)) (q r : Progress) (more : List Outgoing) (part : List ℕ) (o p b d : Option (List ℕ))
+    → Consumes o p (head_octets OUTGOING_MAGIC) → (u : AreOfferedInTurn 0 offers unread q p b) → (g : Gives q r more part b d)
+    → ReadInAll offers r part o d (read_in_turn 0 offers unread q p b u ++ g.sendings)
+unfolding Gives-trans
+read_in_all offers q r more part o p b d head u g =
+    let turn = given_in_turn 0 (length offers) offers unread q p b u (omega arith) in
+    let ss : List Sending = read_in_turn 0 offers unread q p b u ++ g.sendings in
+    let whole = Gives-trans unread q r turn.due.given more part p b d turn.due.gives g in
+    let same : whole.sendings ≡ ss = ap (λ l. l ++ g.sendings) turn.same in
+    let each : AllByRecursion IsSending ss = subst (AllByRecursion IsSending) same whole.each in
+    let order : AreInOrder 0 ss = subst (AreInOrder 0) same whole.order in
+    let read : Consumes p d (sendings_octets ss ++ part) = subst (λ l. Consumes p d (sendings_octets l ++ part)) same whole.read in
+    let counted = whole.count in
+    let long = ap length same in
+    record {
+      reads = record {
+        each = each;
+        order = order;
+        few = let few = whole.few (omega arith) in omega (arith, few, counted, long);
+        read = Consumes-trans o p d (head_octets OUTGOING_MAGIC) (sendings_octets ss ++ part) head read;
+      };
+      pairs = in_turn 0 offers unread q p b u [] g.sendings tt (λ end. (g.ended end).0) order;
+      slots = slots_in_turn 0 (length offers) ss each;
+      last = whole.last ∙ ap (last_frame 0) same;
+      count = omega (arith, counted, long);
+    }
+
+-- 5. A front of the file has all that its frames need.
+
+pub by_frame_front : (f count : ℕ) (xs more : List Sending) → AreInOrder (f + count) more
+    → by_frame f count (xs ++ more) ≡ by_frame f count xs
+by_frame_front f zero xs more order = refl
+by_frame_front f (suc count) xs more order =
+    let now : filter (λ (s : Sending). eqb s.frame f) (xs ++ more) ≡ filter (λ (s : Sending). eqb s.frame f) xs =
+        filter-append (λ (s : Sending). eqb s.frame f) xs more
+        ∙ ap (λ l. filter (λ (s : Sending). eqb s.frame f) xs ++ l) (none_of f (f + suc count) more (omega arith) order)
+        ∙ append-nil (filter (λ (s : Sending). eqb s.frame f) xs) in
+    let behind : AreInOrder (f + 1 + count) more = later (f + suc count) (f + 1 + count) more (omega arith) order in
+    ap (λ l. l ∷ by_frame (f + 1) count (xs ++ more)) now
+    ∙ ap (λ l. filter (λ (s : Sending). eqb s.frame f) xs ∷ l) (by_frame_front (f + 1) count xs more behind)
+
+-- 6. How many are offered, and how many are not.
+
+abbrev total : List (List Sending) → ℕ
+total [] = 0
+total (ss ∷ more) = length ss + total more
+
+counted_pairs : {X Y : Type 0} (R : X → Y → Type 0) (xs : List X) (ys : List Y) → Pairwise R xs ys → length xs ≡ length ys
+counted_pairs R [] [] u = refl
+counted_pairs R [] (y ∷ ys) u = absurd u
+counted_pairs R (x ∷ xs) [] u = absurd u
+counted_pairs R (x ∷ xs) (y ∷ ys) u = let more = counted_pairs R xs ys u.1 in omega arith
+
+counted_offers : (offers : List (List Outgoing)) (ss : List (List Sending)) → Pairwise AreReadFrom offers ss
+    → offer_count offers ≡ total ss
+counted_offers [] [] u = refl
+counted_offers [] (s ∷ ss) u = absurd u
+counted_offers (o ∷ offers) [] u = absurd u
+counted_offers (o ∷ offers) (s ∷ ss) u =
+    let first = counted_pairs IsReadFrom o s u.0 in
+    let more = counted_offers offers ss u.1 in
+    omega (arith, first, more)
+
+-- of a frame, or of a later one
+abbrev Splits : (a b c : Bool) → Type 0
+Splits a b c = cond a 1 0 ≡ cond b 1 0 + cond c 1 0
+
+splits : (m f : ℕ) → Splits (nat_le f m) (eqb m f) (nat_le (f + 1) m)
+splits m f = by_order (cases_lt m f) (cases_lt f m)
+  where
+    by_order : (m < f) ⊎ (f ≤ m) → (f < m) ⊎ (m ≤ f) → Splits (nat_le f m) (eqb m f) (nat_le (f + 1) m)
+    by_order (inl less) other = grind (arith, less)
+    by_order (inr least) (inl more) = grind (arith, more)
+    by_order (inr least) (inr most) = let same : m ≡ f = omega (arith, least, most) in rw same (grind arith)
+
+add_one : (a b c : Bool) (s : Sending) (xs ys zs : List Sending) → Splits a b c → length xs ≡ length ys + length zs
+    → length (cond a (s ∷ xs) xs) ≡ length (cond b (s ∷ ys) ys) + length (cond c (s ∷ zs) zs)
+add_one true true true s xs ys zs p e = absurd (omega (arith, p))
+add_one true true false s xs ys zs p e = omega (arith, e)
+add_one true false true s xs ys zs p e = omega (arith, e)
+add_one true false false s xs ys zs p e = absurd (omega (arith, p))
+add_one false true true s xs ys zs p e = absurd (omega (arith, p))
+add_one false true false s xs ys zs p e = absurd (omega (arith, p))
+add_one false false true s xs ys zs p e = absurd (omega (arith, p))
+add_one false false false s xs ys zs p e = omega (arith, e)
+
+of_frame : (f : ℕ) (ss : List Sending)
+    → length (from_frame f ss) ≡ length (filter (λ (s : Sending). eqb s.frame f) ss) + length (from_frame (f + 1) ss)
+of_frame f [] = refl
+of_frame f (s ∷ ss) =
+    add_one (nat_le f s.frame) (eqb s.frame f) (nat_le (f + 1) s.frame) s (from_frame f ss)
+    (filter (λ (x : Sending). eqb x.frame f) ss) (from_frame (f + 1) ss) (splits s.frame f) (of_frame f ss)
+
+parted : (f count : ℕ) (ss : List Sending) → length (from_frame f ss) ≡ total (by_frame f count ss) + length (from_frame (f + count) ss)
+parted f zero ss =
+    let here : f ≡ f + 0 = omega arith in
+    let same = ap (λ (n : ℕ). length (from_frame n ss)) here in
+    omega (arith, same)
+parted f (suc count) ss =
+    let first = of_frame f ss in
+    let more = parted (f + 1) count ss in
+    let far : length (from_frame (f + 1 + count) ss) ≡ length (from_frame (f + suc count) ss) =
+        ap (λ (n : ℕ). length (from_frame n ss)) (omega arith) in
+    omega (arith, first, more, far)
+
+all_from_0 : (ss : List Sending) → length (from_frame 0 ss) ≡ length ss
+all_from_0 [] = refl
+all_from_0 (s ∷ ss) =
+    let here = ap (λ b. length (cond b (s ∷ from_frame 0 ss) (from_frame 0 ss))) (from_the_first s.frame) in
+    let more = all_from_0 ss in
+    omega (arith, more, here)
+  where
+    from_the_first : (n : ℕ) → nat_le 0 n ≡ true
+    from_the_first n = grind arith
+
+-- those that are not offered are of frames that the run has not
+pub unoffered_are : (offers : List (List Outgoing)) (frames : ℕ) (ss : List Sending) → length offers ≡ frames
+    → Pairwise AreReadFrom offers (by_frame 0 (length offers) ss)
+    → length ss ≡ offer_count offers + length (from_frame frames ss)
+unoffered_are offers frames ss e pairs =
+    let all = all_from_0 ss in
+    let parts = parted 0 (length offers) ss in
+    let offered = counted_offers offers (by_frame 0 (length offers) ss) pairs in
+    let far : length (from_frame (0 + length offers) ss) ≡ length (from_frame frames ss) = ap (λ (n : ℕ). length (from_frame n ss)) (omega (arith, e)) in
+    omega (arith, all, parts, offered, far)
