@@ -1,4 +1,4 @@
--- Which faults a reader of a file shows.
+-- Which faults a reader of a file shows, and which file a fault is of.
 use Rattle.std.proofs.Common.{◌≡◌, ℕ, true, List, refl}
 use Rattle.dmr_record.specs.declared.fault.RecordFault.{RecordFault}
 use Rattle.dmr_record.specs.declared.fault.RecordFault.TheVariants.{Magic, Version, CutRecord, BadTag, HalfFrame}
@@ -6,9 +6,10 @@ use Rattle.dmr_record.specs.declared.fault.RecordFault.TheVariants.{FrameOrder, 
 use Rattle.dmr_record.specs.Head.{ShowsHeadFault}
 use Rattle.dmr_record.specs.Outgoing.{ShowsOutgoingFault}
 use Rattle.dmr_record.specs.Uplink.{ShowsFault}
-use Rattle.dmr_repeater.specs.declared.fault.RunFault.TheVariants.{File}
-use Rattle.dmr_repeater.specs.declared.fault.Stream.TheVariants.{Uplink, Outgoing}
-use Rattle.dmr_repeater.specs.Runs.{is_of_its_stream}
+use Rattle.dmr_repeater.specs.declared.fault.RunFault.{RunFault}
+use Rattle.dmr_repeater.specs.declared.fault.RunFault.TheVariants.{File, Memory}
+use Rattle.dmr_repeater.specs.declared.fault.Stream.TheVariants.{Uplink, Outgoing, Downlink, Received}
+use Rattle.dmr_repeater.specs.Runs.{IfOutgoing, IfUplink, is_of_its_stream}
 
 pub uplink_head : (magic : List ℕ) (e : RecordFault) (octets : List ℕ)
     → ShowsHeadFault magic e octets → is_of_its_stream (File Uplink e) ≡ true
@@ -57,3 +58,19 @@ outgoing_records limit before last FrameOrder octets shown = refl
 outgoing_records limit before last TooLong octets shown = refl
 outgoing_records limit before last Read octets shown = refl
 outgoing_records limit before last Write octets shown = absurd shown
+
+pub IfOutgoing-map : (e : RunFault) (P Q : RecordFault → Type 0) (X Y : Type 0) → ((fault : RecordFault) → P fault → Q fault)
+    → (X → Y) → IfOutgoing e P X → IfOutgoing e Q Y
+IfOutgoing-map (File Outgoing fault) P Q X Y found others u = found fault u
+IfOutgoing-map (File Uplink fault) P Q X Y found others u = others u
+IfOutgoing-map (File Downlink fault) P Q X Y found others u = others u
+IfOutgoing-map (File Received fault) P Q X Y found others u = others u
+IfOutgoing-map Memory P Q X Y found others u = others u
+
+pub IfUplink-map : (e : RunFault) (P Q : RecordFault → Type 0) → ((fault : RecordFault) → P fault → Q fault) → IfUplink e P
+    → IfUplink e Q
+IfUplink-map (File Uplink fault) P Q found u = found fault u
+IfUplink-map (File Outgoing fault) P Q found u = tt
+IfUplink-map (File Downlink fault) P Q found u = tt
+IfUplink-map (File Received fault) P Q found u = tt
+IfUplink-map Memory P Q found u = tt

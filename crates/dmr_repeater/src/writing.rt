@@ -1,11 +1,19 @@
-//! The frames of the downlink, handed over and written.
-ghost use Rattle.std.specs.Prelude.{◌≡◌, ◌+◌, ◌^◌, ◌<◌, ◌∷◌, [], false, true, IfErr, OnOk, OnErr};
+//! The frames of the downlink, handed over and written, and what is received in them.
+ghost use Rattle.std.specs.Prelude.{⊤, ◌≡◌, ◌+◌, ◌^◌, ◌<◌, [], false, true, map, IfErr, OnOk, OnErr};
 ghost use Rattle.std.specs.Io.KnownBytes.{Appends};
+ghost use Rattle.std.specs.List.{flat_map};
 ghost use Rattle.dmr_record.specs.Devices.{Tears};
 ghost use Rattle.dmr_record.specs.Downlink.{downlink_octets};
-ghost use Rattle.dmr_repeater.specs.Runs.{Sends, SendsFront};
+ghost use Rattle.dmr_record.specs.Received.{receipt_octets};
+ghost use Rattle.dmr_station.specs.Frames.{received_of};
+ghost use Rattle.dmr_station.specs.GatewayFrames.{receipt_of};
+ghost use Rattle.dmr_station.specs.Station.{all_taken};
+ghost use Rattle.dmr_repeater.specs.Runs.{FrontOf, IfOutgoing, IfUplink, SendsFrontOfOne, SendsOne};
+ghost use Rattle.dmr_repeater.specs.Runs.{is_downlink_failure, is_failure, is_memory, is_of_its_stream, is_outgoing_failure};
+ghost use Rattle.dmr_repeater.specs.Runs.{is_received_failure, is_uplink_failure};
 
-use dmr_record::{RecordFault, Sink, write_slot};
+use crate::fault::{RunFault, Stream};
+use dmr_record::{RecordFault, Sink, write_received, write_slot};
 use dmr_station::{DownlinkFrame, Station, UplinkFrame};
 
 /// Writes both slots of a frame.
@@ -23,21 +31,72 @@ fn write_frame<D: Sink>(downlink: &mut D, frame: DownlinkFrame) -> Result<(), Re
     write_slot(downlink, second)
 }
 
-/// Hands a frame of the uplink to the station, and writes the frame of the downlink that it gives.
-pub fn send<D: Sink>(
+/// Writes what the gateway received in a frame, record by record.
+fn write_all_received<R: Sink>(
+    station: &mut Station,
+    received: &mut R,
+    number: u32,
+) -> Result<(), RecordFault>
+    requires well { R.has_failed received.old ≡ false }
+    ensures receipts { OnOk result (Appends (R.held received.old) (R.held received.new)
+        (flat_map receipt_octets (map (receipt_of number) (received_of station.old.memory.gate)))) }
+    ensures taken { OnOk result (station.new ≡ all_taken station.old) }
+    ensures well { OnOk result (R.has_failed received.new ≡ false) }
+    ensures fault { IfErr result (λ e. e ≡ RecordFault.Write) }
+    ensures failed { OnErr result (R.has_failed received.new ≡ true) }
+    ensures torn { OnErr result (FrontOf (R.held received.old) (R.held received.new)
+        (flat_map receipt_octets (map (receipt_of number) (received_of station.old.memory.gate)))) }
+{
+    loop {
+        let Some(one) = station.take_received() else {
+            return Ok(());
+        };
+        if let Err(fault) = write_received(
+            received,
+            number,
+            one.slot,
+            one.kind,
+            one.source,
+            one.octets.as_slice(),
+        ) {
+            return Err(fault);
+        }
+    }
+}
+
+/// Hands a frame of the uplink to the station, and writes the frame of the downlink that it gives and then what was received in it.
+pub fn send<D: Sink, R: Sink>(
     station: &mut Station,
     downlink: &mut D,
+    received: &mut R,
     frame: &UplinkFrame,
-) -> Result<(), RecordFault>
-    requires well { D.has_failed downlink.old ≡ false }
-    requires frames { station.old.frames < 2 ^ 30 }
-    ensures frames { station.new.frames ≡ station.old.frames + 1 }
-    ensures sent { OnOk result (Sends station.old (frame.now ∷ []) station.new (D.held downlink.old) (D.held downlink.new)) }
-    ensures well { OnOk result (D.has_failed downlink.new ≡ false) }
-    ensures fault { IfErr result (λ e. e ≡ RecordFault.Write) }
-    ensures failed { OnErr result (D.has_failed downlink.new ≡ true) }
-    ensures torn { OnErr result (SendsFront station.old (frame.now ∷ []) (D.held downlink.old) (D.held downlink.new)) }
+) -> Result<(), RunFault>
+    requires downlink { D.has_failed downlink.old ≡ false }
+    requires received { R.has_failed received.old ≡ false }
+    requires frames { station.old.frames < 2 ^ 29 }
+    ensures sent { OnOk result (SendsOne station.old frame.now station.new (D.held downlink.old) (D.held downlink.new)
+        (R.held received.old) (R.held received.new)) }
+    ensures frames { OnOk result (station.new.frames ≡ station.old.frames + 1) }
+    ensures offered { OnOk result (station.new.offered ≡ station.old.offered) }
+    ensures well { OnOk result ((D.has_failed downlink.new ≡ false) × (R.has_failed received.new ≡ false)) }
+    ensures torn { OnErr result (SendsFrontOfOne station.old frame.now (D.held downlink.old) (D.held downlink.new)
+        (R.held received.old) (R.held received.new)) }
+    ensures device { IfErr result (λ e. (D.has_failed downlink.new ≡ is_downlink_failure e)
+        × (R.has_failed received.new ≡ is_received_failure e)) }
+    ensures others { IfErr result (λ e. (is_uplink_failure e ≡ false) × (is_outgoing_failure e ≡ false)) }
+    ensures elsewhere { IfErr result (λ e. IfOutgoing e (λ _. ⊥) ⊤) }
+    ensures found { IfErr result (λ e. IfUplink e (λ _. ⊥)) }
+    ensures file { IfErr result (λ e. is_memory e ≡ false) }
+    ensures kind { IfErr result (λ e. is_of_its_stream e ≡ true) }
+    ensures honest { IfErr result (λ e. is_failure e ≡ true) }
 {
+    let number = station.counts().frames;
     let records = station.exchange(frame);
-    write_frame(downlink, records)
+    if let Err(fault) = write_frame(downlink, records) {
+        return Err(RunFault::File(Stream::Downlink, fault));
+    }
+    if let Err(fault) = write_all_received(station, received, number) {
+        return Err(RunFault::File(Stream::Received, fault));
+    }
+    Ok(())
 }

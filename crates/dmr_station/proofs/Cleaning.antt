@@ -10,14 +10,20 @@ use Rattle.dmr_slot.specs.Push.{Memory as Line, ArePushed}
 use Rattle.dmr_slot.specs.declared.channel.Claim.{Claim}
 use Rattle.dmr_slot.specs.declared.line.SlotOut.{SlotOut}
 use Rattle.dmr_slot.proofs.CleanLines.{pushed_lines_are_clean}
-use Rattle.dmr_slot.proofs.Cleaning.{ArePairs, AllFramesSent, both_clean_alone, firsts, frame_claims, no_gate_frames, seconds}
+use Rattle.dmr_slot.proofs.Cleaning.{ArePairs, AllFramesSent, both_clean, firsts, frame_claims, seconds}
 use Rattle.dmr_station.specs.Announced.{AreAnnounced}
 use Rattle.dmr_station.specs.declared.announcing.Message.{Message}
 use Rattle.dmr_station.specs.declared.sending.DownlinkBurst.{DownlinkBurst}
 use Rattle.dmr_station.specs.Clean.{AreCleanSlots, IsCleanCach, IsCleanDownlink, IsEncodedAs, burst_in, bursts_in, first_slots}
 use Rattle.dmr_station.specs.Clean.{second_slots}
 use Rattle.dmr_station.specs.Downlink.{Makes, slots_of, slots_in, frames_in, claims_in, marked_frames}
-use Rattle.dmr_station.specs.Frames.{Settings, slot_in, no_gateway, marked}
+use Rattle.dmr_record.specs.Outgoing.{Sending}
+use Rattle.dmr_record.specs.Received.{Receipt}
+use Rattle.dmr_gateway.specs.Runs.{Happening}
+use Rattle.dmr_station.specs.GatewayFrames.{Given, AreGiven, gates_of}
+use Rattle.dmr_station.specs.Frames.{Settings, Counts, slot_in, marked}
+use Rattle.dmr_station.proofs.CleanGate.{clean_givens, gate_pairs, first_gates, second_gates}
+use Rattle.dmr_station.proofs.Made.{given_length}
 use Rattle.dmr_station.specs.Pairs.{Pairwise}
 use Rattle.dmr_station.specs.Sent.{lcss_of, IsCachOf, IsSentAs, AreSentAs}
 
@@ -75,9 +81,31 @@ seconds_in [] (b ∷ second) e = absurd (omega (arith, e))
 seconds_in (a ∷ first) [] e = absurd (omega (arith, e))
 seconds_in (a ∷ first) (b ∷ second) e = ap (λ (outs : List SlotOut). b ∷ outs) (seconds_in first second (omega (arith, e)))
 
-claims_alone : (outs : List (List SlotOut)) → claims_in outs ≡ frame_claims outs (no_gate_frames (length outs))
-claims_alone [] = refl
-claims_alone (slots ∷ outs) = ap (λ (claims : List (List Claim)). claims_of slots no_gateway ∷ claims) (claims_alone outs)
+same_claims : (outs : List (List SlotOut)) (gates : List (List (Option Burst))) → claims_in outs gates ≡ frame_claims outs gates
+same_claims [] gates = refl
+same_claims (slots ∷ outs) [] = refl
+same_claims (slots ∷ outs) (gate ∷ gates) = ap (λ (claims : List (List Claim)). claims_of slots gate ∷ claims) (same_claims outs gates)
+
+-- the frames of both slots, and of both slots of the gateway, are as many as those in which datagrams are offered
+outs_length : (s : Settings) (slot : ℕ) (back : List Happening) (offers : List (List Sending)) (outs : List SlotOut)
+    (givens : List Given) → AreGiven s slot back offers outs givens → length outs ≡ length offers
+outs_length s slot back [] [] [] u = refl
+outs_length s slot back [] (out ∷ outs) givens u = absurd u
+outs_length s slot back [] [] (g ∷ givens) u = absurd u
+outs_length s slot back (o ∷ offers) [] givens u = absurd u
+outs_length s slot back (o ∷ offers) (out ∷ outs) [] u = absurd u
+outs_length s slot back (o ∷ offers) (out ∷ outs) (g ∷ givens) u =
+    let more = outs_length s slot (u.0 ∷ back) offers outs givens u.3 in omega (arith, more)
+
+frames_length : (first second : List SlotOut) → length first ≡ length second → length (frames_in first second) ≡ length first
+frames_length [] second e = refl
+frames_length (a ∷ first) [] e = absurd (omega (arith, e))
+frames_length (a ∷ first) (b ∷ second) e = let more = frames_length first second (omega (arith, e)) in omega (arith, more)
+
+gates_length : (first second : List Given) → length first ≡ length second → length (gates_of first second) ≡ length first
+gates_length [] second e = refl
+gates_length (a ∷ first) [] e = absurd (omega (arith, e))
+gates_length (a ∷ first) (b ∷ second) e = let more = gates_length first second (omega (arith, e)) in omega (arith, more)
 
 all_frames_sent : (colour : ℕ) (frames : List (List ChannelOut)) (bursts : List (List (Option Burst)))
     → Pairwise (AreSent colour) frames bursts → AllFramesSent colour frames bursts
@@ -91,12 +119,12 @@ burst_in_marked : (m : Message) (out : SlotOut) (burst : Option Burst) → burst
 burst_in_marked m out None = refl
 burst_in_marked m out (Some burst) = refl
 
-pub two_sent : (colour : ℕ) (on_air : Bool) (a b : SlotOut) (sent : List (Option Burst))
-    → AreSent colour (frame_of on_air (claims_of (a ∷ b ∷ []) no_gateway)) sent → length sent ≡ 2
-two_sent colour on_air a b [] u = absurd u
-two_sent colour on_air a b (x ∷ []) u = absurd u.1
-two_sent colour on_air a b (x ∷ y ∷ []) u = refl
-two_sent colour on_air a b (x ∷ y ∷ z ∷ more) u = absurd u.1.1
+pub two_sent : (colour : ℕ) (on_air : Bool) (a b : SlotOut) (g h : Option Burst) (sent : List (Option Burst))
+    → AreSent colour (frame_of on_air (claims_of (a ∷ b ∷ []) (g ∷ h ∷ []))) sent → length sent ≡ 2
+two_sent colour on_air a b g h [] u = absurd u
+two_sent colour on_air a b g h (x ∷ []) u = absurd u.1
+two_sent colour on_air a b g h (x ∷ y ∷ []) u = refl
+two_sent colour on_air a b g h (x ∷ y ∷ z ∷ more) u = absurd u.1.1
 
 cons_by : (a b : Option Burst) (more others : List (Option Burst)) → a ≡ b → more ≡ others → a ∷ more ≡ b ∷ others
 cons_by a b more others e f = cc
@@ -117,45 +145,62 @@ one_more m messages a b first second (x ∷ y ∷ []) bursts two u = record {
 }
 
 slot_by_slot : (colour hang : ℕ) (back : List (List Claim)) (past : List (List SlotOut)) (messages : List Message)
-    (first second : List SlotOut) (bursts : List (List (Option Burst))) → AreAnnounced past (frames_in first second) messages
-    → Pairwise (AreSent colour) (frames_of hang back (claims_in (frames_in first second))) bursts
-    → SlotBySlot messages first second bursts
-slot_by_slot colour hang back past [] [] second [] v u = record { first_is = refl; second_is = refl }
-slot_by_slot colour hang back past (m ∷ messages) [] second [] v u = absurd v
-slot_by_slot colour hang back past messages [] second (sent ∷ bursts) v u = absurd u
-slot_by_slot colour hang back past [] (a ∷ first) [] [] v u = record { first_is = refl; second_is = refl }
-slot_by_slot colour hang back past (m ∷ messages) (a ∷ first) [] [] v u = absurd v
-slot_by_slot colour hang back past messages (a ∷ first) [] (sent ∷ bursts) v u = absurd u
-slot_by_slot colour hang back past messages (a ∷ first) (b ∷ second) [] v u = absurd u
-slot_by_slot colour hang back past [] (a ∷ first) (b ∷ second) (sent ∷ bursts) v u = absurd v
-slot_by_slot colour hang back past (m ∷ messages) (a ∷ first) (b ∷ second) (sent ∷ bursts) v u =
-    let frame : List Claim = claims_of (a ∷ b ∷ []) no_gateway in
+    (first second : List SlotOut) (one two : List Given) (bursts : List (List (Option Burst)))
+    → AreAnnounced past (frames_in first second) messages
+    → Pairwise (AreSent colour) (frames_of hang back (claims_in (frames_in first second) (gates_of one two))) bursts
+    → length (frames_in first second) ≡ length (gates_of one two) → SlotBySlot messages first second bursts
+slot_by_slot colour hang back past [] [] second one two [] v u e = record { first_is = refl; second_is = refl }
+slot_by_slot colour hang back past (m ∷ messages) [] second one two [] v u e = absurd v
+slot_by_slot colour hang back past messages [] second one two (sent ∷ bursts) v u e = absurd u
+slot_by_slot colour hang back past [] (a ∷ first) [] one two [] v u e = record { first_is = refl; second_is = refl }
+slot_by_slot colour hang back past (m ∷ messages) (a ∷ first) [] one two [] v u e = absurd v
+slot_by_slot colour hang back past messages (a ∷ first) [] one two (sent ∷ bursts) v u e = absurd u
+slot_by_slot colour hang back past messages (a ∷ first) (b ∷ second) [] two bursts v u e = absurd (omega (arith, e))
+slot_by_slot colour hang back past messages (a ∷ first) (b ∷ second) (g ∷ one) [] bursts v u e = absurd (omega (arith, e))
+slot_by_slot colour hang back past messages (a ∷ first) (b ∷ second) (g ∷ one) (h ∷ two) [] v u e = absurd u
+slot_by_slot colour hang back past [] (a ∷ first) (b ∷ second) (g ∷ one) (h ∷ two) (sent ∷ bursts) v u e = absurd v
+slot_by_slot colour hang back past (m ∷ messages) (a ∷ first) (b ∷ second) (g ∷ one) (h ∷ two) (sent ∷ bursts) v u e =
+    let frame : List Claim = claims_of (a ∷ b ∷ []) (g.burst ∷ h.burst ∷ []) in
     one_more m messages a b first second sent bursts
-    (two_sent colour (has_traffic_within (suc hang) (frame ∷ back)) a b sent u.0)
-    (slot_by_slot colour hang (frame ∷ back) ((a ∷ b ∷ []) ∷ past) messages first second bursts v.1 u.1)
+    (two_sent colour (has_traffic_within (suc hang) (frame ∷ back)) a b g.burst h.burst sent u.0)
+    (slot_by_slot colour hang (frame ∷ back) ((a ∷ b ∷ []) ∷ past) messages first second one two bursts v.1 u.1 (omega (arith, e)))
 
 -- ---- what the rules make
-pub clean_made : (s : Settings) (frames : List (List (Option (List ℕ)))) (sending : List (List (Option DownlinkBurst)))
-    → Makes s frames sending
+pub clean_made : (s : Settings) (offers : List (List Sending)) (frames : List (List (Option (List ℕ))))
+    (sending : List (List (Option DownlinkBurst))) (receipts : List Receipt) (counts : Counts)
+    → Makes s offers frames sending receipts counts
     → AreCleanSlots s.colour (bursts_in (slots_of sending))
-clean_made s frames sending u =
+clean_made s offers frames sending receipts counts u =
     let outs : List (List SlotOut) = frames_in u.first u.second in
+    let one : List Given = u.gateway.first_given in
+    let two : List Given = u.gateway.second_given in
     let bursts = u.downlink.bursts in
     let long : length u.first ≡ length u.second =
     long_line _ (slots_in 0 frames) u.first u.first_line.0 u.first_line.1 ∙ length-map frames (slot_in 0)
     ∙ sym (long_line _ (slots_in 1 frames) u.second u.second_line.0 u.second_line.1 ∙ length-map frames (slot_in 1)) in
+    let one_long = given_length s 1 [] offers u.first one u.gateway.first_slot in
+    let two_long = given_length s 2 [] offers u.second two u.gateway.second_slot in
+    let out_long = outs_length s 1 [] offers u.first one u.gateway.first_slot in
+    let as_long : length outs ≡ length (gates_of one two) =
+        frames_length u.first u.second long ∙ out_long ∙ sym (gates_length one two (one_long ∙ sym two_long) ∙ one_long) in
     let clean_first = pushed_lines_are_clean s.colour s.call_hang (slots_in 0 frames) u.first u.first_line.0 u.first_line.1 in
     let clean_second = pushed_lines_are_clean s.colour s.call_hang (slots_in 1 frames) u.second u.second_line.0 u.second_line.1 in
-    let sent = all_frames_sent s.colour (frames_of s.channel_hang [] (claims_in outs)) bursts u.downlink.channel in
-    let both = both_clean_alone s.colour s.channel_hang [] outs bursts (pairs_in u.first u.second)
+    let channel : Pairwise (AreSent s.colour) (frames_of s.channel_hang [] (claims_in outs (gates_of one two))) bursts =
+        subst (λ (gates : List (List (Option Burst))). Pairwise (AreSent s.colour) (frames_of s.channel_hang [] (claims_in outs gates)) bursts)
+        u.gateway.gates_are u.downlink.channel in
+    let sent = all_frames_sent s.colour (frames_of s.channel_hang [] (claims_in outs (gates_of one two))) bursts channel in
+    let both = both_clean s.colour s.channel_hang [] outs (gates_of one two) bursts as_long (pairs_in u.first u.second)
+    (gate_pairs one two)
     (subst (λ (line : List SlotOut). AreCleanBursts s.colour (map burst_of line)) (sym
     (firsts_in u.first u.second long)) clean_first)
     (subst (λ (line : List SlotOut). AreCleanBursts s.colour (map burst_of line)) (sym
     (seconds_in u.first u.second long)) clean_second)
+    (first_gates s.colour one two (clean_givens s 1 [] offers u.first one u.gateway.first_slot))
+    (second_gates s.colour one two (clean_givens s 2 [] offers u.second two u.gateway.second_slot))
     (subst (λ (claims : List (List Claim)). AllFramesSent s.colour (frames_of s.channel_hang [] claims) bursts)
-    (claims_alone outs) sent) in
-    let slots = slot_by_slot s.colour s.channel_hang [] [] u.downlink.messages u.first u.second bursts u.downlink.announced
-    u.downlink.channel in
+    (same_claims outs (gates_of one two)) sent) in
+    let slots = slot_by_slot s.colour s.channel_hang [] [] u.downlink.messages u.first u.second one two bursts u.downlink.announced
+    channel as_long in
     subst (λ (out : List (List (Option DownlinkBurst))). AreCleanSlots s.colour (bursts_in (slots_of out))) (sym u.downlink.marks)
     (record {
       first = subst (AreCleanBursts s.colour) (sym slots.first_is) both.first;

@@ -1,6 +1,13 @@
+pub mod CleanGate
 pub mod Cleaning
+pub mod Counting
 pub mod Encodings
 pub mod Exchanges
+pub mod Exchanging
 pub mod LookingBack
 pub mod Made
+pub mod Offering
+pub mod Offers
+pub mod OneReception
 pub mod Readings
+pub mod Taking

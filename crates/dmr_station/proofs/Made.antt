@@ -1,9 +1,9 @@
 -- What the rules make of frames, slot by slot.
-use Rattle.std.proofs.Common.{◌≡◌, ℕ, List, [], ◌∷◌, ◌++◌, length, replicate, Option, None, refl, sym, ap, ◌∙◌, subst}
+use Rattle.std.proofs.Common.{◌≡◌, ℕ, List, [], ◌∷◌, ◌++◌, length, map, replicate, Option, None, refl, sym, ap, ◌∙◌, subst, arith}
 use Rattle.std.proofs.lemmas.List.{map-append, length-map}
 use Rattle.dmr_burst.specs.declared.burst.Burst.{Burst}
 use Rattle.dmr_slot.specs.Channel.{ChannelOut, frames_of}
-use Rattle.dmr_slot.specs.Frames.{OnAir, frames_out, AreSent}
+use Rattle.dmr_slot.specs.Frames.{AreSent}
 use Rattle.dmr_slot.specs.Push.{Memory as Line, start as silent_line, ArePushed}
 use Rattle.dmr_slot.specs.Recordings.{handed as handed_slots}
 use Rattle.dmr_slot.specs.declared.line.SlotOut.{SlotOut}
@@ -19,82 +19,64 @@ use Rattle.dmr_station.specs.declared.announcing.Message.{Message}
 use Rattle.dmr_station.specs.declared.sending.DownlinkBurst.{DownlinkBurst}
 use Rattle.dmr_station.specs.Downlink.{slots_in, frames_in, claims_in, marked_frames, IsDownlinkOf, IsPushedLine, Makes, silence}
 use Rattle.dmr_station.specs.Downlink.{handed}
-use Rattle.dmr_station.specs.Frames.{Settings, Memory, start, slot_in, ArePassed}
+use Rattle.std.specs.List.{AllByRecursion}
+use Rattle.dmr_gateway.specs.Runs.{Happening}
+use Rattle.dmr_gateway.specs.BothSlots.{Stands}
+use Rattle.dmr_gateway.proofs.BothSlots.{starts as starts_there}
+use Rattle.dmr_record.specs.Outgoing.{Sending}
+use Rattle.dmr_record.specs.declared.outgoing.Outgoing.{Outgoing}
+use Rattle.dmr_station.specs.GatewayFrames.{AreReadFrom, AreForSlots, Given, AreGiven, gates_of}
+use Rattle.dmr_station.specs.Frames.{Settings, Memory, FrameGiven, start, slot_in, ArePassed, all_counted}
+use Rattle.dmr_station.specs.Station.{receipts_from}
+use Rattle.dmr_station.proofs.Counting.{receipts_of_both, counted_of_both}
+use Rattle.dmr_station.proofs.Exchanging.{exchanged}
 use Rattle.dmr_station.specs.Meaning.{IsFrontOfWhatIsMeant, IsLineOfWhatIsMeant, SendsFrontOfWhatIsMeant, SendsWhatIsMeant}
 use Rattle.dmr_station.specs.Pairs.{Pairwise}
-use Rattle.dmr_station.proofs.LookingBack.{Announces, looks_back as messages_look_back, one_announced}
+use Rattle.dmr_station.proofs.LookingBack.{looks_back as messages_look_back, one_announced}
 
 -- ---- from frames to slots
-record Apart (m : Memory) (frames : List (List (Option (List ℕ)))) (sending : List (List (Option DownlinkBurst))) : Type 0 where
-  first : List SlotOut
-  second : List SlotOut
-  first_after : Line
-  second_after : Line
-  first_pushed : ArePushed m.first (slots_in 0 frames) first first_after
-  second_pushed : ArePushed m.second (slots_in 1 frames) second second_after
-  bursts : List (List (Option Burst))
-  channel : Pairwise (AreSent m.channel.colour) (frames_out m.channel (claims_in (frames_in first second))) bursts
-  messages : List Message
-  announces : Announces m.kept (frames_in first second) messages
-  marks : sending ≡ marked_frames messages (frames_in first second) bursts
+-- each frame gives what both slots give
+pub given_length : (s : Settings) (slot : ℕ) (back : List Happening) (offers : List (List Sending)) (outs : List SlotOut)
+    (givens : List Given) → AreGiven s slot back offers outs givens → length givens ≡ length offers
+given_length s slot back [] [] [] u = refl
+given_length s slot back [] (out ∷ outs) givens u = absurd u
+given_length s slot back [] [] (g ∷ givens) u = absurd u
+given_length s slot back (o ∷ offers) [] givens u = absurd u
+given_length s slot back (o ∷ offers) (out ∷ outs) [] u = absurd u
+given_length s slot back (o ∷ offers) (out ∷ outs) (g ∷ givens) u =
+    let more = given_length s slot (u.0 ∷ back) offers outs givens u.3 in omega (arith, more)
 
-cons_by : (a b : List (Option DownlinkBurst)) (more others : List (List (Option DownlinkBurst))) → a ≡ b → more ≡ others
-    → a ∷ more ≡ b ∷ others
-cons_by a b more others e f = cc
-
-apart : (m : Memory) (frames : List (List (Option (List ℕ)))) (sending : List (List (Option DownlinkBurst))) (after : Memory)
-    → ArePassed m frames sending after
-    → Apart m frames sending
-apart m [] [] after u = record {
-  first = [];
-  second = [];
-  first_after = m.first;
-  second_after = m.second;
-  first_pushed = refl;
-  second_pushed = refl;
-  bursts = [];
-  channel = tt;
-  messages = [];
-  announces = tt;
-  marks = refl;
-}
-apart m [] (s ∷ ss) after u = absurd u
-apart m (f ∷ fs) [] after u = absurd u
-apart m (f ∷ fs) (s ∷ ss) after u =
-    let step = u.1 in
-    let more = apart u.0 fs ss after u.2 in
-    record {
-      first = step.first ∷ more.first;
-      second = step.second ∷ more.second;
-      first_after = more.first_after;
-      second_after = more.second_after;
-      first_pushed = (u.0.first, step.first_line, more.first_pushed);
-      second_pushed = (u.0.second, step.second_line, more.second_pushed);
-      bursts = step.bursts ∷ more.bursts;
-      channel = (
-        step.sent,
-        subst (λ (c : OnAir). Pairwise (AreSent c.colour) (frames_out c (claims_in
-            (frames_in more.first more.second))) more.bursts) step.channel more.channel,
-      );
-      messages = step.message ∷ more.messages;
-      announces = (u.0.kept, step.announces, more.announces);
-      marks = cons_by s _ ss _ step.marks more.marks;
-    }
-
-pub makes : (s : Settings) (frames : List (List (Option (List ℕ)))) (sending : List (List (Option DownlinkBurst)))
-    (after : Memory) → ArePassed (start s) frames sending after
-    → Makes s frames sending
-makes s frames sending after u =
-    let both = apart (start s) frames sending after u in
+pub makes : (s : Settings) (oss : List (List Outgoing)) (offers : List (List Sending)) (frames : List (List (Option (List ℕ))))
+    (sending : List (List (Option DownlinkBurst))) (givens : List FrameGiven) (after : Memory)
+    → ArePassed (start s) oss frames sending givens after → Pairwise AreReadFrom oss offers → AllByRecursion AreForSlots offers
+    → Makes s offers frames sending (receipts_from 0 (map (λ (g : FrameGiven). g.received) givens)) (all_counted givens)
+makes s oss offers frames sending givens after u pairs slots =
+    let silent : Stands s.colour s.llid s.queue [] [] (start s).gate = starts_there s.colour s.llid s.queue in
+    let both = exchanged s [] [] (start s) oss offers frames sending givens after u silent pairs slots in
+    let first_long = given_length s 1 [] offers both.first both.first_given both.first_slot in
+    let second_long = given_length s 2 [] offers both.second both.second_given both.second_slot in
+    let claims = claims_in (frames_in both.first both.second) (gates_of both.first_given both.second_given) in
     record {
       first = both.first;
       second = both.second;
       first_line = (both.first_after, both.first_pushed);
       second_line = (both.second_after, both.second_pushed);
+      gates = gates_of both.first_given both.second_given;
+      gateway = record {
+        first_given = both.first_given;
+        second_given = both.second_given;
+        first_slot = both.first_slot;
+        second_slot = both.second_slot;
+        gates_are = refl;
+        receipts_are = ap (λ (l : List FrameGiven). receipts_from 0 (map (λ (g : FrameGiven). g.received) l)) both.both
+            ∙ receipts_of_both 0 both.first_given both.second_given;
+        counts_are = ap all_counted both.both
+            ∙ counted_of_both both.first_given both.second_given (first_long ∙ sym second_long);
+      };
       downlink = record {
         bursts = both.bursts;
         channel = subst (λ (l : List (List ChannelOut)). Pairwise (AreSent s.colour) l both.bursts)
-            (looks_back s.colour s.channel_hang (claims_in (frames_in both.first both.second))) both.channel;
+            (looks_back s.colour s.channel_hang claims) both.channel;
         messages = both.messages;
         announced = messages_look_back None [] (frames_in both.first both.second) both.messages refl both.announces;
         marks = both.marks;
@@ -160,20 +142,25 @@ module _ (s : Settings) (lead : ℕ) (ts : List (Transmission
 
 -- ---- what was sent in both slots
 pub sends_what_is_meant : SendsWhatIsMeant
-sends_what_is_meant s lead_1 lead_2 first second frames well_1 well_2 recording sending made = record {
+sends_what_is_meant s lead_1 lead_2 first second frames well_1 well_2 recording offers sending receipts counts made = record {
   first_outs = made.first;
   second_outs = made.second;
   first_line = first_of_meaning s lead_1 first frames made.first well_1 recording.first_slot made.first_line;
   second_line = second_of_meaning s lead_2 second frames made.second well_2 recording.second_slot made.second_line;
+  gates = made.gates;
+  gateway = made.gateway;
   downlink = made.downlink;
 }
 
 pub sends_front_of_what_is_meant : SendsFrontOfWhatIsMeant
-sends_front_of_what_is_meant s lead_1 lead_2 first second frames well_1 well_2 recording front rest sending split made = record {
+sends_front_of_what_is_meant s lead_1 lead_2 first second frames well_1 well_2 recording front rest offers sending receipts
+    counts split made = record {
   first_outs = made.first;
   second_outs = made.second;
   first_line = first_front s lead_1 first frames made.first well_1 front rest recording.first_slot split made.first_line;
   second_line = second_front s lead_2 second frames made.second well_2 front rest recording.second_slot split made.second_line;
+  gates = made.gates;
+  gateway = made.gateway;
   downlink = made.downlink;
 }
 
@@ -202,11 +189,11 @@ one_sent_list colour (f ∷ fs) (a ∷ as') (b ∷ bs) u v =
     let tail = one_sent_list colour fs as' bs u.1 v.1 in
     cc
 
-pub one_downlink : (s : Settings) (first second : List SlotOut) (a b : List (List (Option DownlinkBurst)))
-    → IsDownlinkOf s first second a → IsDownlinkOf s first second b → a ≡ b
-one_downlink s first second a b u v =
+pub one_downlink : (s : Settings) (first second : List SlotOut) (gates : List (List (Option Burst)))
+    (a b : List (List (Option DownlinkBurst))) → IsDownlinkOf s first second gates a → IsDownlinkOf s first second gates b → a ≡ b
+one_downlink s first second gates a b u v =
     let same = one_sent_list s.colour (frames_of s.channel_hang [] (claims_in
-    (frames_in first second))) u.bursts v.bursts u.channel v.channel in
+    (frames_in first second) gates)) u.bursts v.bursts u.channel v.channel in
     let announced = one_announced [] (frames_in first second) u.messages v.messages u.announced v.announced in
     u.marks ∙ ap (λ (messages : List Message). marked_frames messages (frames_in first second) u.bursts) announced
     ∙ ap (marked_frames v.messages (frames_in first second)) same ∙ sym v.marks

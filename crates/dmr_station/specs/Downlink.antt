@@ -10,7 +10,10 @@ use Rattle.dmr_slot.specs.declared.line.SlotOut.{SlotOut}
 use Rattle.dmr_station.specs.Announced.{AreAnnounced}
 use Rattle.dmr_station.specs.declared.announcing.Message.{Message}
 use Rattle.dmr_station.specs.declared.sending.DownlinkBurst.{DownlinkBurst}
-use Rattle.dmr_station.specs.Frames.{Settings, slot_in, no_gateway, marked_slots}
+use Rattle.dmr_record.specs.Outgoing.{Sending}
+use Rattle.dmr_record.specs.Received.{Receipt}
+use Rattle.dmr_station.specs.GatewayFrames.{IsGatewayOf}
+use Rattle.dmr_station.specs.Frames.{Settings, Counts, slot_in, marked_slots}
 use Rattle.dmr_station.specs.Pairs.{Pairwise}
 
 -- 1. Frames of both slots.
@@ -39,9 +42,11 @@ repeated_count slots = count_by is_repeated slots
 
 -- 2. What goes out.
 
--- What claims the slots of each frame, where the gateway has nothing for them.
-abbrev pub claims_in : List (List SlotOut) → List (List Claim)
-claims_in outs = map (λ frame. claims_of frame no_gateway) outs
+-- What claims the slots of each frame, with what the gateway has for them.
+abbrev pub claims_in : List (List SlotOut) → List (List (Option Burst)) → List (List Claim)
+claims_in [] gates = []
+claims_in (outs ∷ more) [] = []
+claims_in (outs ∷ more) (gate ∷ gates) = claims_of outs gate ∷ claims_in more gates
 
 abbrev pub marked_frames : List Message → List (List SlotOut) → List (List (Option Burst)) → List (List (Option DownlinkBurst))
 marked_frames [] outs bursts = []
@@ -49,11 +54,13 @@ marked_frames (m ∷ messages) [] bursts = []
 marked_frames (m ∷ messages) (outs ∷ more) [] = []
 marked_frames (m ∷ messages) (outs ∷ more) (frame ∷ bursts) = marked_slots m outs frame ∷ marked_frames messages more bursts
 
--- Frame by frame: what the lines of both slots give goes out, a repeated burst first and then the call hang; without either,
--- idle while the channel is on the air, and else nothing. The message of each two frames is the one for the first of them.
-pub record IsDownlinkOf (s : Settings) (first second : List SlotOut) (sending : List (List (Option DownlinkBurst))) : Type 0 where
+-- Frame by frame: what the lines of both slots give goes out, a repeated burst first, then the call hang, and then the gateway's
+-- burst; without any, idle while the channel is on the air, and else nothing. The message of each two frames is the one for the
+-- first of them.
+pub record IsDownlinkOf (s : Settings) (first second : List SlotOut) (gates : List (List (Option Burst)))
+    (sending : List (List (Option DownlinkBurst))) : Type 0 where
   pub bursts : List (List (Option Burst))
-  pub channel : Pairwise (AreSent s.colour) (frames_of s.channel_hang [] (claims_in (frames_in first second))) bursts
+  pub channel : Pairwise (AreSent s.colour) (frames_of s.channel_hang [] (claims_in (frames_in first second) gates)) bursts
   pub messages : List Message
   pub announced : AreAnnounced [] (frames_in first second) messages
   pub marks : sending ≡ marked_frames messages (frames_in first second) bursts
@@ -64,14 +71,17 @@ pub record IsDownlinkOf (s : Settings) (first second : List SlotOut) (sending : 
 abbrev pub IsPushedLine : Settings → List (Option (List ℕ)) → List SlotOut → Type 0
 IsPushedLine s slots outs = (after : Line) × ArePushed (silent_line s.colour s.call_hang) slots outs after
 
--- What the rules make of frames that are handed over one after another: the lines of both slots, and what goes out for them.
-pub record Makes (s : Settings) (frames : List (List (Option (List ℕ)))) (sending : List (List
-    (Option DownlinkBurst))) : Type 0 where
+-- What the rules make of frames that are handed over one after another, and of the datagrams of the outgoing file: the lines of
+-- both slots, what the gateway makes of them, and what goes out.
+pub record Makes (s : Settings) (offers : List (List Sending)) (frames : List (List (Option (List ℕ))))
+    (sending : List (List (Option DownlinkBurst))) (receipts : List Receipt) (counts : Counts) : Type 0 where
   pub first : List SlotOut
   pub second : List SlotOut
   pub first_line : IsPushedLine s (slots_in 0 frames) first
   pub second_line : IsPushedLine s (slots_in 1 frames) second
-  pub downlink : IsDownlinkOf s first second sending
+  pub gates : List (List (Option Burst))
+  pub gateway : IsGatewayOf s offers first second gates receipts counts
+  pub downlink : IsDownlinkOf s first second gates sending
 
 -- A frame in which nothing is received.
 abbrev pub silence : List (Option (List ℕ))

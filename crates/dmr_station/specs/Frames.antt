@@ -1,7 +1,14 @@
 -- The repeater's rules, one frame of the uplink after another.
-use Rattle.std.specs.Prelude.{ℕ, ◌≡◌, List, [], ◌∷◌, Option, Some, None, is_some, slice_index_or}
+use Rattle.std.specs.Prelude.{ℕ, ◌≡◌, ◌+◌, ◌&&◌, Bool, true, false, not, List, [], ◌∷◌, ◌++◌, length, count_by, Option, Some, None, is_some}
+use Rattle.std.specs.Prelude.{option_to_list, slice_index_or}
 use Rattle.dmr_burst.specs.declared.burst.Burst.{Burst}
+use Rattle.dmr_arq.specs.declared.sender.Outcome.{Outcome}
+use Rattle.dmr_arq.specs.declared.sender.Outcome.TheVariants.{Delivered, Sent, GivenUp}
+use Rattle.dmr_gateway.specs.Gateway.{Gate, start as silent_gateway, AreOffered, IsAskedFor}
+use Rattle.dmr_gateway.specs.Side.{all_received, side_told, side_outcome}
 use Rattle.dmr_gateway.specs.declared.config.Config.{Config}
+use Rattle.dmr_gateway.specs.declared.received.Received.{Received}
+use Rattle.dmr_record.specs.declared.outgoing.Outgoing.{Outgoing}
 use Rattle.dmr_slot.specs.Channel.{claims_of}
 use Rattle.dmr_slot.specs.Frames.{OnAir, off_air, frame_out, after_frame, AreSent}
 use Rattle.dmr_slot.specs.Push.{Memory as Line, start as silent_line, IsPush}
@@ -12,21 +19,32 @@ use Rattle.dmr_station.specs.declared.sending.DownlinkBurst.{DownlinkBurst}
 
 -- 1. What the rules go by.
 
--- The colour code, and for how many frames a call holds its slot and the channel stays on the air.
+-- The colour code, for how many frames a call holds its slot and the channel stays on the air, the LLID of the gateway, and how
+-- many datagrams may wait for each slot.
 pub record Settings : Type 0 where
   pub colour : ℕ
   pub call_hang : ℕ
   pub channel_hang : ℕ
+  pub llid : ℕ
+  pub queue : ℕ
 
 abbrev pub settings_of : Config → Settings
-settings_of config = record { colour = config.colour; call_hang = config.call_hang; channel_hang = config.channel_hang }
+settings_of config =
+    record {
+      colour = config.colour;
+      call_hang = config.call_hang;
+      channel_hang = config.channel_hang;
+      llid = config.llid;
+      queue = config.queue;
+    }
 
--- What is remembered between two frames: the lines of both slots, the channel that they share, and the message whose second half
--- is to come, where the next frame isn't the first of two.
+-- What is remembered between two frames: the lines of both slots, the channel that they share, the gateway, and the message whose
+-- second half is to come, where the next frame isn't the first of two.
 pub record Memory : Type 0 where
   pub first : Line
   pub second : Line
   pub channel : OnAir
+  pub gate : Gate
   pub kept : Option Message
 
 -- Nothing was heard, and nothing was sent.
@@ -35,12 +53,20 @@ start s = record {
   first = silent_line s.colour s.call_hang;
   second = silent_line s.colour s.call_hang;
   channel = off_air s.colour s.channel_hang;
+  gate = silent_gateway s.colour s.llid s.queue;
   kept = None;
 }
 
 -- The settings of what is remembered.
 abbrev pub settings_in : Memory → Settings
-settings_in m = record { colour = m.channel.colour; call_hang = m.first.call_hang; channel_hang = m.channel.hang }
+settings_in m =
+    record {
+      colour = m.channel.colour;
+      call_hang = m.first.call_hang;
+      channel_hang = m.channel.hang;
+      llid = m.gate.llid;
+      queue = m.gate.first.outbox.queue.capacity;
+    }
 
 -- 2. One frame.
 
@@ -48,9 +74,9 @@ settings_in m = record { colour = m.channel.colour; call_hang = m.first.call_han
 abbrev pub slot_in : ℕ → List (Option (List ℕ)) → Option (List ℕ)
 slot_in number frame = slice_index_or frame number None
 
--- The gateway has nothing for either slot.
-abbrev pub no_gateway : List (Option Burst)
-no_gateway = None ∷ None ∷ []
+-- A slot is free for the gateway where its line gives nothing.
+abbrev pub is_free : SlotOut → Bool
+is_free out = not (is_some out.repeated) && not (is_some out.hang)
 
 -- A burst that goes out, with whether it is a repeated one and the message of its frame.
 abbrev pub marked : Message → SlotOut → Option Burst → Option DownlinkBurst
@@ -62,26 +88,119 @@ marked_slots m [] bursts = []
 marked_slots m (out ∷ outs) [] = []
 marked_slots m (out ∷ outs) (burst ∷ bursts) = marked m out burst ∷ marked_slots m outs bursts
 
--- A frame of the uplink is pushed into both lines, and what they give goes out as the channel decides, with the message that is
--- announced.
-pub record IsPassed (before : Memory) (frame : List (Option (List ℕ))) (sending : List (Option DownlinkBurst))
+-- What a frame gives besides its bursts: what was received, what became of packets, and how many datagrams were refused.
+pub record FrameGiven : Type 0 where
+  pub received : List Received
+  pub outcomes : List Outcome
+  pub refused : ℕ
+
+-- What frames count of the gateway: records, packets that were delivered, sent and given up, and offers that were refused.
+pub record Counts : Type 0 where
+  pub received : ℕ
+  pub delivered : ℕ
+  pub sent : ℕ
+  pub given_up : ℕ
+  pub refused : ℕ
+
+abbrev pub nothing_counted : Counts
+nothing_counted = record { received = 0; delivered = 0; sent = 0; given_up = 0; refused = 0 }
+
+abbrev pub added : Counts → Counts → Counts
+added a b =
+    record {
+      received = a.received + b.received;
+      delivered = a.delivered + b.delivered;
+      sent = a.sent + b.sent;
+      given_up = a.given_up + b.given_up;
+      refused = a.refused + b.refused;
+    }
+
+abbrev pub is_outcome : Outcome → Outcome → Bool
+is_outcome Delivered Delivered = true
+is_outcome Sent Sent = true
+is_outcome GivenUp GivenUp = true
+is_outcome outcome other = false
+
+-- how many of these outcomes are this one
+abbrev pub outcome_count : Outcome → List Outcome → ℕ
+outcome_count outcome outcomes = count_by (is_outcome outcome) outcomes
+
+abbrev pub counted : FrameGiven → Counts
+counted given =
+    record {
+      received = length given.received;
+      delivered = outcome_count Delivered given.outcomes;
+      sent = outcome_count Sent given.outcomes;
+      given_up = outcome_count GivenUp given.outcomes;
+      refused = given.refused;
+    }
+
+abbrev pub all_counted : List FrameGiven → Counts
+all_counted [] = nothing_counted
+all_counted (given ∷ more) = added (counted given) (all_counted more)
+
+-- The gateway hears what the line of a slot repeats, and is asked for a burst.
+abbrev pub IsSlotAsked : ℕ → SlotOut → Gate → Option Burst → Gate → Type 0
+IsSlotAsked slot out before burst after = IsAskedFor slot out.repeated (is_free out) before burst after
+
+-- A frame of the uplink is pushed into both lines, the gateway hears what they repeat and is asked for a burst for each slot, and
+-- what they give goes out as the channel decides, with the message that is announced.
+pub record IsAsked (before : Memory) (frame : List (Option (List ℕ))) (sending : List (Option DownlinkBurst))
     (after : Memory) : Type 0 where
   pub first : SlotOut
   pub second : SlotOut
-  pub bursts : List (Option Burst)
   pub first_line : IsPush before.first (slot_in 0 frame) first after.first
   pub second_line : IsPush before.second (slot_in 1 frame) second after.second
-  pub sent : AreSent before.channel.colour (frame_out before.channel (claims_of (first ∷ second ∷ []) no_gateway)) bursts
-  pub channel : after.channel ≡ after_frame before.channel (claims_of (first ∷ second ∷ []) no_gateway)
+  pub between : Gate
+  pub first_gate : Option Burst
+  pub second_gate : Option Burst
+  pub first_asked : IsSlotAsked 1 first before.gate first_gate between
+  pub second_asked : IsSlotAsked 2 second between second_gate after.gate
+  pub bursts : List (Option Burst)
+  pub sent : AreSent before.channel.colour (frame_out before.channel
+      (claims_of (first ∷ second ∷ []) (first_gate ∷ second_gate ∷ []))) bursts
+  pub channel : after.channel ≡ after_frame before.channel (claims_of (first ∷ second ∷ []) (first_gate ∷ second_gate ∷ []))
   pub message : Message
   pub announces : IsAnnounced before.kept (first ∷ second ∷ []) message after.kept
   pub marks : sending ≡ marked_slots message (first ∷ second ∷ []) bursts
 
--- 3. Frame after frame.
+-- what a gateway that was asked gives, and what it keeps then
+abbrev pub received_of : Gate → List Received
+received_of g = all_received g.first ++ all_received g.second
 
-abbrev pub ArePassed : Memory → List (List (Option (List ℕ))) → List (List (Option DownlinkBurst)) → Memory → Type 0
-ArePassed m [] [] after = after ≡ m
-ArePassed m [] (slots ∷ sending) after = ⊥
-ArePassed m (frame ∷ frames) [] after = ⊥
-ArePassed m (frame ∷ frames) (slots ∷ sending) after =
-    (next : Memory) × IsPassed m frame slots next × ArePassed next frames sending after
+abbrev pub outcomes_of : Gate → List Outcome
+outcomes_of g = option_to_list (side_outcome g.first) ++ option_to_list (side_outcome g.second)
+
+abbrev pub given_of : ℕ → Gate → FrameGiven
+given_of refused g = record { received = received_of g; outcomes = outcomes_of g; refused = refused }
+
+-- after all that it received is taken, and after what became of its packets is told
+abbrev pub received_taken : Gate → Gate
+received_taken g =
+    record g { first = record g.first { status = None; packet = None }; second = record g.second { status = None; packet = None } }
+
+abbrev pub outcomes_told : Gate → Gate
+outcomes_told g = record g { first = side_told g.first; second = side_told g.second }
+
+abbrev pub taken_of : Memory → Memory
+taken_of m = record m { gate = received_taken (outcomes_told m.gate) }
+
+-- A frame: datagrams are offered, the frame is passed on, and what the gateway gives is taken.
+pub record IsPassed (before : Memory) (offered : List Outgoing) (frame : List (Option (List ℕ)))
+    (sending : List (Option DownlinkBurst)) (given : FrameGiven) (after : Memory) : Type 0 where
+  pub offers : Gate
+  pub refused : ℕ
+  pub are_offered : AreOffered offered before.gate refused offers
+  pub asked : Memory
+  pub is_asked : IsAsked (record before { gate = offers }) frame sending asked
+  pub gives : given ≡ given_of refused asked.gate
+  pub taken : after ≡ taken_of asked
+
+-- 3. Frame after frame, each with the datagrams that are offered in it.
+
+abbrev pub ArePassed : Memory → List (List Outgoing) → List (List (Option (List ℕ))) → List (List (Option DownlinkBurst)) →
+    List FrameGiven → Memory → Type 0
+ArePassed m [] [] [] [] after = after ≡ m
+ArePassed m (offered ∷ offers) (frame ∷ frames) (slots ∷ sending) (given ∷ givens) after =
+    (next : Memory) × IsPassed m offered frame slots given next × ArePassed next offers frames sending givens after
+ArePassed m offers frames sending givens after = ⊥

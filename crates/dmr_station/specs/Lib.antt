@@ -2,6 +2,7 @@ pub mod Announced
 pub mod Clean
 pub mod Downlink
 pub mod Frames
+pub mod GatewayFrames
 pub mod Meaning
 pub mod Pairs
 pub mod Sent

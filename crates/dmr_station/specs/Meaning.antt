@@ -1,15 +1,25 @@
 -- What goes out for recordings of well-formed transmissions in both slots: what they mean.
-use Rattle.std.specs.Prelude.{ℕ, ◌≡◌, List, [], ◌++◌, length, replicate, take, Option}
+use Rattle.std.specs.Prelude.{ℕ, ◌≡◌, List, [], ◌∷◌, ◌++◌, length, replicate, take, Option}
+use Rattle.dmr_burst.specs.declared.burst.Burst.{Burst}
+use Rattle.dmr_gateway.specs.Heard.{IsReading, nothing}
+use Rattle.dmr_gateway.specs.Records.{received_now}
+use Rattle.dmr_gateway.specs.declared.heard.Heard.{Heard}
+use Rattle.dmr_gateway.specs.declared.received.Received.{Received}
+use Rattle.dmr_record.specs.Outgoing.{Sending}
+use Rattle.dmr_record.specs.Received.{Receipt}
 use Rattle.dmr_slot.specs.Bursts.{AreSlotOuts}
 use Rattle.dmr_slot.specs.Line.{LineOut, lines}
 use Rattle.dmr_slot.specs.declared.line.SlotOut.{SlotOut}
 use Rattle.dmr_voice.specs.DamagedRecordings.{IsDamagedRecordingOf, meant}
 use Rattle.dmr_voice.specs.Transmissions.{Transmission, Cell, sent_list}
 use Rattle.dmr_voice.specs.WellFormed.{IsWellFormed}
-use Rattle.dmr_voice.specs.declared.said.Said.TheVariants.{Nothing}
+use Rattle.dmr_voice.specs.declared.said.Content.TheVariants.{Data, First, Middle, Last}
+use Rattle.dmr_voice.specs.declared.said.Said.{Said}
+use Rattle.dmr_voice.specs.declared.said.Said.TheVariants.{Nothing, Repeat}
 use Rattle.dmr_station.specs.declared.sending.DownlinkBurst.{DownlinkBurst}
 use Rattle.dmr_station.specs.Downlink.{slots_in, handed, IsDownlinkOf, Makes}
-use Rattle.dmr_station.specs.Frames.{Settings}
+use Rattle.dmr_station.specs.Frames.{Settings, Counts}
+use Rattle.dmr_station.specs.GatewayFrames.{IsGatewayOf}
 
 -- 1. What both slots mean.
 
@@ -25,23 +35,30 @@ IsLineOfWhatIsMeant s cells slots outs = AreSlotOuts s.colour (line_of_meaning s
 abbrev pub IsFrontOfWhatIsMeant : Settings → List Cell → List (Option (List ℕ)) → ℕ → List SlotOut → Type 0
 IsFrontOfWhatIsMeant s cells slots count outs = AreSlotOuts s.colour (take count (line_of_meaning s cells slots)) outs
 
--- What goes out where this was sent in both slots, of which these frames are a recording.
+-- What goes out where this was sent in both slots, of which these frames are a recording, and these datagrams are offered in each
+-- frame of the downlink; what is received; and what is counted of the gateway.
 pub record IsDownlinkOfWhatIsMeant (s : Settings) (first second : List Cell) (frames : List (List (Option (List ℕ))))
-    (sending : List (List (Option DownlinkBurst))) : Type 0 where
+    (offers : List (List Sending)) (sending : List (List (Option DownlinkBurst))) (receipts : List Receipt)
+    (counts : Counts) : Type 0 where
   pub first_outs : List SlotOut
   pub second_outs : List SlotOut
   pub first_line : IsLineOfWhatIsMeant s first (slots_in 0 frames) first_outs
   pub second_line : IsLineOfWhatIsMeant s second (slots_in 1 frames) second_outs
-  pub downlink : IsDownlinkOf s first_outs second_outs sending
+  pub gates : List (List (Option Burst))
+  pub gateway : IsGatewayOf s offers first_outs second_outs gates receipts counts
+  pub downlink : IsDownlinkOf s first_outs second_outs gates sending
 
 -- The first so many frames of it.
 pub record IsFrontOfTheDownlink (s : Settings) (first second : List Cell) (frames : List (List (Option (List ℕ)))) (count : ℕ)
-    (sending : List (List (Option DownlinkBurst))) : Type 0 where
+    (offers : List (List Sending)) (sending : List (List (Option DownlinkBurst))) (receipts : List Receipt)
+    (counts : Counts) : Type 0 where
   pub first_outs : List SlotOut
   pub second_outs : List SlotOut
   pub first_line : IsFrontOfWhatIsMeant s first (slots_in 0 frames) count first_outs
   pub second_line : IsFrontOfWhatIsMeant s second (slots_in 1 frames) count second_outs
-  pub downlink : IsDownlinkOf s first_outs second_outs sending
+  pub gates : List (List (Option Burst))
+  pub gateway : IsGatewayOf s offers first_outs second_outs gates receipts counts
+  pub downlink : IsDownlinkOf s first_outs second_outs gates sending
 
 -- 2. The rules send what is meant.
 
@@ -61,11 +78,32 @@ ForWhatWasRecorded colour Holds =
 -- What the rules make of a recording that is handed over whole is what the transmissions mean,
 abbrev pub SendsWhatIsMeant : Type 0
 SendsWhatIsMeant = (s : Settings) → ForWhatWasRecorded s.colour (λ first second frames.
-    (sending : List (List (Option DownlinkBurst))) → Makes s (handed frames) sending
-    → IsDownlinkOfWhatIsMeant s first second frames sending)
+    (offers : List (List Sending)) (sending : List (List (Option DownlinkBurst))) (receipts : List Receipt) (counts : Counts)
+    → Makes s offers (handed frames) sending receipts counts
+    → IsDownlinkOfWhatIsMeant s first second frames offers sending receipts counts)
 
 -- and what they make of a front of it is a front of that.
 abbrev pub SendsFrontOfWhatIsMeant : Type 0
 SendsFrontOfWhatIsMeant = (s : Settings) → ForWhatWasRecorded s.colour (λ first second frames.
-    (front rest : List (List (Option (List ℕ)))) (sending : List (List (Option DownlinkBurst))) → handed frames ≡ front ++ rest
-    → Makes s front sending → IsFrontOfTheDownlink s first second frames (length front) sending)
+    (front rest : List (List (Option (List ℕ)))) (offers : List (List Sending)) (sending : List (List (Option DownlinkBurst)))
+    (receipts : List Receipt) (counts : Counts) → handed frames ≡ front ++ rest → Makes s offers front sending receipts counts
+    → IsFrontOfTheDownlink s first second frames (length front) offers sending receipts counts)
+
+-- 3. What a gateway receives of what is meant.
+
+-- What a slot means to a gateway: data is heard as what its information reads as, and anything else as nothing.
+abbrev pub IsHeardOf : Said → Heard → Type 0
+IsHeardOf (Repeat (Data kind information) role) h = IsReading kind information h
+IsHeardOf said h = h ≡ nothing
+
+-- The records of a slot whose places mean this: of each place what is received in it, after those heard before, newest first.
+abbrev pub AreRecordsOf : ℕ → ℕ → List Heard → List Said → List (List Received) → Type 0
+AreRecordsOf llid slot back [] [] = Unit {0}
+AreRecordsOf llid slot back (said ∷ more) (received ∷ rest) =
+    (h : Heard) × IsHeardOf said h × (received ≡ received_now llid slot (h ∷ back)) × AreRecordsOf llid slot (h ∷ back) more rest
+AreRecordsOf llid slot back saids records = ⊥
+
+-- What transmissions mean, and what a gateway receives of them.
+pub record IsSameMeaning (a b : List Said) : Type 0 where
+  pub said : a ≡ b
+  pub records : (llid slot : ℕ) (x y : List (List Received)) → AreRecordsOf llid slot [] a x → AreRecordsOf llid slot [] b y → x ≡ y

@@ -1,64 +1,153 @@
--- A base station: the records that it gives for the frames of the uplink that it takes.
-use Rattle.std.specs.Prelude.{ℕ, ◌≡◌, ◌+◌, ◌*◌, List, [], ◌∷◌, Option}
-use Rattle.std.specs.List.{flat_map}
+-- A base station: what it gives for the frames of the uplink that it takes and the datagrams that it is offered.
+use Rattle.std.specs.Prelude.{ℕ, ◌≡◌, ◌+◌, ◌*◌, ◌^◌, ◌≤◌, List, [], ◌∷◌, ◌++◌, length, map, Option, option_to_list, Result}
+use Rattle.std.specs.List.{AllByRecursion, flat_map}
+use Rattle.dmr_arq.specs.declared.sender.Outcome.{Outcome}
+use Rattle.dmr_arq.specs.declared.sender.Outcome.TheVariants.{Delivered, Sent, GivenUp}
+use Rattle.dmr_gateway.specs.Gateway.{Gate, IsOffer, refusal, next_received, after_received}
+use Rattle.dmr_gateway.specs.Packets.{fault_of}
+use Rattle.dmr_gateway.specs.declared.fault.GatewayFault.{GatewayFault}
+use Rattle.dmr_gateway.specs.declared.received.Received.{Received}
+use Rattle.dmr_record.specs.Outgoing.{Sending}
+use Rattle.dmr_record.specs.Received.{Receipt}
+use Rattle.dmr_record.specs.declared.outgoing.Outgoing.{Outgoing}
 use Rattle.dmr_station.specs.declared.sending.DownlinkBurst.{DownlinkBurst}
+use Rattle.dmr_station.specs.declared.station.Counts.{Counts as StationCounts}
 use Rattle.dmr_station.specs.Clean.{IsCleanDownlink}
 use Rattle.dmr_station.specs.Downlink.{repeated_count, slots_of, Makes}
-use Rattle.dmr_station.specs.Frames.{Settings, Memory, start, settings_in as settings_remembered, IsPassed}
+use Rattle.dmr_station.specs.Frames.{Settings, Memory, Counts, start, settings_in as settings_remembered, nothing_counted, outcome_count}
+use Rattle.dmr_station.specs.Frames.{IsAsked, received_of, outcomes_of, received_taken, outcomes_told}
+use Rattle.dmr_station.specs.GatewayFrames.{AreReadFrom, AreForSlots, receipt_of}
+use Rattle.dmr_station.specs.Pairs.{Pairwise}
 use Rattle.dmr_station.specs.Sent.{AreSentAs}
 
 -- 1. Between two frames.
 
--- What a station remembers, how many frames of the downlink it has sent, and how many of their slots repeated a burst.
+-- What a station remembers, how many frames of the downlink it has sent, how many of their slots repeated a burst, how many
+-- datagrams it was offered, and what it counts of the gateway.
 pub record State : Type 0 where
   pub memory : Memory
   pub frames : ℕ
   pub repeated : ℕ
+  pub offered : ℕ
+  pub counts : Counts
+
+-- What the program's counters hold.
+abbrev pub counts_of_gateway : StationCounts → Counts
+counts_of_gateway c =
+    record { received = c.received; delivered = c.delivered; sent = c.sent; given_up = c.given_up; refused = c.refused }
+
+abbrev pub state_of : Memory → StationCounts → State
+state_of m c =
+    record { memory = m; frames = c.frames; repeated = c.repeated; offered = c.offered; counts = counts_of_gateway c }
 
 -- A station that has heard and sent nothing.
 abbrev pub fresh : Settings → State
-fresh s = record { memory = start s; frames = 0; repeated = 0 }
+fresh s = record { memory = start s; frames = 0; repeated = 0; offered = 0; counts = nothing_counted }
 
 abbrev pub settings_in : State → Settings
 settings_in state = settings_remembered state.memory
 
 -- 2. One frame.
 
--- A frame of the uplink is taken, and the records of a frame of the downlink are given: what goes out by the rules, exactly
--- encoded in the place that it has among all records of the downlink, and counted.
+-- A datagram is offered to the gateway, and counted where it is refused.
+abbrev pub after_offer : Gate → ℕ → State → State
+after_offer gate refused s =
+    record s {
+      memory = record s.memory { gate = gate };
+      offered = s.offered + 1;
+      counts = record s.counts { refused = s.counts.refused + refused };
+    }
+
+pub record IsOffered (before : State) (o : Outgoing) (after : State) : Type 0 where
+  pub result : Result (Unit {0}) GatewayFault
+  pub gate : Gate
+  pub offer : IsOffer (fault_of o) o result before.memory.gate gate
+  pub state : after ≡ after_offer gate (refusal result) before
+
+-- datagrams, one after another
+abbrev pub AreOffered : State → List Outgoing → State → Type 0
+AreOffered before [] after = after ≡ before
+AreOffered before (o ∷ more) after = (next : State) × IsOffered before o next × AreOffered next more after
+
+-- What became of packets is counted.
+abbrev pub with_outcomes : List Outcome → Counts → Counts
+with_outcomes outcomes c =
+    record c {
+      delivered = c.delivered + outcome_count Delivered outcomes;
+      sent = c.sent + outcome_count Sent outcomes;
+      given_up = c.given_up + outcome_count GivenUp outcomes;
+    }
+
+-- A frame of the uplink is taken, and the records of a frame of the downlink are given: what goes out by the rules, exactly encoded,
+-- in the place that it has among all records of the downlink, and counted. What became of the gateway's packets is counted too; what
+-- it received is still to be taken.
 pub record IsExchanged (before : State) (frame : List (Option (List ℕ))) (records : List (Option (List ℕ × List ℕ)))
     (after : State) : Type 0 where
   pub sending : List (Option DownlinkBurst)
-  pub passed : IsPassed before.memory frame sending after.memory
+  pub asked : Memory
+  pub is_asked : IsAsked before.memory frame sending asked
+  pub memory : after.memory ≡ record asked { gate = outcomes_told asked.gate }
   pub encoded : AreSentAs (2 * before.frames) sending records
   pub frames : after.frames ≡ before.frames + 1
   pub repeated : after.repeated ≡ before.repeated + repeated_count sending
+  pub offered : after.offered ≡ before.offered
+  pub counts : after.counts ≡ with_outcomes (outcomes_of asked.gate) before.counts
 
--- 3. Frame after frame.
+-- What the gateway received is taken, one after another, and counted.
+abbrev pub with_received : Gate → ℕ → State → State
+with_received gate count s =
+    record s { memory = record s.memory { gate = gate }; counts = record s.counts { received = s.counts.received + count } }
 
-abbrev pub AreExchanged : State → List (List (Option (List ℕ))) → List (List (Option (List ℕ × List ℕ))) → State → Type 0
-AreExchanged before [] [] after = after ≡ before
-AreExchanged before [] (records ∷ more) after = ⊥
-AreExchanged before (frame ∷ frames) [] after = ⊥
-AreExchanged before (frame ∷ frames) (records ∷ more) after =
-    (next : State) × IsExchanged before frame records next × AreExchanged next frames more after
+abbrev pub taken_once : State → State
+taken_once s = with_received (after_received s.memory.gate) (length (option_to_list (next_received s.memory.gate))) s
+
+abbrev pub all_taken : State → State
+all_taken s = with_received (received_taken s.memory.gate) (length (received_of s.memory.gate)) s
+
+-- The counters stay below the frames and the offers, however much is still to be taken.
+pub record IsWithinFrames (s : State) : Type 0 where
+  pub frames : s.frames ≤ 2 ^ 29
+  pub repeated : s.repeated ≤ 2 * s.frames
+  pub received : s.counts.received + length (received_of s.memory.gate) ≤ 4 * s.frames
+  pub delivered : s.counts.delivered ≤ 2 * s.frames
+  pub sent : s.counts.sent ≤ 2 * s.frames
+  pub given_up : s.counts.given_up ≤ 2 * s.frames
+  pub refused : s.counts.refused ≤ s.offered
+
+-- 3. Frame after frame, each with the datagrams that are offered in it.
+
+abbrev pub AreExchanged : State → List (List Outgoing) → List (List (Option (List ℕ))) → List (List (Option (List ℕ × List ℕ))) →
+    List (List Received) → State → Type 0
+AreExchanged before [] [] [] [] after = after ≡ before
+AreExchanged before (offered ∷ offers) (frame ∷ frames) (records ∷ more) (received ∷ others) after =
+    (ready : State) × (next : State) × AreOffered before offered ready × IsExchanged ready frame records next
+    × (received ≡ received_of next.memory.gate) × AreExchanged (all_taken next) offers frames more others after
+AreExchanged before offers frames records received after = ⊥
 
 -- The records of frames, in order.
 abbrev pub records_of : List (List (Option (List ℕ × List ℕ))) → List (Option (List ℕ × List ℕ))
 records_of frames = flat_map (λ frame. frame) frames
 
--- What is sent where these frames were taken: what the rules make of them by looking back, exactly encoded, and all clean; and how
--- many of its slots repeat a burst.
-pub record IsSentFor (s : Settings) (frames : List (List (Option (List ℕ)))) (repeated : ℕ)
-    (sent : List (Option (List ℕ × List ℕ))) : Type 0 where
+-- The records of what was received in frames, from this frame on.
+abbrev pub receipts_from : ℕ → List (List Received) → List Receipt
+receipts_from frame [] = []
+receipts_from frame (received ∷ more) = map (receipt_of frame) received ++ receipts_from (frame + 1) more
+
+-- What is sent where these frames were taken and these datagrams offered in each: what the rules make of them by looking back,
+-- exactly encoded, and all clean; what is received; how many slots repeat a burst, and what is counted of the gateway.
+pub record IsSentFor (s : Settings) (offers : List (List Sending)) (frames : List (List (Option (List ℕ)))) (repeated : ℕ)
+    (counts : Counts) (receipts : List Receipt) (sent : List (Option (List ℕ × List ℕ))) : Type 0 where
   pub sending : List (List (Option DownlinkBurst))
-  pub makes : Makes s frames sending
+  pub makes : Makes s offers frames sending receipts counts
   pub repeats : repeated ≡ repeated_count (slots_of sending)
   pub encoded : AreSentAs 0 (slots_of sending) sent
   pub clean : IsCleanDownlink s.colour sent
 
--- Whatever frames a new station takes, this is what it gives for them.
+-- Whatever frames a new station takes, and whatever datagrams it is offered before each, this is what it gives for them.
 abbrev pub SendsByTheRules : Type 0
 SendsByTheRules =
-    (s : Settings) (frames : List (List (Option (List ℕ)))) (records : List (List (Option (List ℕ × List ℕ)))) (after : State)
-    → AreExchanged (fresh s) frames records after → IsSentFor s frames after.repeated (records_of records)
+    (s : Settings) (records_read : List (List Outgoing)) (offers : List (List Sending)) (frames : List (List (Option (List ℕ))))
+    (records : List (List (Option (List ℕ × List ℕ)))) (received : List (List Received)) (after : State)
+    → Pairwise AreReadFrom records_read offers → AllByRecursion AreForSlots offers
+    → AreExchanged (fresh s) records_read frames records received after
+    → IsSentFor s offers frames after.repeated after.counts (receipts_from 0 received) (records_of records)

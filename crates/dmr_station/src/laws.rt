@@ -10,8 +10,8 @@ ghost use Rattle.dmr_station.specs.Meaning.{SendsFrontOfWhatIsMeant, SendsWhatIs
 ghost use Rattle.dmr_station.specs.Sent.{AreSentAs};
 ghost use Rattle.dmr_station.specs.Station.{SendsByTheRules};
 
-/// Whatever frames a new station takes, one after another, it gives the exact encoding of what the rules make of them by looking
-/// back, all clean, and counts it.
+/// Whatever frames a new station takes, one after another, and whatever datagrams it is offered before each, it gives the exact
+/// encoding of what the rules make of them by looking back, all clean; receives what is completed for the gateway; and counts it.
 pub fn sends_by_the_rules()
     ensures law { SendsByTheRules }
 {}
@@ -27,10 +27,10 @@ pub fn sends_front_of_what_is_meant()
     ensures law { SendsFrontOfWhatIsMeant }
 {}
 
-/// What the lines of both slots give goes out in one way.
+/// What the lines of both slots and the gateway give goes out in one way.
 pub fn one_downlink()
-    ensures law { (s : Settings) (first second : List SlotOut) (a b : List (List (Option DownlinkBurst)))
-        → IsDownlinkOf s first second a → IsDownlinkOf s first second b → a ≡ b }
+    ensures law { (s : Settings) (first second : List SlotOut) (gates : List (List (Option Burst)))
+        (a b : List (List (Option DownlinkBurst))) → IsDownlinkOf s first second gates a → IsDownlinkOf s first second gates b → a ≡ b }
 {}
 
 /// What slots of the downlink send has one encoding.

@@ -1,31 +1,31 @@
-//! The lines of both slots, and the channel that they share.
+//! The lines of both slots, the channel that they share, and the gateway.
 ghost use Rattle.std.specs.Prelude.{◌≡◌, All, IfOk, IfSome};
 ghost use Rattle.dmr_burst.specs.Layout.{IsBurst};
+ghost use Rattle.dmr_gateway.specs.Gateway.{IsSlot};
 ghost use Rattle.dmr_station.specs.Announced.{IsFitMessage};
-ghost use Rattle.dmr_station.specs.Frames.{marked as marked_burst, marked_slots as marked_bursts};
+ghost use Rattle.dmr_station.specs.Frames.{marked as marked_burst, marked_slots as marked_bursts, IsSlotAsked};
 ghost use Rattle.dmr_station.specs.Sent.{FitsItsFields};
 
 use crate::announcing::{Announcer, Message};
 use crate::sending::DownlinkBurst;
 use dmr_burst::Burst;
-use dmr_gateway::Config;
+use dmr_gateway::{Config, Gateway, GatewayFault, Outcome, Received};
+use dmr_record::Outgoing;
 use dmr_slot::{Channel, SlotLine, SlotOut};
 use std::alloc::{AllocError, Global};
 use std::marker::Model;
 
-/// What the gateway has for both slots as long as there is none.
-const NO_GATEWAY: [Option<Burst>; 2] = [None, None];
-
-/// The lines of both slots, and the channel that they share.
+/// The lines of both slots, the channel that they share, and the gateway.
 #[derive(Drop)]
 pub struct Lines {
     first: SlotLine,
     second: SlotLine,
     channel: Channel,
+    gateway: Gateway,
     announcer: Announcer,
 }
 
-// Clauses see what the lines and the channel remember, and the message that is kept.
+// Clauses see what the lines, the channel and the gateway remember, and the message that is kept.
 impl Model for Lines {
     ghost use Rattle.std.specs.Prelude.{IfSome};
     ghost use Rattle.dmr_station.specs.Announced.{IsFitMessage};
@@ -33,38 +33,89 @@ impl Model for Lines {
 
     ghost Value = { Memory };
 
-    ghost view = { λ l. record { first = l.first; second = l.second; channel = l.channel; kept = l.announcer.kept } };
+    ghost view = { λ l. record { first = l.first; second = l.second; channel = l.channel; gate = l.gateway; kept = l.announcer.kept } };
 
     ghost invariant = { λ l. IfSome l.announcer.kept IsFitMessage };
 }
 
 impl Lines {
-    ghost use Rattle.dmr_station.specs.Frames.{settings_of, start, IsPassed};
+    ghost use Rattle.dmr_gateway.specs.Gateway.{IsOffer, IsSlot};
+    ghost use Rattle.dmr_gateway.specs.Packets.{fault_of};
+    ghost use Rattle.std.specs.Prelude.{option_to_list};
+    ghost use Rattle.std.specs.List.{flat_map};
+    ghost use Rattle.dmr_gateway.specs.Gateway.{next_received, after_received};
+    ghost use Rattle.dmr_gateway.specs.Received.{IsFitReceived};
+    ghost use Rattle.dmr_station.specs.Frames.{settings_of, start, IsAsked, outcomes_of, outcomes_told};
 
-    /// Lines that have heard nothing. They take memory here alone, once for each slot.
+    /// Lines and a gateway that have heard nothing. They take memory here alone, once for each slot, and then once for the
+    /// gateway.
     pub fn new(alloc: Global, config: &Config) -> Result<Lines, AllocError>
         ensures start { IfOk result (λ lines. lines ≡ start (settings_of config.now)) }
     {
         let first = SlotLine::new(alloc, config.colour, config.call_hang)?;
         let second = SlotLine::new(alloc, config.colour, config.call_hang)?;
+        let Ok(gateway) = Gateway::new(alloc, *config) else {
+            return Err(AllocError);
+        };
         Ok(Lines {
             first,
             second,
             channel: Channel::new(config.colour, config.channel_hang),
+            gateway,
             announcer: Announcer::new(),
         })
     }
 
+    /// Offers a datagram to the gateway.
+    pub fn offer(&mut self, outgoing: &Outgoing) -> Result<(), GatewayFault>
+        requires slot { IsSlot outgoing.now.slot }
+        ensures offer { IsOffer (fault_of outgoing.now) outgoing.now result self.old.gate self.new.gate }
+        ensures others { self.new ≡ record self.old { gate = self.new.gate } }
+    {
+        self.gateway.offer(outgoing)
+    }
+
     /// Takes a frame of the uplink, and gives what goes out in the frame of the downlink that is decided then.
     pub fn pass(&mut self, frame: &[Option<[u8; 33]>; 2]) -> [Option<DownlinkBurst>; 2]
-        ensures passed { IsPassed self.old frame.now result self.new }
+        ensures asked { IsAsked self.old frame.now result self.new }
         ensures fit { All FitsItsFields result }
     {
         let outs = [self.first.push(&frame[0]), self.second.push(&frame[1])];
-        let bursts = self.channel.frame(&outs, &NO_GATEWAY);
+        let first = next_burst(&mut self.gateway, 1, &outs[0]);
+        let second = next_burst(&mut self.gateway, 2, &outs[1]);
+        let bursts = self.channel.frame(&outs, &[first, second]);
         let message = self.announcer.next(&outs);
         marked_slots(message, &outs, &bursts)
     }
+
+    /// What the gateway received, one after the other, slot 1's first and of a slot its status first.
+    pub fn take_received(&mut self) -> Option<Received>
+        ensures received { result ≡ next_received self.old.gate }
+        ensures taken { self.new ≡ record self.old { gate = after_received self.old.gate } }
+        ensures fit { IfSome result IsFitReceived }
+    {
+        self.gateway.take_received()
+    }
+
+    /// What became of the gateway's packets, one in each slot at most, slot 1's first.
+    pub fn take_outcomes(&mut self) -> [Option<Outcome>; 2]
+        ensures outcomes { flat_map option_to_list result ≡ outcomes_of self.old.gate }
+        ensures told { self.new ≡ record self.old { gate = outcomes_told self.old.gate } }
+    {
+        let first = self.gateway.take_outcome();
+        let second = self.gateway.take_outcome();
+        [first, second]
+    }
+}
+
+/// What the gateway has for a slot, 1 or 2, once it has heard what the line repeats.
+fn next_burst(gateway: &mut Gateway, slot: u8, out: &SlotOut) -> Option<Burst>
+    requires slot { IsSlot slot }
+    ensures asked { IsSlotAsked slot out.now gateway.old result gateway.new }
+    ensures fit { IfSome result IsBurst }
+{
+    gateway.heard(slot, out.repeated.as_ref());
+    gateway.next(slot, out.repeated.is_none() && out.hang.is_none())
 }
 
 /// The burst of a slot, with whether its line repeats it and the message of its frame.

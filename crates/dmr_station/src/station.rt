@@ -1,10 +1,13 @@
 //! The base station, frame after frame.
-ghost use Rattle.std.specs.Prelude.{◌≡◌, ◌+◌, ◌*◌, ◌^◌, ◌<◌, ◌≤◌, IfOk};
+ghost use Rattle.std.specs.Prelude.{◌≡◌, ◌+◌, ◌*◌, ◌^◌, ◌<◌, ◌≤◌, IfOk, IfSome, option_to_list, if◌then◌else◌};
+ghost use Rattle.std.specs.List.{flat_map};
 ghost use Rattle.dmr_station.specs.Downlink.{is_repeated as slot_is_repeated, repeated_count};
+ghost use Rattle.dmr_station.specs.Frames.{outcome_count};
 
 use crate::lines::Lines;
 use crate::sending::{DownlinkBurst, encode_frame};
-use dmr_gateway::Config;
+use dmr_gateway::{Config, Outcome, Received};
+use dmr_record::Outgoing;
 use std::alloc::{AllocError, Global};
 use std::marker::Model;
 
@@ -24,6 +27,18 @@ pub struct Counts {
     pub frames: u32,
     /// Slots that repeated a burst.
     pub repeated: u32,
+    /// Datagrams that were offered.
+    pub offered: u32,
+    /// Datagrams that the gateway refused.
+    pub refused: u32,
+    /// What the gateway received: datagrams, short data and statuses.
+    pub received: u32,
+    /// Confirmed packets that were delivered.
+    pub delivered: u32,
+    /// Unconfirmed packets that were sent.
+    pub sent: u32,
+    /// Confirmed packets that were given up.
+    pub given_up: u32,
 }
 
 /// A base station between two frames.
@@ -35,21 +50,23 @@ pub struct Station {
 
 // Clauses see what the station remembers, and what it has done.
 impl Model for Station {
-    ghost use Rattle.std.specs.Prelude.{◌*◌, ◌≤◌};
-    ghost use Rattle.dmr_station.specs.Station.{State};
+    ghost use Rattle.dmr_station.specs.Station.{State, IsWithinFrames, state_of};
 
     ghost Value = { State };
 
-    ghost view = { λ s. record { memory = s.lines; frames = s.counts.frames; repeated = s.counts.repeated } };
+    ghost view = { λ s. state_of s.lines s.counts };
 
-    ghost invariant = { λ s. s.counts.repeated ≤ 2 * s.counts.frames };
+    ghost invariant = { λ s. IsWithinFrames (state_of s.lines s.counts) };
 }
 
 impl Station {
+    ghost use Rattle.dmr_gateway.specs.Received.{IsFitReceived};
+    ghost use Rattle.dmr_gateway.specs.Gateway.{IsSlot, next_received};
     ghost use Rattle.dmr_station.specs.Frames.{settings_of};
-    ghost use Rattle.dmr_station.specs.Station.{fresh, IsExchanged};
+    ghost use Rattle.dmr_station.specs.Station.{fresh, IsOffered, IsExchanged, taken_once, counts_of_gateway};
 
-    /// A station that has heard and sent nothing. It takes memory here alone, once for each slot.
+    /// A station that has heard and sent nothing. It takes memory here alone, once for each slot's line, and once for each slot of
+    /// the gateway.
     pub fn new(alloc: Global, config: &Config) -> Result<Station, AllocError>
         ensures fresh { IfOk result (λ station. station ≡ fresh (settings_of config.now)) }
     {
@@ -58,30 +75,87 @@ impl Station {
             counts: Counts {
                 frames: 0,
                 repeated: 0,
+                offered: 0,
+                refused: 0,
+                received: 0,
+                delivered: 0,
+                sent: 0,
+                given_up: 0,
             },
         })
     }
 
+    /// Offers a datagram to the gateway, before the frame in which it is due. There are less than 2^32 - 1 of them.
+    pub fn offer(&mut self, outgoing: &Outgoing)
+        requires slot { IsSlot outgoing.now.slot }
+        requires offers { self.old.offered + 1 < 2 ^ 32 }
+        ensures offered { IsOffered self.old outgoing.now self.new }
+    {
+        self.counts.offered += 1;
+        match self.lines.offer(outgoing) {
+            Ok(()) => {}
+            Err(_) => self.counts.refused += 1,
+        }
+    }
+
     /// Takes a frame of the uplink, and gives the records of the frame of the downlink that is decided then. What is received in
-    /// uplink frame f-1 is taken for downlink frame f, and repeated six frames after its own. There are less than 2^30 frames.
+    /// uplink frame f-1 is taken for downlink frame f, and repeated six frames after its own. There are less than 2^29 frames.
     pub fn exchange(&mut self, frame: &UplinkFrame) -> DownlinkFrame
-        requires frames { self.old.frames < 2 ^ 30 }
+        requires frames { self.old.frames < 2 ^ 29 }
         ensures exchanged { IsExchanged self.old frame.now result self.new }
     {
         let slots = self.lines.pass(frame);
         let records = encode_frame(2 * self.counts.frames, &slots);
+        let outcomes = self.lines.take_outcomes();
         self.counts.frames += 1;
         self.counts.repeated += count_repeated(&slots);
+        self.counts.delivered += count_outcome(Outcome::Delivered, &outcomes);
+        self.counts.sent += count_outcome(Outcome::Sent, &outcomes);
+        self.counts.given_up += count_outcome(Outcome::GivenUp, &outcomes);
         records
+    }
+
+    /// What the gateway received in the frame, one after the other, slot 1's first and of a slot its status first. What isn't
+    /// taken goes with the next frame.
+    pub fn take_received(&mut self) -> Option<Received>
+        ensures received { result ≡ next_received self.old.memory.gate }
+        ensures taken { self.new ≡ taken_once self.old }
+        ensures fit { IfSome result IsFitReceived }
+    {
+        let received = self.lines.take_received();
+        self.counts.received += u32::from(received.is_some());
+        received
     }
 
     /// What the station has done so far.
     pub fn counts(&self) -> Counts
         ensures frames { result.frames ≡ self.now.frames }
         ensures repeated { result.repeated ≡ self.now.repeated }
+        ensures offered { result.offered ≡ self.now.offered }
+        ensures gateway { counts_of_gateway result ≡ self.now.counts }
     {
         self.counts
     }
+}
+
+/// Whether a packet came to this.
+fn is_outcome(outcome: Outcome, told: Option<Outcome>) -> bool
+    ensures value { (if result then 1 else 0) ≡ outcome_count outcome (option_to_list told) }
+{
+    match (outcome, told) {
+        (Outcome::Delivered, Some(Outcome::Delivered))
+        | (Outcome::Sent, Some(Outcome::Sent))
+        | (Outcome::GivenUp, Some(Outcome::GivenUp)) => true,
+        _ => false,
+    }
+}
+
+/// How many packets of a frame came to this.
+fn count_outcome(outcome: Outcome, told: &[Option<Outcome>; 2]) -> u32
+    ensures value { result ≡ outcome_count outcome (flat_map option_to_list told.now) }
+    ensures bound { result ≤ 2 }
+{
+    u32::from(is_outcome(outcome, told[0])) + u32::from(is_outcome(outcome, told[1]))
 }
 
 /// Whether a slot repeats a burst.

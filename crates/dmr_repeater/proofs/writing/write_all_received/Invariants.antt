@@ -1,0 +1,14 @@
+-- What is taken so far is written.
+use Rattle.std.proofs.Common.{◌≡◌, false, length}
+use Rattle.dmr_station.specs.Frames.{received_of}
+use Rattle.dmr_repeater.proofs.Received.{Written}
+use Rattle.dmr_repeater.proofs.writing.write_all_received.Given as goal
+
+abbrev pub invariant-loop-one : goal.invariant-loop-one
+invariant-loop-one g l = record {
+  well : g.R.Sink.has_failed l.received ≡ false;
+  written : Written l.number l.fn.station l.station (g.R.Sink.held l.initial.received) (g.R.Sink.held l.received);
+}
+
+abbrev pub decreases-loop-one : goal.decreases-loop-one
+decreases-loop-one g l = length (received_of l.station.memory.gate)

@@ -1,0 +1,52 @@
+-- What a slot means is heard in one way, and so a gateway receives one thing of it.
+use Rattle.std.proofs.Common.{◌≡◌, ℕ, Bool, List, [], ◌∷◌, Option, Some, None, refl, sym, ◌∙◌, ap, subst}
+use Rattle.dmr_gateway.specs.Heard.{Tells, IsReading, nothing}
+use Rattle.dmr_gateway.specs.Records.{received_now}
+use Rattle.dmr_gateway.specs.declared.heard.Heard.{Heard}
+use Rattle.dmr_gateway.specs.declared.received.Received.{Received}
+use Rattle.dmr_voice.specs.declared.said.Content.TheVariants.{Data, First, Middle, Last}
+use Rattle.dmr_voice.specs.declared.said.Said.{Said}
+use Rattle.dmr_voice.specs.declared.said.Said.TheVariants.{Nothing, Repeat}
+use Rattle.dmr_station.specs.Meaning.{IsHeardOf, AreRecordsOf, IsSameMeaning}
+
+-- what is told is one thing
+pub told_alike : {X : Type 0} (a b : Option X) (P : X → Type 0) → Tells a P → Tells b P → a ≡ b
+told_alike None None P u v = refl
+told_alike None (Some y) P u v = (u y).1 ((v y).0 refl)
+told_alike (Some x) None P u v = sym ((v x).1 ((u x).0 refl))
+told_alike (Some x) (Some y) P u v = sym ((v x).1 ((u x).0 refl))
+
+pub read_alike : (kind : ℕ) (information : List Bool) (a b : Heard) → IsReading kind information a → IsReading kind information b → a ≡ b
+read_alike kind information a b u v =
+    ap (λ x. record a { header = x }) (told_alike a.header b.header _ u.header v.header)
+    ∙ ap (λ x. record a { header = b.header; unconfirmed = x }) (told_alike a.unconfirmed b.unconfirmed _ u.unconfirmed v.unconfirmed)
+    ∙ ap (λ x. record b { confirmed = x }) (told_alike a.confirmed b.confirmed _ u.confirmed v.confirmed)
+
+heard_alike : (said : Said) (a b : Heard) → IsHeardOf said a → IsHeardOf said b → a ≡ b
+heard_alike Nothing a b u v = u ∙ sym v
+heard_alike (Repeat (Data kind information) role) a b u v = read_alike kind information a b u v
+heard_alike (Repeat (First vocoder) role) a b u v = u ∙ sym v
+heard_alike (Repeat (Middle pi place lc vocoder) role) a b u v = u ∙ sym v
+heard_alike (Repeat (Last pi embedded vocoder) role) a b u v = u ∙ sym v
+
+pub one_reception : (saids : List Said) (llid slot : ℕ) (back : List Heard) (x y : List (List Received))
+    → AreRecordsOf llid slot back saids x → AreRecordsOf llid slot back saids y → x ≡ y
+one_reception [] llid slot back [] [] u v = refl
+one_reception [] llid slot back [] (y ∷ ys) u v = absurd v
+one_reception [] llid slot back (x ∷ xs) y u v = absurd u
+one_reception (said ∷ more) llid slot back [] y u v = absurd u
+one_reception (said ∷ more) llid slot back (x ∷ xs) [] u v = absurd v
+one_reception (said ∷ more) llid slot back (x ∷ xs) (y ∷ ys) u v =
+    let same : u.0 ≡ v.0 = heard_alike said u.0 v.0 u.1 v.1 in
+    let head : x ≡ y = u.2 ∙ ap (λ h. received_now llid slot (h ∷ back)) same ∙ sym v.2 in
+    let rest : AreRecordsOf llid slot (u.0 ∷ back) more ys =
+        subst (λ h. AreRecordsOf llid slot (h ∷ back) more ys) (sym same) v.3 in
+    let tail : xs ≡ ys = one_reception more llid slot (u.0 ∷ back) xs ys u.3 rest in
+    cc
+
+-- so what means the same is received alike
+pub same_meaning : (a b : List Said) → a ≡ b → IsSameMeaning a b
+same_meaning a b same = record {
+  said = same;
+  records = λ llid slot x y u v. one_reception a llid slot [] x y u (subst (λ saids. AreRecordsOf llid slot [] saids y) (sym same) v);
+}

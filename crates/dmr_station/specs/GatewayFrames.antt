@@ -1,0 +1,148 @@
+-- What the gateway makes of frames: the bursts that it has for both slots, what it receives, and what became of the datagrams that
+-- are offered to it.
+use Rattle.std.specs.Prelude.{◌≡◌, ℕ, zero, suc, ◌+◌, ◌==◌, List, [], ◌∷◌, ◌++◌, length, map, filter, count_by, sum}
+use Rattle.std.specs.Prelude.{Option, Some, None, is_some, option_to_list}
+use Rattle.std.specs.List.{AllByRecursion, flat_map}
+use Rattle.dmr_burst.specs.declared.burst.Burst.{Burst}
+use Rattle.dmr_arq.specs.declared.sender.Outcome.{Outcome}
+use Rattle.dmr_arq.specs.declared.sender.Outcome.TheVariants.{Delivered, Sent, GivenUp}
+use Rattle.dmr_record.specs.Outgoing.{Sending, Keeps, sending_of}
+use Rattle.dmr_record.specs.declared.outgoing.Outgoing.{Outgoing}
+use Rattle.dmr_record.specs.Received.{Receipt}
+use Rattle.dmr_slot.specs.declared.line.SlotOut.{SlotOut}
+use Rattle.dmr_gateway.specs.Attempts.{attempts, refused_now}
+use Rattle.dmr_gateway.specs.Bursts.{IsEncodedAs}
+use Rattle.dmr_gateway.specs.Gateway.{IsSlot}
+use Rattle.dmr_gateway.specs.Heard.{IsHeardAs}
+use Rattle.dmr_gateway.specs.Packets.{offer_fault, IsPacketFor}
+use Rattle.dmr_gateway.specs.Records.{received_now}
+use Rattle.dmr_gateway.specs.Runs.{Happening, all_heard, brings}
+use Rattle.dmr_gateway.specs.declared.fault.GatewayFault.{GatewayFault}
+use Rattle.dmr_gateway.specs.declared.queue.Queued.{Queued}
+use Rattle.dmr_gateway.specs.declared.received.Received.{Received}
+use Rattle.dmr_station.specs.Pairs.{Pairwise}
+use Rattle.dmr_station.specs.Frames.{Settings, Counts, is_free, outcome_count}
+
+-- 1. Offers.
+
+-- A record of the outgoing file as it was read: its fields, the length of its datagram, and the first of its octets.
+pub record IsReadFrom (o : Outgoing) (s : Sending) : Type 0 where
+  pub fields : sending_of o s.datagram ≡ s
+  pub keeps : Keeps o s.datagram
+
+abbrev pub AreReadFrom : List Outgoing → List Sending → Type 0
+AreReadFrom records sendings = Pairwise IsReadFrom records sendings
+
+-- Each datagram is for slot 1 or for slot 2.
+abbrev pub AreForSlots : List Sending → Type 0
+AreForSlots sendings = AllByRecursion (λ s. IsSlot s.slot) sendings
+
+-- The datagrams for a slot, in their order.
+abbrev pub of_slot : ℕ → List Sending → List Sending
+of_slot slot sendings = filter (λ s. s.slot == slot) sendings
+
+-- The datagrams of so many frames, from this one on: of each frame those that the outgoing file has for it.
+abbrev pub by_frame : ℕ → ℕ → List Sending → List (List Sending)
+by_frame frame zero sendings = []
+by_frame frame (suc count) sendings = filter (λ s. s.frame == frame) sendings ∷ by_frame (frame + 1) count sendings
+
+-- the fault that a datagram has of its own
+abbrev pub fault_of : Sending → Option GatewayFault
+fault_of s = offer_fault s.confirmed s.full (length s.datagram) s.datagram
+
+-- A datagram with a fault is refused; of any other there is the packet that is offered.
+abbrev pub OffersOne : Option GatewayFault → ℕ → Sending → List Queued → (List Queued → Type 0) → Type 0
+OffersOne (Some fault) llid s packets Rest = Rest packets
+OffersOne None llid s packets Rest =
+    (q : Queued) × (later : List Queued) × IsPacketFor llid s.confirmed s.full s.datagram q × (packets ≡ q ∷ later) × Rest later
+
+abbrev pub Offers : ℕ → List Sending → List Queued → Type 0
+Offers llid [] packets = packets ≡ []
+Offers llid (s ∷ sendings) packets = OffersOne (fault_of s) llid s packets (Offers llid sendings)
+
+abbrev pub faults_in : List Sending → ℕ
+faults_in sendings = count_by (λ s. is_some (fault_of s)) sendings
+
+-- 2. One slot.
+
+-- What a slot of the gateway gives in a frame: its burst, what it received, what became of a packet, and how many of the
+-- datagrams that were offered it refused.
+pub record Given : Type 0 where
+  pub burst : Option Burst
+  pub received : List Received
+  pub outcome : Option Outcome
+  pub refused : ℕ
+
+-- What happens in the slot in a frame: these datagrams are offered, the gateway hears what its line repeats, and the slot is free
+-- where its line gives nothing.
+pub record Happens (s : Settings) (offered : List Sending) (out : SlotOut) (h : Happening) : Type 0 where
+  pub offers : Offers s.llid offered h.offers
+  pub heard : IsHeardAs out.repeated h.heard
+  pub free : h.free ≡ is_free out
+
+-- What the slot gives in the newest frame: the burst of the attempt that stands in it, what is completed in it, what became of a
+-- packet; and refused are the datagrams with a fault, and those that found the queue full.
+pub record IsGiven (s : Settings) (slot : ℕ) (frames : List Happening) (offered : List Sending) (given : Given) : Type 0 where
+  pub burst : IsEncodedAs s.colour s.llid (attempts s.queue s.llid (brings s.llid frames)).burst given.burst
+  pub received : given.received ≡ received_now s.llid slot (all_heard frames)
+  pub outcome : given.outcome ≡ (attempts s.queue s.llid (brings s.llid frames)).ledger.outcome
+  pub refused : given.refused ≡ faults_in offered + refused_now s.queue s.llid (brings s.llid frames)
+
+-- Frame by frame, each with the datagrams that are offered in it, after those that happened before, the newest of them first.
+abbrev pub AreGiven : Settings → ℕ → List Happening → List (List Sending) → List SlotOut → List Given → Type 0
+AreGiven s slot back [] [] [] = Unit {0}
+AreGiven s slot back (offered ∷ offers) (out ∷ outs) (given ∷ more) =
+    (h : Happening) × Happens s (of_slot slot offered) out h × IsGiven s slot (h ∷ back) (of_slot slot offered) given
+    × AreGiven s slot (h ∷ back) offers outs more
+AreGiven s slot back offers outs givens = ⊥
+
+-- 3. Both slots.
+
+-- the bursts that the gateway has for both slots, frame by frame
+abbrev pub gates_of : List Given → List Given → List (List (Option Burst))
+gates_of [] second = []
+gates_of (a ∷ first) [] = []
+gates_of (a ∷ first) (b ∷ second) = (a.burst ∷ b.burst ∷ []) ∷ gates_of first second
+
+abbrev pub receipt_of : ℕ → Received → Receipt
+receipt_of frame r = record { frame = frame; slot = r.slot; kind = r.kind; source = r.source; octets = r.octets }
+
+-- The records from a frame on, slot 1 first in each.
+abbrev pub receipts_of : ℕ → List Given → List Given → List Receipt
+receipts_of frame [] second = []
+receipts_of frame (a ∷ first) [] = []
+receipts_of frame (a ∷ first) (b ∷ second) =
+    map (receipt_of frame) (a.received ++ b.received) ++ receipts_of (frame + 1) first second
+
+-- what became of packets, one after another
+abbrev pub outcomes_of : List Given → List Outcome
+outcomes_of givens = flat_map (λ g. option_to_list g.outcome) givens
+
+abbrev pub outcomes_in : Outcome → List Given → ℕ
+outcomes_in outcome givens = outcome_count outcome (outcomes_of givens)
+
+abbrev pub refused_in : List Given → ℕ
+refused_in givens = sum (map (λ g. g.refused) givens)
+
+-- What the frames count.
+abbrev pub counts_of : List Given → List Given → Counts
+counts_of first second =
+    record {
+      received = length (receipts_of 0 first second);
+      delivered = outcomes_in Delivered first + outcomes_in Delivered second;
+      sent = outcomes_in Sent first + outcomes_in Sent second;
+      given_up = outcomes_in GivenUp first + outcomes_in GivenUp second;
+      refused = refused_in first + refused_in second;
+    }
+
+-- From what the lines of both slots give and the datagrams that are offered in each frame: the bursts that the gateway has for
+-- both slots, the records of what it receives, and what it counts.
+pub record IsGatewayOf (s : Settings) (offers : List (List Sending)) (first second : List SlotOut)
+    (gates : List (List (Option Burst))) (receipts : List Receipt) (counts : Counts) : Type 0 where
+  pub first_given : List Given
+  pub second_given : List Given
+  pub first_slot : AreGiven s 1 [] offers first first_given
+  pub second_slot : AreGiven s 2 [] offers second second_given
+  pub gates_are : gates ≡ gates_of first_given second_given
+  pub receipts_are : receipts ≡ receipts_of 0 first_given second_given
+  pub counts_are : counts ≡ counts_of first_given second_given
