@@ -182,12 +182,12 @@ clean_made s offers frames sending receipts counts u =
     let two_long = given_length s 2 [] offers u.second two u.gateway.second_slot in
     let out_long = outs_length s 1 [] offers u.first one u.gateway.first_slot in
     let as_long : length outs ≡ length (gates_of one two) =
-        frames_length u.first u.second long ∙ out_long ∙ sym (gates_length one two (one_long ∙ sym two_long) ∙ one_long) in
+    frames_length u.first u.second long ∙ out_long ∙ sym (gates_length one two (one_long ∙ sym two_long) ∙ one_long) in
     let clean_first = pushed_lines_are_clean s.colour s.call_hang (slots_in 0 frames) u.first u.first_line.0 u.first_line.1 in
     let clean_second = pushed_lines_are_clean s.colour s.call_hang (slots_in 1 frames) u.second u.second_line.0 u.second_line.1 in
     let channel : Pairwise (AreSent s.colour) (frames_of s.channel_hang [] (claims_in outs (gates_of one two))) bursts =
-        subst (λ (gates : List (List (Option Burst))). Pairwise (AreSent s.colour) (frames_of s.channel_hang [] (claims_in outs gates)) bursts)
-        u.gateway.gates_are u.downlink.channel in
+    subst (λ (gates : List (List (Option Burst))). Pairwise (AreSent s.colour) (frames_of s.channel_hang [] (claims_in outs gates)) bursts)
+    u.gateway.gates_are u.downlink.channel in
     let sent = all_frames_sent s.colour (frames_of s.channel_hang [] (claims_in outs (gates_of one two))) bursts channel in
     let both = both_clean s.colour s.channel_hang [] outs (gates_of one two) bursts as_long (pairs_in u.first u.second)
     (gate_pairs one two)

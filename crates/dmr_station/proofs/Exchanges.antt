@@ -214,8 +214,8 @@ sends_by_the_rules s read offers frames records received after pairs slots u =
     let receipts : receipts_from 0 received ≡ receipts_from 0 (map (λ (g : FrameGiven). g.received) all.givens) = ap (receipts_from 0) all.received_is in
     let counts : after.counts ≡ all_counted all.givens = all.counts ∙ from_nothing (all_counted all.givens) in
     let moved : Makes s offers frames all.sending (receipts_from 0 received) after.counts =
-        subst (λ l. Makes s offers frames all.sending l after.counts) (sym receipts)
-        (subst (λ c. Makes s offers frames all.sending (receipts_from 0 (map (λ (g : FrameGiven). g.received) all.givens)) c) (sym counts) made) in
+    subst (λ l. Makes s offers frames all.sending l after.counts) (sym receipts)
+    (subst (λ c. Makes s offers frames all.sending (receipts_from 0 (map (λ (g : FrameGiven). g.received) all.givens)) c) (sym counts) made) in
     record {
       sending = all.sending;
       makes = moved;

@@ -113,7 +113,7 @@ frame s back_1 back_2 m os ss f sending given next p stands pairs slots =
       second_asked = a.second_asked;
     } in
     let meant : FrameAsMeant s.colour s.llid s.queue back_1 back_2 os one two p.refused p.asked.gate =
-        frames_as_meant s.colour s.llid s.queue back_1 back_2 os one two p.refused m.gate p.asked.gate stands by_calls in
+    frames_as_meant s.colour s.llid s.queue back_1 back_2 os one two p.refused m.gate p.asked.gate stands by_calls in
     let one_refused : ℕ = faults_in (of_slot 1 ss) + gateway_refused s (meant.first_new ∷ back_1) in
     let two_refused : ℕ = faults_in (of_slot 2 ss) + gateway_refused s (meant.second_new ∷ back_2) in
     let one_given : Given = record {
@@ -129,10 +129,10 @@ frame s back_1 back_2 m os ss f sending given next p stands pairs slots =
       refused = two_refused;
     } in
     let sum : p.refused ≡ one_refused + two_refused =
-        let all = meant.refusals in
-        let read = faults_read os ss pairs in
-        let apart = faults_of_both ss slots in
-        omega (arith, all, read, apart) in
+    let all = meant.refusals in
+    let read = faults_read os ss pairs in
+    let apart = faults_of_both ss slots in
+    omega (arith, all, read, apart) in
     record {
       one = meant.first_new;
       two = meant.second_new;
@@ -251,7 +251,7 @@ exchanged s back_1 back_2 m (os ∷ oss) (ss ∷ offers) (f ∷ fs) (x ∷ xs) (
     let a = p.is_asked in
     let now = frame s back_1 back_2 m os ss f x g u.0 p stands pairs.0 slots.0 in
     let more : Exchanged s u.0 (now.one ∷ back_1) (now.two ∷ back_2) offers fs xs gs =
-        exchanged s (now.one ∷ back_1) (now.two ∷ back_2) u.0 oss offers fs xs gs after u.2 now.stands pairs.1 slots.1 in
+    exchanged s (now.one ∷ back_1) (now.two ∷ back_2) u.0 oss offers fs xs gs after u.2 now.stands pairs.1 slots.1 in
     let moved : u.0 ≡ taken_of p.asked = p.taken in
     record {
       first = a.first ∷ more.first;

@@ -155,14 +155,14 @@ sends_what_is_meant s lead_1 lead_2 first second frames well_1 well_2 recording 
 pub sends_front_of_what_is_meant : SendsFrontOfWhatIsMeant
 sends_front_of_what_is_meant s lead_1 lead_2 first second frames well_1 well_2 recording front rest offers sending receipts
     counts split made = record {
-  first_outs = made.first;
-  second_outs = made.second;
-  first_line = first_front s lead_1 first frames made.first well_1 front rest recording.first_slot split made.first_line;
-  second_line = second_front s lead_2 second frames made.second well_2 front rest recording.second_slot split made.second_line;
-  gates = made.gates;
-  gateway = made.gateway;
-  downlink = made.downlink;
-}
+      first_outs = made.first;
+      second_outs = made.second;
+      first_line = first_front s lead_1 first frames made.first well_1 front rest recording.first_slot split made.first_line;
+      second_line = second_front s lead_2 second frames made.second well_2 front rest recording.second_slot split made.second_line;
+      gates = made.gates;
+      gateway = made.gateway;
+      downlink = made.downlink;
+    }
 
 -- ---- there is one downlink
 one_sent_frame : (colour : ℕ) (slots : List ChannelOut) (a b : List (Option Burst)) → AreSent colour slots a

@@ -38,7 +38,7 @@ one_read : (mine : Bool) (own meant : Option GatewayFault) (llid slot : ℕ) (o 
 one_read false own meant llid slot o s more packets Rest e m r rest p = rest packets p
 one_read true None None llid slot o s more packets Rest e m r rest p =
     let found : OffersOne None llid s packets (Offers llid (of_slot slot more)) =
-        (p.0, p.1, packet_read llid o s p.0 r (sym m) p.2, p.3, rest p.1 p.4) in
+    (p.0, p.1, packet_read llid o s p.0 r (sym m) p.2, p.3, rest p.1 p.4) in
     subst (λ f. OffersOne f llid s packets (Offers llid (of_slot slot more))) m found
 one_read true (Some fault) (Some other) llid slot o s more packets Rest e m r rest p =
     subst (λ f. OffersOne f llid s packets (Offers llid (of_slot slot more))) m (rest packets p)

@@ -40,7 +40,7 @@ one_reception (said ∷ more) llid slot back (x ∷ xs) (y ∷ ys) u v =
     let same : u.0 ≡ v.0 = heard_alike said u.0 v.0 u.1 v.1 in
     let head : x ≡ y = u.2 ∙ ap (λ h. received_now llid slot (h ∷ back)) same ∙ sym v.2 in
     let rest : AreRecordsOf llid slot (u.0 ∷ back) more ys =
-        subst (λ h. AreRecordsOf llid slot (h ∷ back) more ys) (sym same) v.3 in
+    subst (λ h. AreRecordsOf llid slot (h ∷ back) more ys) (sym same) v.3 in
     let tail : xs ≡ ys = one_reception more llid slot (u.0 ∷ back) xs ys u.3 rest in
     cc
 
