@@ -176,14 +176,13 @@ in_turn f (given ∷ more) p q a b u waits rest pairs end order =
     (subst (λ l. Pairwise IsReadFrom l (waits ++ g.sendings)) g.all (together IsReadFrom (waiting p) g.found waits g.sendings pairs g.kept)) in
     let left : List Sending = cut.rest ++ (behind ++ rest) in
     let whole : waits ++ ((g.sendings ++ behind) ++ rest) ≡ cut.front ++ left =
-        regrouped waits g.sendings behind rest cut.front cut.rest cut.whole in
+    regrouped waits g.sendings behind rest cut.front cut.rest cut.whole in
     let due = due_now f given cut.front left cut.first u.2 (subst (AreInOrder f) whole order) in
     let ends : u.0.at_end ≡ true → behind ++ rest ≡ [] = none_behind (f + 1) more u.0 q u.1 b u.5 rest end in
     let next : AreInOrder (f + 1) left = left_behind f u.0 cut.rest (behind ++ rest) u.4 cut.second ends due.1 in
     let now : filter (λ (s : Sending). eqb s.frame f) (cut.front ++ left) ≡ cut.front =
-        all_of f cut.front left due.0 ∙ ap (λ l. cut.front ++ l) (none_of f (f + 1) left (omega arith) next) ∙ append-nil cut.front in
-    subst (λ l. Pairwise AreReadFrom (given ∷ more) (by_frame f (length (given ∷ more)) l)) (sym whole)
-    (
+    all_of f cut.front left due.0 ∙ ap (λ l. cut.front ++ l) (none_of f (f + 1) left (omega arith) next) ∙ append-nil cut.front in
+    subst (λ l. Pairwise AreReadFrom (given ∷ more) (by_frame f (length (given ∷ more)) l)) (sym whole) (
       subst (λ l. AreReadFrom given l) (sym now) cut.first,
       subst (λ l. Pairwise AreReadFrom more l) (sym (passed f (f + 1) (length more) cut.front left (omega arith) due.0))
           (in_turn (f + 1) more u.0 q u.1 b u.5 cut.rest rest cut.second end next),
@@ -234,12 +233,12 @@ slots_in_turn f (suc count) ss each = (slots_of_frame f ss each, slots_in_turn (
 
 -- What was offered in turn, and what was read further, are records of the file.
 pub record ReadInAll (offers : List (List Outgoing)) (r : Progress) (part : List ℕ) (o d : Option (List ℕ)) (ss : List Sending) : Type 0
-    where
-  pub reads : ReadsRecords ss part o d
-  pub pairs : Pairwise AreReadFrom offers (by_frame 0 (length offers) ss)
-  pub slots : AllByRecursion AreForSlots (by_frame 0 (length offers) ss)
-  pub last : r.last ≡ last_frame 0 ss
-  pub count : r.records ≡ length ss
+  where
+    pub reads : ReadsRecords ss part o d
+    pub pairs : Pairwise AreReadFrom offers (by_frame 0 (length offers) ss)
+    pub slots : AllByRecursion AreForSlots (by_frame 0 (length offers) ss)
+    pub last : r.last ≡ last_frame 0 ss
+    pub count : r.records ≡ length ss
 
 pub read_in_all : (offers : List (List Outgoing)) (q r : Progress) (more : List Outgoing) (part : List ℕ) (o p b d : Option (List ℕ))
     → Consumes o p (head_octets OUTGOING_MAGIC) → (u : AreOfferedInTurn 0 offers unread q p b) → (g : Gives q r more part b d)
@@ -275,9 +274,9 @@ pub by_frame_front : (f count : ℕ) (xs more : List Sending) → AreInOrder (f 
 by_frame_front f zero xs more order = refl
 by_frame_front f (suc count) xs more order =
     let now : filter (λ (s : Sending). eqb s.frame f) (xs ++ more) ≡ filter (λ (s : Sending). eqb s.frame f) xs =
-        filter-append (λ (s : Sending). eqb s.frame f) xs more
-        ∙ ap (λ l. filter (λ (s : Sending). eqb s.frame f) xs ++ l) (none_of f (f + suc count) more (omega arith) order)
-        ∙ append-nil (filter (λ (s : Sending). eqb s.frame f) xs) in
+    filter-append (λ (s : Sending). eqb s.frame f) xs more
+    ∙ ap (λ l. filter (λ (s : Sending). eqb s.frame f) xs ++ l) (none_of f (f + suc count) more (omega arith) order)
+    ∙ append-nil (filter (λ (s : Sending). eqb s.frame f) xs) in
     let behind : AreInOrder (f + 1 + count) more = later (f + suc count) (f + 1 + count) more (omega arith) order in
     ap (λ l. l ∷ by_frame (f + 1) count (xs ++ more)) now
     ∙ ap (λ l. filter (λ (s : Sending). eqb s.frame f) xs ∷ l) (by_frame_front (f + 1) count xs more behind)
@@ -343,7 +342,7 @@ parted f (suc count) ss =
     let first = of_frame f ss in
     let more = parted (f + 1) count ss in
     let far : length (from_frame (f + 1 + count) ss) ≡ length (from_frame (f + suc count) ss) =
-        ap (λ (n : ℕ). length (from_frame n ss)) (omega arith) in
+    ap (λ (n : ℕ). length (from_frame n ss)) (omega arith) in
     omega (arith, first, more, far)
 
 all_from_0 : (ss : List Sending) → length (from_frame 0 ss) ≡ length ss

@@ -43,7 +43,7 @@ taken_whole s =
     let step = ap length (received_step g) in
     let long = length-append (option_to_list (next_received g)) (received_of (after_received g)) in
     let count : s.counts.received + length (option_to_list (next_received g)) + length (received_of (after_received g))
-        ≡ s.counts.received + length (received_of g) = omega (arith, step, long) in
+    ≡ s.counts.received + length (received_of g) = omega (arith, step, long) in
     ap (λ (x : Gate). record s {
       memory = record s.memory { gate = x };
       counts = record s.counts {
@@ -58,10 +58,10 @@ pub one_written : (number : ℕ) (before now : State) (r : Received) (a b c : Op
 one_written number before now r a b c u is one =
     let rest = received_of (after_received now.memory.gate) in
     let step : received_of now.memory.gate ≡ r ∷ rest =
-        received_step now.memory.gate ∙ ap (λ (o : Option Received). option_to_list o ++ rest) is in
+    received_step now.memory.gate ∙ ap (λ (o : Option Received). option_to_list o ++ rest) is in
     let single : octets_of number (u.done ++ r ∷ []) ≡ octets_of number u.done ++ receipt_octets (receipt_of number r) =
-        octets_of-append number u.done (r ∷ [])
-        ∙ ap (λ l. octets_of number u.done ++ l) (append-nil (receipt_octets (receipt_of number r))) in
+    octets_of-append number u.done (r ∷ [])
+    ∙ ap (λ l. octets_of number u.done ++ l) (append-nil (receipt_octets (receipt_of number r))) in
     record {
       done = u.done ++ r ∷ [];
       split = u.split ∙ ap (λ l. u.done ++ l) step ∙ sym (append_assoc u.done (r ∷ []) rest);
@@ -77,7 +77,7 @@ pub all_written : (number : ℕ) (before now : State) (a b : Option (List ℕ)) 
 all_written number before now a b u none =
     let nothing = nothing_waits now.memory.gate none in
     let whole : received_of before.memory.gate ≡ u.done =
-        u.split ∙ ap (λ l. u.done ++ l) nothing.0 ∙ append-nil u.done in
+    u.split ∙ ap (λ l. u.done ++ l) nothing.0 ∙ append-nil u.done in
     (subst (λ l. Appends a b (octets_of number l)) (sym whole) u.written, last_taken now none ∙ u.whole)
   where
     last_taken : (s : State) → next_received s.memory.gate ≡ None → taken_once s ≡ all_taken s
@@ -88,7 +88,7 @@ all_written number before now a b u none =
         let step = received_step g in
         let same : received_taken (after_received g) ≡ received_taken g = taken_step g in
         let counts : length (option_to_list (next_received g)) ≡ length (received_of g) =
-            ap (λ (o : Option Received). length (option_to_list o)) is ∙ sym (ap length nothing.0) in
+        ap (λ (o : Option Received). length (option_to_list o)) is ∙ sym (ap length nothing.0) in
         let left : after_received g ≡ received_taken g = none_left g g.first.status g.first.packet g.second.status g.second.packet is in
         ap (λ (x : Gate). record s {
           memory = record s.memory { gate = x };
@@ -117,11 +117,10 @@ torn_received number before now r a b c u is torn =
     let one : List ℕ = receipt_octets (receipt_of number r) in
     let rest = received_of (after_received now.memory.gate) in
     let step : received_of now.memory.gate ≡ r ∷ rest =
-        received_step now.memory.gate ∙ ap (λ (o : Option Received). option_to_list o ++ rest) is in
+    received_step now.memory.gate ∙ ap (λ (o : Option Received). option_to_list o ++ rest) is in
     let whole : octets_of number (received_of before.memory.gate) ≡ octets_of number u.done ++ (one ++ octets_of number rest) =
-        ap (octets_of number) (u.split ∙ ap (λ l. u.done ++ l) step) ∙ octets_of-append number u.done (r ∷ rest) in
-    let cut : one ≡ take torn.count one ++ drop torn.count one = sym (take-append-drop torn.count one) in
-    (
+    ap (octets_of number) (u.split ∙ ap (λ l. u.done ++ l) step) ∙ octets_of-append number u.done (r ∷ rest) in
+    let cut : one ≡ take torn.count one ++ drop torn.count one = sym (take-append-drop torn.count one) in (
       octets_of number u.done ++ take torn.count one,
       (
         drop torn.count one ++ octets_of number rest,

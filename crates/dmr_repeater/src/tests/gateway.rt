@@ -1,9 +1,9 @@
 //! Data through a whole run: datagrams that the gateway sends, and packets and statuses that it receives.
 ghost use Rattle.std.specs.Prelude.{◌<◌};
 
+use super::devices::FailsAt;
 use super::recorded::{Sent, first_letters, octets_of, slots_of};
 use super::samples::{GATEWAY_SAMPLES, GatewaySample};
-use super::devices::FailsAt;
 use super::{CSBK, DATAGRAM, OUTGOING, RECEIVED, UPLINK, answer_of, joined, outcome, summary};
 use crate::{RunFault, Stream, Summary};
 use dmr_bits::Bits;
@@ -57,7 +57,8 @@ fn uplink_of(
 fn push_burst(uplink: &mut Vec<u8>, burst: &[u8; 33]) -> Result<(), AllocError> {
     uplink.push(1)?;
     uplink.extend_from_slice(burst)?;
-    uplink.push(0)
+    uplink.push(0)?;
+    Ok(())
 }
 
 /// The burst of a block of a packet at rate 1/2, as a mobile station of colour code 1 sends it.
@@ -151,7 +152,10 @@ fn full_queue(rt: HostRuntime) -> Result<(), Fail> {
 fn refused_offers(rt: HostRuntime) -> Result<(), Fail> {
     let front = DATAGRAM.get(9..25).unwrap_or(&[]);
     let elsewhere = joined(rt.alloc(), &[front, &[10, 0, 0, 1, 0, 0, 0, 0, 0, 0, 0, 0]])?;
-    let group = joined(rt.alloc(), &[front, &[225, 0, 0, 9, 0, 0, 0, 0, 0, 0, 0, 0]])?;
+    let group = joined(
+        rt.alloc(),
+        &[front, &[225, 0, 0, 9, 0, 0, 0, 0, 0, 0, 0, 0]],
+    )?;
     let long = joined(rt.alloc(), &[front, &[12, 0, 0, 2], &[0; 1381]])?;
     let outgoing = joined(
         rt.alloc(),
@@ -321,7 +325,10 @@ fn confirmed_packet_received(rt: HostRuntime) -> Result<(), Fail> {
     assert!(rt; flags.starts_with(b"\xFE\xFF\xFF\xFF\xFF\xFF\xFF\x7F"));
     for frame in [89, 99usize] {
         let answered = said_in(&rt, &slots, frame);
-        assert!(rt; answered.starts_with(b"\x01\x40\0\0\x02\0\0\x01\0\x08"), "in frame {frame}");
+        assert!(rt;
+            answered.starts_with(b"\x01\x40\0\0\x02\0\0\x01\0\x08"),
+            "in frame {frame}"
+        );
     }
     assert_eq!(rt; received.len(), 8 + 12 + 636);
     assert!(rt; received.get(9..13) == Some(&[0, 0, 0, 88][..]));
@@ -339,7 +346,9 @@ fn same_serial_twice(rt: HostRuntime) -> Result<(), Fail> {
     let second = first + 3 * frame + 2 * 7;
     let mut uplink = joined(rt.alloc(), &[recorded.get(..first).unwrap_or(&[])])?;
     let header_and_block = recorded.get(first..first + 2 * frame).unwrap_or(&[]);
-    let block = recorded.get(first + frame..first + 2 * frame).unwrap_or(&[]);
+    let block = recorded
+        .get(first + frame..first + 2 * frame)
+        .unwrap_or(&[]);
     let silence = [0; 14];
     for piece in [header_and_block, block, &silence, header_and_block, block] {
         uplink.extend_from_slice(piece)?;
@@ -356,7 +365,10 @@ fn same_serial_twice(rt: HostRuntime) -> Result<(), Fail> {
     let slots = slots_of(rt.alloc(), &downlink)?;
     for at in [90, 100usize] {
         let flags = said_in(&rt, &slots, at);
-        assert!(rt; flags.starts_with(b"\xFF\xFF\xFF\xFF\xFF\xFF\xFF\x7F"), "in frame {at}");
+        assert!(rt;
+            flags.starts_with(b"\xFF\xFF\xFF\xFF\xFF\xFF\xFF\x7F"),
+            "in frame {at}"
+        );
     }
     Ok(())
 }
@@ -425,7 +437,11 @@ fn one_flag_block_for_65(rt: HostRuntime) -> Result<(), Fail> {
     let tries = tries_in(rt.alloc(), &downlink)?;
     assert!(rt; tries.as_slice() == &[0, 87][..]);
     let letters = first_letters(rt.alloc(), &slots_of(rt.alloc(), &downlink)?)?;
-    let blocks = letters.get(87..166).unwrap_or(&[]).iter().filter(|letter| **letter == b'r');
+    let blocks = letters
+        .get(87..166)
+        .unwrap_or(&[])
+        .iter()
+        .filter(|letter| **letter == b'r');
     assert_eq!(rt; blocks.count(), 65);
     Ok(())
 }
