@@ -10,7 +10,7 @@ use dmr_bits::Bits;
 use dmr_bptc::{bptc_decode, bptc_encode};
 use dmr_burst::{Burst, Side, encode_burst, read_information};
 use dmr_checks::{Mask, seal};
-use dmr_data::{Packet, Rate, block_info, split_packet};
+use dmr_data::{Block, Octets, Packet, Rate, block_info, split_packet};
 use dmr_record::{FromRead, RecordFault, ToWrite};
 use std::alloc::{AllocError, Global};
 use std::process::Abort;
@@ -37,17 +37,19 @@ fn header_burst(octets: &[u8; 10]) -> [u8; 33] {
     )
 }
 
-/// An uplink of so many frames, all silent but that slot 1 has these bursts in theirs.
+/// An uplink of so many frames, all silent but that slot 1 has this burst in one.
 fn uplink_of(
     alloc: Global,
     frames: usize,
-    bursts: &[(usize, [u8; 33])],
+    at: usize,
+    burst: &[u8; 33],
 ) -> Result<Vec<u8>, AllocError> {
     let mut uplink = joined(alloc, &[&UPLINK])?;
     for frame in 0..frames {
-        match bursts.iter().find(|(at, _)| *at == frame) {
-            Some((_, burst)) => push_burst(&mut uplink, burst)?,
-            None => uplink.extend_from_slice(&[0, 0])?,
+        if frame == at {
+            push_burst(&mut uplink, burst)?;
+        } else {
+            uplink.extend_from_slice(&[0, 0])?;
         }
     }
     Ok(uplink)
@@ -62,13 +64,27 @@ fn push_burst(uplink: &mut Vec<u8>, burst: &[u8; 33]) -> Result<(), AllocError> 
 }
 
 /// The burst of a block of a packet at rate 1/2, as a mobile station of colour code 1 sends it.
-fn block_burst(rt: &impl Abort, packet: &Packet, place: usize) -> [u8; 33] {
-    let block = packet.blocks.get(place).expect(rt, "the packet has it");
+fn block_burst(rt: &impl Abort, packet: &Packet, serial: u8) -> [u8; 33]
+    requires serial { serial < 127 }
+{
+    let block = packet
+        .blocks
+        .get(usize::from(serial))
+        .expect(rt, "the packet has it");
+    let octets = block
+        .octets
+        .as_slice()
+        .first_chunk::<10>()
+        .expect(rt, "it has ten octets");
+    let sent = Block {
+        serial: Some(serial),
+        octets: Octets::from_slice(octets),
+    };
     encode_burst(
         &Burst::Data {
             colour: 1,
             kind: 7,
-            information: block_info(block, Rate::Half),
+            information: block_info(&sent, Rate::Half),
         },
         Side::Ms,
     )
@@ -157,16 +173,11 @@ fn refused_offers(rt: HostRuntime) -> Result<(), Fail> {
         &[front, &[225, 0, 0, 9, 0, 0, 0, 0, 0, 0, 0, 0]],
     )?;
     let long = joined(rt.alloc(), &[front, &[12, 0, 0, 2], &[0; 1381]])?;
-    let outgoing = joined(
-        rt.alloc(),
-        &[
-            &OUTGOING,
-            &record(rt.alloc(), 0, 0, &elsewhere)?,
-            &record(rt.alloc(), 0, 1, &group)?,
-            &record(rt.alloc(), 0, 0, &long)?,
-            &record(rt.alloc(), 6, 0, front)?,
-        ],
-    )?;
+    let mut outgoing = joined(rt.alloc(), &[&OUTGOING])?;
+    outgoing.extend_from_slice(&record(rt.alloc(), 0, 0, &elsewhere)?)?;
+    outgoing.extend_from_slice(&record(rt.alloc(), 0, 1, &group)?)?;
+    outgoing.extend_from_slice(&record(rt.alloc(), 0, 0, &long)?)?;
+    outgoing.extend_from_slice(&record(rt.alloc(), 6, 0, front)?)?;
     let (answer, downlink, _) = outcome(&rt, rt.alloc(), &UPLINK, &outgoing);
     let want = Summary {
         refused: 3,
@@ -185,15 +196,10 @@ fn longest_datagrams(rt: HostRuntime) -> Result<(), Fail> {
     let most_confirmed = joined(rt.alloc(), &[front, &[0; 1238]])?;
     let more_confirmed = joined(rt.alloc(), &[front, &[0; 1239]])?;
     let most = joined(rt.alloc(), &[front, &[0; 1372]])?;
-    let outgoing = joined(
-        rt.alloc(),
-        &[
-            &OUTGOING,
-            &record(rt.alloc(), 0, 1, &most_confirmed)?,
-            &record(rt.alloc(), 0, 1, &more_confirmed)?,
-            &record(rt.alloc(), 0, 0, &most)?,
-        ],
-    )?;
+    let mut outgoing = joined(rt.alloc(), &[&OUTGOING])?;
+    outgoing.extend_from_slice(&record(rt.alloc(), 0, 1, &most_confirmed)?)?;
+    outgoing.extend_from_slice(&record(rt.alloc(), 0, 1, &more_confirmed)?)?;
+    outgoing.extend_from_slice(&record(rt.alloc(), 0, 0, &most)?)?;
     let (answer, _, _) = outcome(&rt, rt.alloc(), &UPLINK, &outgoing);
     let want = Summary {
         refused: 1,
@@ -208,10 +214,8 @@ fn longest_datagrams(rt: HostRuntime) -> Result<(), Fail> {
 fn unanswered_try(rt: HostRuntime) -> Result<(), Fail> {
     let datagram = DATAGRAM.get(9..).unwrap_or(&[]);
     let uplink = joined(rt.alloc(), &[&UPLINK, &[0; 20]])?;
-    let outgoing = joined(
-        rt.alloc(),
-        &[&OUTGOING, &record(rt.alloc(), 5, 1, datagram)?],
-    )?;
+    let confirmed = record(rt.alloc(), 5, 1, datagram)?;
+    let outgoing = joined(rt.alloc(), &[&OUTGOING, &confirmed])?;
     let (answer, downlink, _) = outcome(&rt, rt.alloc(), &uplink, &outgoing);
     assert!(rt; answer == Ok(summary(16, 0)));
     let letters = first_letters(rt.alloc(), &slots_of(rt.alloc(), &downlink)?)?;
@@ -238,11 +242,9 @@ fn tries_in(alloc: Global, downlink: &[u8]) -> Result<Vec<u32>, AllocError> {
 #[test]
 fn four_tries(rt: HostRuntime) -> Result<(), Fail> {
     let datagram = DATAGRAM.get(9..).unwrap_or(&[]);
-    let outgoing = joined(
-        rt.alloc(),
-        &[&OUTGOING, &record(rt.alloc(), 5, 1, datagram)?],
-    )?;
-    let uplink = uplink_of(rt.alloc(), 150, &[])?;
+    let confirmed = record(rt.alloc(), 5, 1, datagram)?;
+    let outgoing = joined(rt.alloc(), &[&OUTGOING, &confirmed])?;
+    let uplink = joined(rt.alloc(), &[&UPLINK, &[0; 300]])?;
     let (answer, downlink, _) = outcome(&rt, rt.alloc(), &uplink, &outgoing);
     let want = Summary {
         given_up: 1,
@@ -257,12 +259,10 @@ fn four_tries(rt: HostRuntime) -> Result<(), Fail> {
 #[test]
 fn answer_in_the_last_frame(rt: HostRuntime) -> Result<(), Fail> {
     let datagram = DATAGRAM.get(9..).unwrap_or(&[]);
-    let outgoing = joined(
-        rt.alloc(),
-        &[&OUTGOING, &record(rt.alloc(), 5, 1, datagram)?],
-    )?;
+    let confirmed = record(rt.alloc(), 5, 1, datagram)?;
+    let outgoing = joined(rt.alloc(), &[&OUTGOING, &confirmed])?;
     let answered = header_burst(&[1, 0x30, 0, 0, 1, 0, 0, 2, 0, 8]);
-    let uplink = uplink_of(rt.alloc(), 150, &[(23, answered)])?;
+    let uplink = uplink_of(rt.alloc(), 150, 23, &answered)?;
     let (answer, downlink, _) = outcome(&rt, rt.alloc(), &uplink, &outgoing);
     let want = Summary {
         delivered: 1,
@@ -277,12 +277,10 @@ fn answer_in_the_last_frame(rt: HostRuntime) -> Result<(), Fail> {
 #[test]
 fn late_answer(rt: HostRuntime) -> Result<(), Fail> {
     let datagram = DATAGRAM.get(9..).unwrap_or(&[]);
-    let outgoing = joined(
-        rt.alloc(),
-        &[&OUTGOING, &record(rt.alloc(), 5, 1, datagram)?],
-    )?;
+    let confirmed = record(rt.alloc(), 5, 1, datagram)?;
+    let outgoing = joined(rt.alloc(), &[&OUTGOING, &confirmed])?;
     let answered = header_burst(&[1, 0x30, 0, 0, 1, 0, 0, 2, 0, 8]);
-    let uplink = uplink_of(rt.alloc(), 150, &[(24, answered)])?;
+    let uplink = uplink_of(rt.alloc(), 150, 24, &answered)?;
     let (answer, downlink, _) = outcome(&rt, rt.alloc(), &uplink, &outgoing);
     let want = Summary {
         given_up: 1,
@@ -298,7 +296,7 @@ fn late_answer(rt: HostRuntime) -> Result<(), Fail> {
 #[test]
 fn status_received(rt: HostRuntime) -> Result<(), Fail> {
     let status = header_burst(&[0x0E, 0xA0, 0, 0, 1, 0, 0, 3, 0x28, 5]);
-    let uplink = uplink_of(rt.alloc(), 1, &[(0, status)])?;
+    let uplink = uplink_of(rt.alloc(), 1, 0, &status)?;
     let (answer, _, received) = outcome(&rt, rt.alloc(), &uplink, &OUTGOING);
     let want = Summary {
         received: 1,
@@ -349,10 +347,11 @@ fn same_serial_twice(rt: HostRuntime) -> Result<(), Fail> {
     let block = recorded
         .get(first + frame..first + 2 * frame)
         .unwrap_or(&[]);
-    let silence = [0; 14];
-    for piece in [header_and_block, block, &silence, header_and_block, block] {
-        uplink.extend_from_slice(piece)?;
-    }
+    uplink.extend_from_slice(header_and_block)?;
+    uplink.extend_from_slice(block)?;
+    uplink.extend_from_slice(&[0; 14])?;
+    uplink.extend_from_slice(header_and_block)?;
+    uplink.extend_from_slice(block)?;
     uplink.extend_from_slice(recorded.get(second + 3 * frame..).unwrap_or(&[]))?;
     assert_eq!(rt; uplink.len(), recorded.len());
     let (answer, downlink, received) = outcome(&rt, rt.alloc(), &uplink, &OUTGOING);
@@ -377,13 +376,13 @@ fn same_serial_twice(rt: HostRuntime) -> Result<(), Fail> {
 #[test]
 fn packet_of_127_blocks(rt: HostRuntime) -> Result<(), Fail> {
     let packet = split_packet(&[0x45; 1266], Rate::Half, true);
-    let missing = [0, 64, 126usize];
+    let missing = [0, 64, 126u8];
     let mut uplink = joined(rt.alloc(), &[&UPLINK])?;
     push_burst(
         &mut uplink,
         &header_burst(&[0x43, 0x40, 0, 0, 1, 0, 0, 2, 0xFF, 0x88]),
     )?;
-    for place in 0..127usize {
+    for place in 0..127u8 {
         if missing.contains(&place) {
             uplink.extend_from_slice(&[0, 0])?;
         } else {
@@ -395,9 +394,9 @@ fn packet_of_127_blocks(rt: HostRuntime) -> Result<(), Fail> {
         &mut uplink,
         &header_burst(&[0x43, 0x40, 0, 0, 1, 0, 0, 2, 0x03, 0x88]),
     )?;
-    for place in missing {
-        push_burst(&mut uplink, &block_burst(&rt, &packet, place))?;
-    }
+    push_burst(&mut uplink, &block_burst(&rt, &packet, 0))?;
+    push_burst(&mut uplink, &block_burst(&rt, &packet, 64))?;
+    push_burst(&mut uplink, &block_burst(&rt, &packet, 126))?;
     uplink.extend_from_slice(&[0; 12])?;
     let (answer, downlink, received) = outcome(&rt, rt.alloc(), &uplink, &OUTGOING);
     let want = Summary {
@@ -425,12 +424,10 @@ fn packet_of_127_blocks(rt: HostRuntime) -> Result<(), Fail> {
 fn one_flag_block_for_65(rt: HostRuntime) -> Result<(), Fail> {
     let front = DATAGRAM.get(9..37).unwrap_or(&[]);
     let datagram = joined(rt.alloc(), &[front, &[0; 618]])?;
-    let outgoing = joined(
-        rt.alloc(),
-        &[&OUTGOING, &record(rt.alloc(), 0, 1, &datagram)?],
-    )?;
+    let confirmed = record(rt.alloc(), 0, 1, &datagram)?;
+    let outgoing = joined(rt.alloc(), &[&OUTGOING, &confirmed])?;
     let asked = header_burst(&[1, 0x40, 0, 0, 1, 0, 0, 2, 1, 0x80]);
-    let uplink = uplink_of(rt.alloc(), 160, &[(70, asked)])?;
+    let uplink = uplink_of(rt.alloc(), 160, 70, &asked)?;
     let (answer, downlink, _) = outcome(&rt, rt.alloc(), &uplink, &outgoing);
     assert!(rt; answer == Ok(summary(166, 1)));
     // Two preambles, the header and 65 blocks, the last in frame 67; the next try begins in frame 87.
@@ -450,7 +447,7 @@ fn one_flag_block_for_65(rt: HostRuntime) -> Result<(), Fail> {
 #[test]
 fn failing_received(rt: HostRuntime) -> Result<(), Fail> {
     let status = header_burst(&[0x0E, 0xA0, 0, 0, 1, 0, 0, 3, 0x28, 5]);
-    let uplink = uplink_of(rt.alloc(), 1, &[(0, status)])?;
+    let uplink = uplink_of(rt.alloc(), 1, 0, &status)?;
     let (_answer, whole, _received) = outcome(&rt, rt.alloc(), &uplink, &OUTGOING);
     for count in 2..4u64 {
         let mut downlink = ToWrite::new(Vec::new(rt.alloc()));
