@@ -1,5 +1,5 @@
 -- What a recording means.
-use Rattle.std.proofs.Common.{ℕ, List, [], ◌∷◌, length, Option, arith}
+use Rattle.std.proofs.Common.{ℕ, List, [], ◌∷◌, Option, arith}
 use Rattle.std.specs.List.{AllByRecursion}
 use Rattle.std.proofs.lemmas.List.Elements.{All-from_recursion}
 use Rattle.dmr_record.specs.Uplink.{IsFrame}
