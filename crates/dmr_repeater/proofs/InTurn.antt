@@ -1,13 +1,11 @@
 -- The records that are offered in a frame are those that the file has for it.
-use Rattle.std.proofs.Common.{◌≡◌, ℕ, zero, suc, ◌+◌, ◌<◌, ◌≤◌, eqb, ltb, Bool, true, false, cond, List, [], ◌∷◌, ◌++◌, length, filter, Option, Some, None}
+use Rattle.std.proofs.Common.{◌≡◌, ℕ, zero, suc, ◌+◌, ◌<◌, ◌≤◌, eqb, Bool, true, false, cond, List, [], ◌∷◌, ◌++◌, length, filter, Option}
 use Rattle.std.proofs.Common.{inl, inr, refl, sym, ◌∙◌, ap, subst, arith, append_assoc, append-nil, option_to_list, ◌⊎◌, nat_le}
 use Rattle.std.specs.List.{AllByRecursion}
 use Rattle.std.proofs.KnownBytes.{Consumes-trans}
 use Rattle.std.proofs.lemmas.Bool.{cases_lt}
-use Rattle.std.proofs.lemmas.List.{length-append}
 use Rattle.std.proofs.lemmas.List.Elements.{filter-append}
 use Rattle.dmr_record.specs.declared.head.TheConstants.{OUTGOING_MAGIC}
-use Rattle.dmr_record.specs.declared.outgoing.TheConstants.{RECORD_LIMIT}
 use Rattle.dmr_record.specs.Head.{head_octets}
 use Rattle.dmr_gateway.specs.Gateway.{IsSlot}
 use Rattle.dmr_station.proofs.Exchanges.{offer_count}

@@ -81,6 +81,8 @@ pub fn send<D: Sink, R: Sink>(
     ensures well { OnOk result ((D.has_failed downlink.new ≡ false) × (R.has_failed received.new ≡ false)) }
     ensures torn { OnErr result (SendsFrontOfOne station.old frame.now (D.held downlink.old) (D.held downlink.new)
         (R.held received.old) (R.held received.new)) }
+    // What was received is written behind the frame, and not where that fails.
+    ensures order { IfErr result (λ e. is_downlink_failure e ≡ true → R.held received.new ≡ R.held received.old) }
     ensures device { IfErr result (λ e. (D.has_failed downlink.new ≡ is_downlink_failure e)
         × (R.has_failed received.new ≡ is_received_failure e)) }
     ensures others { IfErr result (λ e. (is_uplink_failure e ≡ false) × (is_outgoing_failure e ≡ false)) }

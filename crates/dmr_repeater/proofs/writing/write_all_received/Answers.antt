@@ -1,9 +1,4 @@
-use Rattle.std.proofs.Common.{◌≡◌, Some, List, ℕ, sym, ap, subst, rules}
-use Rattle.std.specs.Io.KnownBytes.{Appends}
-use Rattle.dmr_gateway.specs.Gateway.{next_received}
-use Rattle.dmr_record.specs.Devices.{Tears}
-use Rattle.dmr_record.specs.Received.{receipt_octets}
-use Rattle.dmr_station.specs.GatewayFrames.{receipt_of}
+use Rattle.std.proofs.Common.{sym, subst}
 use Rattle.dmr_station.specs.Station.{State}
 use Rattle.dmr_repeater.proofs.Received.{Written, one_written, torn_received}
 use Rattle.dmr_repeater.proofs.writing.write_all_received.Goals as goal
