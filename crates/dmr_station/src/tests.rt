@@ -1,4 +1,5 @@
 //! Frames from outside, and what a station gives for them.
+mod gateway;
 mod hostile;
 
 use crate::{Counts, DownlinkFrame, SILENCE, Station, UplinkFrame};
@@ -79,6 +80,12 @@ fn one_csbk(rt: HostRuntime) {
     let counts = Counts {
         frames: 7,
         repeated: 1,
+        offered: 0,
+        refused: 0,
+        received: 0,
+        delivered: 0,
+        sent: 0,
+        given_up: 0,
     };
     assert!(rt; station.counts() == counts);
 }
