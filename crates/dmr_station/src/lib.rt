@@ -1,14 +1,17 @@
-//! The base station: the lines of both slots, the channel that they share, and the CACHs of the records, as one machine.
+//! The base station: the lines of both slots, the gateway, the channel that the slots share, and the CACHs of the records, as one
+//! machine.
 //!
-//! A `Station` takes the frames of the uplink one after another, and gives for each the two records of the frame of the downlink
-//! that is decided then. It knows no file, and keeps no list that grows: what the lines and the channel remember (`dmr_slot`), and
-//! the message whose second half is to be announced.
+//! A `Station` is offered datagrams and takes the frames of the uplink one after another; it gives for each frame the two records
+//! of the frame of the downlink that is decided then, and what it received in it. It knows no file, and keeps no list that grows:
+//! what the lines, the channel (`dmr_slot`) and the gateway (`dmr_gateway`) remember, and the message whose second half is to be
+//! announced.
 //!
 //! `specs/Frames.antt` has the rules, one frame after another, and `specs/Downlink.antt` what they make of whole lists of frames:
-//! what the line of each slot gives, and what goes out in both. `specs/Announced.antt` has the message that the CACHs carry, by the
-//! rules and by looking back. `specs/Sent.antt` has the octets of what goes out, and `specs/Clean.antt` what may be transmitted at
-//! all. `specs/Station.antt` puts them together, frame by frame and for whole lists. `specs/Meaning.antt` says what well-formed
-//! transmissions are to become, with no rule in its words. The laws are the contracts of the functions in `laws`.
+//! what the line of each slot gives, and what goes out in both; `specs/GatewayFrames.antt` has the gateway's part of both.
+//! `specs/Announced.antt` has the message that the CACHs carry, by the rules and by looking back. `specs/Sent.antt` has the octets
+//! of what goes out, and `specs/Clean.antt` what may be transmitted at all. `specs/Station.antt` puts them together, frame by frame
+//! and for whole lists. `specs/Meaning.antt` says what well-formed transmissions are to become, with no rule in its words. The laws
+//! are the contracts of the functions in `laws`.
 #![tactic(auto)]
 
 mod announcing;
