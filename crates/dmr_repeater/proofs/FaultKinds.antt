@@ -1,7 +1,8 @@
 -- Which faults a reader of a file shows, and which file a fault is of.
 use Rattle.std.proofs.Common.{◌≡◌, ℕ, true, List, refl}
 use Rattle.dmr_record.specs.declared.fault.RecordFault.{RecordFault}
-use Rattle.dmr_record.specs.declared.fault.RecordFault.TheVariants.{Magic, Version, CutRecord, BadTag, HalfFrame, FrameOrder, TooLong}
+use Rattle.dmr_record.specs.declared.fault.RecordFault.TheVariants.{Magic, Version, CutRecord}
+use Rattle.dmr_record.specs.declared.fault.RecordFault.TheVariants.{BadTag, HalfFrame, FrameOrder, TooLong}
 use Rattle.dmr_record.specs.declared.fault.RecordFault.TheVariants.{Read, Write}
 use Rattle.dmr_record.specs.Head.{ShowsHeadFault}
 use Rattle.dmr_record.specs.Outgoing.{ShowsOutgoingFault}
