@@ -1,5 +1,6 @@
 -- The records that are offered in a frame are those that the file has for it.
-use Rattle.std.proofs.Common.{◌≡◌, ℕ, zero, suc, ◌+◌, ◌<◌, ◌≤◌, eqb, Bool, true, false, cond, List, [], ◌∷◌, ◌++◌, length, filter, Option}
+use Rattle.std.proofs.Common.{◌≡◌, ℕ, zero, suc, ◌+◌, ◌<◌, ◌≤◌, eqb, Bool}
+use Rattle.std.proofs.Common.{true, false, cond, List, [], ◌∷◌, ◌++◌, length, filter, Option}
 use Rattle.std.proofs.Common.{inl, inr, refl, sym, ◌∙◌, ap, subst, arith, append_assoc, append-nil, option_to_list, ◌⊎◌, nat_le}
 use Rattle.std.specs.List.{AllByRecursion}
 use Rattle.std.proofs.KnownBytes.{Consumes-trans}
@@ -95,7 +96,8 @@ all_of : (f : ℕ) (ss rest : List Sending) → AreOf f ss
 all_of f [] rest of = refl
 all_of f (s ∷ ss) rest of =
     let same : eqb s.frame f ≡ true = rw of.0 (same_frame f) in
-    ap (λ b. cond b (s ∷ filter (λ (x : Sending). eqb x.frame f) (ss ++ rest)) (filter (λ (x : Sending). eqb x.frame f) (ss ++ rest))) same
+    ap (λ b. cond b (s ∷ filter (λ (x : Sending). eqb x.frame f) (ss ++ rest))
+    (filter (λ (x : Sending). eqb x.frame f) (ss ++ rest))) same
     ∙ ap (λ l. s ∷ l) (all_of f ss rest of.1)
 
 -- frames behind them have none of them
@@ -112,19 +114,22 @@ passed f g (suc count) ss rest h of =
     passed_in f g [] rest h of = refl
     passed_in f g (s ∷ ss) rest h of =
         let other : eqb s.frame g ≡ false = rw of.0 (other_before f g h) in
-        ap (λ b. cond b (s ∷ filter (λ (x : Sending). eqb x.frame g) (ss ++ rest)) (filter (λ (x : Sending). eqb x.frame g) (ss ++ rest))) other
+        ap (λ b. cond b (s ∷ filter (λ (x : Sending). eqb x.frame g) (ss ++ rest))
+        (filter (λ (x : Sending). eqb x.frame g) (ss ++ rest))) other
         ∙ passed_in f g ss rest h of.1
 
 -- 3. Frame after frame.
 
 -- what was read while records were offered in turn
-abbrev pub read_in_turn : (f : ℕ) (offers : List (List Outgoing)) (p q : Progress) (a b : Option (List ℕ)) → AreOfferedInTurn f offers p q a b
+abbrev pub read_in_turn : (f : ℕ) (offers : List (List Outgoing)) (p q : Progress) (a b : Option (List ℕ))
+    → AreOfferedInTurn f offers p q a b
     → List Sending
 read_in_turn f [] p q a b u = []
 read_in_turn f (given ∷ more) p q a b u = u.3.sendings ++ read_in_turn (f + 1) more u.0 q u.1 b u.5
 
 -- nothing is read behind the end
-none_behind : (f : ℕ) (offers : List (List Outgoing)) (p q : Progress) (a b : Option (List ℕ)) (u : AreOfferedInTurn f offers p q a b)
+none_behind : (f : ℕ) (offers : List (List Outgoing)) (p q : Progress) (a b : Option (List ℕ))
+    (u : AreOfferedInTurn f offers p q a b)
     (rest : List Sending) → (q.at_end ≡ true → rest ≡ []) → p.at_end ≡ true → read_in_turn f offers p q a b u ++ rest ≡ []
 none_behind f [] p q a b u rest h e = h (ap (λ (x : Progress). x.at_end) u.0 ∙ e)
 none_behind f (given ∷ more) p q a b u rest h e =
@@ -162,7 +167,8 @@ regrouped w s t rest front behind e =
 
 -- Where the records that wait and those that are read after them stand in the order of their frames, none of an earlier one, in
 -- each frame those are offered that are of that frame.
-pub in_turn : (f : ℕ) (offers : List (List Outgoing)) (p q : Progress) (a b : Option (List ℕ)) (u : AreOfferedInTurn f offers p q a b)
+pub in_turn : (f : ℕ) (offers : List (List Outgoing)) (p q : Progress) (a b : Option (List ℕ))
+    (u : AreOfferedInTurn f offers p q a b)
     (waits rest : List Sending) → Pairwise IsReadFrom (waiting p) waits → (q.at_end ≡ true → rest ≡ [])
     → AreInOrder f (waits ++ (read_in_turn f offers p q a b u ++ rest))
     → Pairwise AreReadFrom offers (by_frame f (length offers) (waits ++ (read_in_turn f offers p q a b u ++ rest)))
@@ -171,7 +177,8 @@ in_turn f (given ∷ more) p q a b u waits rest pairs end order =
     let g : Gives p u.0 given [] a u.1 = u.3 in
     let behind : List Sending = read_in_turn (f + 1) more u.0 q u.1 b u.5 in
     let cut = apart IsReadFrom given (waiting u.0) (waits ++ g.sendings)
-    (subst (λ l. Pairwise IsReadFrom l (waits ++ g.sendings)) g.all (together IsReadFrom (waiting p) g.found waits g.sendings pairs g.kept)) in
+    (subst (λ l. Pairwise IsReadFrom l (waits ++ g.sendings)) g.all
+    (together IsReadFrom (waiting p) g.found waits g.sendings pairs g.kept)) in
     let left : List Sending = cut.rest ++ (behind ++ rest) in
     let whole : waits ++ ((g.sendings ++ behind) ++ rest) ≡ cut.front ++ left =
     regrouped waits g.sendings behind rest cut.front cut.rest cut.whole in
@@ -210,7 +217,8 @@ given_in_turn f bound (given ∷ more) p q a b u h =
     record {
       due = record {
         given = given ++ rest.due.given;
-        due = All-append (λ o. o.frame ≤ bound) given rest.due.given (AreDue-later f bound given (omega (arith, h)) u.2) rest.due.due;
+        due = All-append (λ o. o.frame ≤ bound) given rest.due.given
+            (AreDue-later f bound given (omega (arith, h)) u.2) rest.due.due;
         gives = Gives-trans p u.0 q given rest.due.given [] a u.1 b u.3 rest.due.gives;
       };
       same = ap (λ l. u.3.sendings ++ l) rest.same;
@@ -220,17 +228,20 @@ kept_slots : (b : Bool) (s : Sending) (ss : List Sending) → IsSlot s.slot → 
 kept_slots true s ss first more = (first, more)
 kept_slots false s ss first more = more
 
-slots_of_frame : (f : ℕ) (ss : List Sending) → AllByRecursion IsSending ss → AreForSlots (filter (λ (s : Sending). eqb s.frame f) ss)
+slots_of_frame : (f : ℕ) (ss : List Sending) → AllByRecursion IsSending ss
+    → AreForSlots (filter (λ (s : Sending). eqb s.frame f) ss)
 slots_of_frame f [] each = tt
 slots_of_frame f (s ∷ ss) each =
     kept_slots (eqb s.frame f) s (filter (λ (x : Sending). eqb x.frame f) ss) each.0.slot (slots_of_frame f ss each.1)
 
-pub slots_in_turn : (f count : ℕ) (ss : List Sending) → AllByRecursion IsSending ss → AllByRecursion AreForSlots (by_frame f count ss)
+pub slots_in_turn : (f count : ℕ) (ss : List Sending) → AllByRecursion IsSending ss
+    → AllByRecursion AreForSlots (by_frame f count ss)
 slots_in_turn f zero ss each = tt
 slots_in_turn f (suc count) ss each = (slots_of_frame f ss each, slots_in_turn (f + 1) count ss each)
 
 -- What was offered in turn, and what was read further, are records of the file.
-pub record ReadInAll (offers : List (List Outgoing)) (r : Progress) (part : List ℕ) (o d : Option (List ℕ)) (ss : List Sending) : Type 0
+pub record ReadInAll (offers : List (List Outgoing)) (r : Progress) (part : List ℕ) (o d : Option (List ℕ))
+    (ss : List Sending) : Type 0
   where
     pub reads : ReadsRecords ss part o d
     pub pairs : Pairwise AreReadFrom offers (by_frame 0 (length offers) ss)
@@ -238,7 +249,8 @@ pub record ReadInAll (offers : List (List Outgoing)) (r : Progress) (part : List
     pub last : r.last ≡ last_frame 0 ss
     pub count : r.records ≡ length ss
 
-pub read_in_all : (offers : List (List Outgoing)) (q r : Progress) (more : List Outgoing) (part : List ℕ) (o p b d : Option (List ℕ))
+pub read_in_all : (offers : List (List Outgoing)) (q r : Progress) (more : List Outgoing) (part : List ℕ)
+    (o p b d : Option (List ℕ))
     → Consumes o p (head_octets OUTGOING_MAGIC) → (u : AreOfferedInTurn 0 offers unread q p b) → (g : Gives q r more part b d)
     → ReadInAll offers r part o d (read_in_turn 0 offers unread q p b u ++ g.sendings)
 unfolding Gives-trans
@@ -331,7 +343,8 @@ of_frame f (s ∷ ss) =
     add_one (nat_le f s.frame) (eqb s.frame f) (nat_le (f + 1) s.frame) s (from_frame f ss)
     (filter (λ (x : Sending). eqb x.frame f) ss) (from_frame (f + 1) ss) (splits s.frame f) (of_frame f ss)
 
-parted : (f count : ℕ) (ss : List Sending) → length (from_frame f ss) ≡ total (by_frame f count ss) + length (from_frame (f + count) ss)
+parted : (f count : ℕ) (ss : List Sending)
+    → length (from_frame f ss) ≡ total (by_frame f count ss) + length (from_frame (f + count) ss)
 parted f zero ss =
     let here : f ≡ f + 0 = omega arith in
     let same = ap (λ (n : ℕ). length (from_frame n ss)) here in
@@ -361,5 +374,6 @@ unoffered_are offers frames ss e pairs =
     let all = all_from_0 ss in
     let parts = parted 0 (length offers) ss in
     let offered = counted_offers offers (by_frame 0 (length offers) ss) pairs in
-    let far : length (from_frame (0 + length offers) ss) ≡ length (from_frame frames ss) = ap (λ (n : ℕ). length (from_frame n ss)) (omega (arith, e)) in
+    let far : length (from_frame (0 + length offers) ss) ≡ length (from_frame frames ss) = ap (λ (n : ℕ). length (from_frame n ss))
+    (omega (arith, e)) in
     omega (arith, all, parts, offered, far)

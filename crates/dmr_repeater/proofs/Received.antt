@@ -49,7 +49,8 @@ taken_whole s =
         received = s.counts.received + length (option_to_list (next_received g)) + length (received_of (after_received g));
       };
     }) (taken_step g)
-    ∙ ap (λ (n : ℕ). record s { memory = record s.memory { gate = received_taken g }; counts = record s.counts { received = n } }) count
+    ∙ ap (λ (n : ℕ). record s { memory = record s.memory { gate = received_taken g }; counts = record s.counts { received = n } })
+    count
 
 pub one_written : (number : ℕ) (before now : State) (r : Received) (a b c : Option (List ℕ)) → Written number before now a b
     → next_received now.memory.gate ≡ Some r → Appends b c (receipt_octets (receipt_of number r))
@@ -88,7 +89,8 @@ all_written number before now a b u none =
         let same : received_taken (after_received g) ≡ received_taken g = taken_step g in
         let counts : length (option_to_list (next_received g)) ≡ length (received_of g) =
         ap (λ (o : Option Received). length (option_to_list o)) is ∙ sym (ap length nothing.0) in
-        let left : after_received g ≡ received_taken g = none_left g g.first.status g.first.packet g.second.status g.second.packet is in
+        let left : after_received g ≡ received_taken g =
+        none_left g g.first.status g.first.packet g.second.status g.second.packet is in
         ap (λ (x : Gate). record s {
           memory = record s.memory { gate = x };
           counts = record s.counts { received = s.counts.received + length (option_to_list (next_received g)) };
@@ -99,9 +101,21 @@ all_written number before now a b u none =
         }) counts
       where
         none_left : (g : Gate) (a b c d : Option Received)
-            → next_received (record g { first = record g.first { status = a; packet = b }; second = record g.second { status = c; packet = d } }) ≡ None
-            → after_received (record g { first = record g.first { status = a; packet = b }; second = record g.second { status = c; packet = d } })
-            ≡ received_taken (record g { first = record g.first { status = a; packet = b }; second = record g.second { status = c; packet = d } })
+            → next_received (record g {
+              first = record g.first { status = a; packet = b };
+              second =
+                  record g.second { status = c; packet = d };
+            }) ≡ None
+            → after_received (record g {
+              first = record g.first { status = a; packet = b };
+              second =
+                  record g.second { status = c; packet = d };
+            })
+            ≡ received_taken (record g {
+              first = record g.first { status = a; packet = b };
+              second =
+                  record g.second { status = c; packet = d };
+            })
         none_left g None None None None e = refl
         none_left g None None None (Some w) e = cc
         none_left g None None (Some z) d e = cc
@@ -124,7 +138,8 @@ torn_received number before now r a b c u is torn =
       (
         drop torn.count one ++ octets_of number rest,
         whole ∙ ap (λ l. octets_of number u.done ++ (l ++ octets_of number rest)) cut
-            ∙ ap (λ l. octets_of number u.done ++ l) (append_assoc (take torn.count one) (drop torn.count one) (octets_of number rest))
+            ∙ ap (λ l. octets_of number u.done ++ l) (append_assoc (take torn.count one) (drop torn.count one)
+            (octets_of number rest))
             ∙ sym (append_assoc (octets_of number u.done) (take torn.count one) (drop torn.count one ++ octets_of number rest)),
       ),
       Appends-trans a b c (octets_of number u.done) (take torn.count one) u.written torn.front,

@@ -10,7 +10,8 @@ use Rattle.dmr_record.specs.declared.outgoing.Outgoing.{Outgoing}
 use Rattle.dmr_record.specs.declared.outgoing.TheConstants.{RECORD_LIMIT}
 use Rattle.dmr_record.specs.Faults.{is_of_end, is_device_fault}
 use Rattle.dmr_record.specs.Head.{head_octets}
-use Rattle.dmr_record.specs.Outgoing.{Sending, IsSending, AreInOrder, sending_octets, sendings_octets, outgoing_file, ShowsOutgoingFault}
+use Rattle.dmr_record.specs.Outgoing.{Sending, IsSending, AreInOrder}
+use Rattle.dmr_record.specs.Outgoing.{sending_octets, sendings_octets, outgoing_file, ShowsOutgoingFault}
 use Rattle.dmr_record.proofs.NoFault.{no_outgoing_fault}
 use Rattle.dmr_record.proofs.OutgoingReading.{sending_code}
 use Rattle.dmr_record.proofs.Spellings.{front_read, none_left, All-right}
