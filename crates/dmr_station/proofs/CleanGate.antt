@@ -1,14 +1,12 @@
 -- What the gateway sends may be transmitted.
-use Rattle.std.proofs.Common.{◌≡◌, ℕ, zero, suc, ◌≤◌, Bool, List, [], ◌∷◌, length, Option, Some, None, inl, inr, refl, sym, ap, ◌∙◌, subst, arith}
+use Rattle.std.proofs.Common.{◌≡◌, ℕ, zero, suc, ◌≤◌, Bool, List, [], ◌∷◌, Option, Some, None, inl, inr, refl, sym, subst, arith}
 use Rattle.std.specs.List.{AllByRecursion}
 use Rattle.dmr_bits.specs.Bits.{octets_of}
-use Rattle.dmr_bptc.specs.ProductWord.{IsWritten}
 use Rattle.dmr_burst.specs.declared.burst.Burst.{Burst}
 use Rattle.dmr_burst.specs.declared.burst.Burst.TheVariants.{Data}
 use Rattle.dmr_checks.specs.Sealed.{IsSealed}
 use Rattle.dmr_checks.specs.declared.sealing.Mask.TheVariants as mask
 use Rattle.dmr_csbk.specs.Block.{IsSealedMessage}
-use Rattle.dmr_data.specs.Block.{IsWrittenBlock}
 use Rattle.dmr_data.specs.declared.block.Block.{Block}
 use Rattle.dmr_data.specs.declared.header.Header.{Header}
 use Rattle.dmr_data.specs.declared.rate.Rate.{Rate}
@@ -16,11 +14,10 @@ use Rattle.dmr_data.specs.declared.rate.Rate.TheVariants.{Half, Full}
 use Rattle.dmr_arq.specs.declared.sender.GateBurst.{GateBurst}
 use Rattle.dmr_arq.specs.declared.sender.GateBurst.TheVariants as gate
 use Rattle.dmr_slot.proofs.Cleaning.{ArePairs, firsts, seconds}
-use Rattle.dmr_slot.specs.Clean.{IsCleanMessage, IsCleanInformation, IsCleanBurst, IsCleanGate}
+use Rattle.dmr_slot.specs.Clean.{IsCleanMessage, IsCleanInformation, IsCleanGate}
 use Rattle.dmr_slot.specs.declared.line.SlotOut.{SlotOut}
 use Rattle.dmr_record.specs.Outgoing.{Sending}
 use Rattle.dmr_gateway.specs.Bursts.{IsWordBurst, IsHeaderBurst, IsBlockBurst, IsTryBurst, IsAnswerBurst, IsGatewayBurst, IsEncodedAs}
-use Rattle.dmr_gateway.specs.Heard.{kind_of_rate}
 use Rattle.dmr_gateway.specs.Runs.{Happening}
 use Rattle.dmr_gateway.specs.declared.answers.Due.{Due}
 use Rattle.dmr_gateway.specs.declared.outbox.SlotBurst.{SlotBurst}

@@ -1,13 +1,13 @@
 -- What frames count is what both slots give in them.
-use Rattle.std.proofs.Common.{◌≡◌, ℕ, ◌+◌, cond, List, [], ◌∷◌, ◌++◌, length, map, sum, Option, refl, sym, ◌∙◌, ap, arith}
+use Rattle.std.proofs.Common.{◌≡◌, ℕ, ◌+◌, cond, List, [], ◌∷◌, ◌++◌, length, map, refl, ◌∙◌, ap, arith}
 use Rattle.std.proofs.lemmas.List.{length-append, length-map}
-use Rattle.std.proofs.lemmas.List.Sums.{sum_by-append, sum_by-cons, sum-map}
+use Rattle.std.proofs.lemmas.List.Sums.{sum_by-append, sum_by-cons}
 use Rattle.std.proofs.lemmas.List.Concat.{flat_map-cons}
 use Rattle.std.specs.Prelude.{option_to_list}
 use Rattle.dmr_arq.specs.declared.sender.Outcome.{Outcome}
 use Rattle.dmr_arq.specs.declared.sender.Outcome.TheVariants.{Delivered, Sent, GivenUp}
 use Rattle.dmr_station.specs.GatewayFrames.{Given, receipt_of, receipts_of, outcomes_of, outcomes_in, refused_in, counts_of}
-use Rattle.dmr_station.specs.Frames.{FrameGiven, Counts, added, all_counted, counted, is_outcome, outcome_count, nothing_counted}
+use Rattle.dmr_station.specs.Frames.{FrameGiven, Counts, added, all_counted, counted, is_outcome, outcome_count}
 use Rattle.dmr_station.specs.Station.{receipts_from}
 use Rattle.dmr_station.proofs.Exchanging.{given_in, givens_of}
 

@@ -1,10 +1,7 @@
 -- What a station gives for frames, one after another.
-use Rattle.std.proofs.Common.{◌≡◌, ℕ, ◌+◌, ◌*◌, suc, cond, Bool, List, [], ◌∷◌, ◌++◌, length, map, Option, refl, sym, ap, ◌∙◌, subst, arith}
-use Rattle.std.proofs.lemmas.List.Concat.{flat_map-append}
+use Rattle.std.proofs.Common.{◌≡◌, ℕ, ◌+◌, ◌*◌, cond, List, [], ◌∷◌, ◌++◌, length, map, Option, refl, sym, ap, ◌∙◌, subst, arith}
 use Rattle.std.proofs.lemmas.List.Sums.{sum_by-append}
 use Rattle.dmr_burst.specs.declared.burst.Burst.{Burst}
-use Rattle.dmr_slot.specs.Channel.{claims_of, frame_of}
-use Rattle.dmr_slot.specs.Frames.{AreSent}
 use Rattle.dmr_slot.specs.declared.line.SlotOut.{SlotOut}
 use Rattle.dmr_station.specs.declared.announcing.Message.{Message}
 use Rattle.dmr_station.specs.declared.sending.DownlinkBurst.{DownlinkBurst}
@@ -14,7 +11,7 @@ use Rattle.dmr_gateway.specs.Gateway as gateway
 use Rattle.dmr_gateway.specs.declared.received.Received.{Received}
 use Rattle.dmr_record.specs.declared.outgoing.Outgoing.{Outgoing}
 use Rattle.dmr_station.specs.Downlink.{Makes}
-use Rattle.dmr_station.specs.Frames.{Memory, Settings, Counts, FrameGiven, marked_slots, IsAsked, IsPassed, ArePassed, given_of, received_of}
+use Rattle.dmr_station.specs.Frames.{Memory, Counts, FrameGiven, marked_slots, IsAsked, IsPassed, ArePassed, given_of, received_of}
 use Rattle.dmr_station.specs.Frames.{outcomes_of, received_taken, outcomes_told, added, all_counted, counted, nothing_counted}
 use Rattle.dmr_station.specs.Sent.{AreSentAs}
 use Rattle.dmr_station.specs.Station.{State, fresh, IsOffered, AreOffered, after_offer, IsExchanged, AreExchanged, records_of, receipts_from}

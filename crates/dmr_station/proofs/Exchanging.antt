@@ -1,5 +1,5 @@
 -- Frame after frame, what the gateway gives is what is meant in both slots.
-use Rattle.std.proofs.Common.{◌≡◌, ℕ, ◌+◌, eqb, not, Bool, true, false, cond, List, [], ◌∷◌, ◌++◌, filter, count_by, Option, is_some}
+use Rattle.std.proofs.Common.{◌≡◌, ℕ, ◌+◌, eqb, not, Bool, true, false, cond, List, [], ◌∷◌, ◌++◌, Option, is_some}
 use Rattle.std.proofs.Common.{inl, inr, refl, sym, ◌∙◌, ap, subst, arith}
 use Rattle.std.specs.Prelude.{option_to_list}
 use Rattle.std.specs.List.{AllByRecursion}
@@ -12,14 +12,13 @@ use Rattle.dmr_slot.specs.Frames.{OnAir, frame_out, frames_out, after_frame, Are
 use Rattle.dmr_slot.specs.Push.{Memory as Line, ArePushed}
 use Rattle.dmr_slot.specs.declared.line.SlotOut.{SlotOut}
 use Rattle.dmr_gateway.specs.Gateway.{Gate, IsSlot}
-use Rattle.dmr_gateway.specs.Gateway as gateway
 use Rattle.dmr_gateway.specs.Attempts.{refused_now}
 use Rattle.dmr_gateway.specs.Runs.{Happening, brings}
 use Rattle.dmr_gateway.specs.Side.{all_received, side_outcome}
 use Rattle.dmr_gateway.specs.BothSlots.{Turn, Stands, FrameAsMeant, IsFrame}
 use Rattle.dmr_gateway.proofs.BothSlots.{frames_as_meant}
 use Rattle.dmr_station.specs.Downlink.{slots_in, frames_in, claims_in, marked_frames}
-use Rattle.dmr_station.specs.GatewayFrames.{IsReadFrom, AreReadFrom, AreForSlots}
+use Rattle.dmr_station.specs.GatewayFrames.{AreReadFrom, AreForSlots}
 use Rattle.dmr_station.specs.GatewayFrames.{of_slot, fault_of, faults_in, Given, AreGiven, Happens, IsGiven, gates_of}
 use Rattle.dmr_station.specs.Frames.{Settings, Memory, FrameGiven, IsAsked, IsPassed, ArePassed, taken_of, is_free}
 use Rattle.dmr_station.specs.Pairs.{Pairwise}

@@ -4,7 +4,7 @@ use Rattle.std.proofs.lemmas.List.{map-append, length-map}
 use Rattle.dmr_burst.specs.declared.burst.Burst.{Burst}
 use Rattle.dmr_slot.specs.Channel.{ChannelOut, frames_of}
 use Rattle.dmr_slot.specs.Frames.{AreSent}
-use Rattle.dmr_slot.specs.Push.{Memory as Line, start as silent_line, ArePushed}
+use Rattle.dmr_slot.specs.Push.{start as silent_line, ArePushed}
 use Rattle.dmr_slot.specs.Recordings.{handed as handed_slots}
 use Rattle.dmr_slot.specs.declared.line.SlotOut.{SlotOut}
 use Rattle.dmr_slot.proofs.Channels.{looks_back}

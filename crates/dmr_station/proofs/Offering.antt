@@ -1,7 +1,7 @@
 -- The packets that are offered are those of the datagrams that were read.
-use Rattle.std.proofs.Common.{◌≡◌, ℕ, ◌+◌, ◌≤◌, eqb, Bool, true, false, cond, List, [], ◌∷◌, ◌++◌, length, take, filter, count_by, Option, Some, None, is_some, refl, sym, ◌∙◌, ap, subst, arith}
+use Rattle.std.proofs.Common.{◌≡◌, ℕ, ◌+◌, eqb, Bool, true, false, cond, List, [], ◌∷◌, length, take, Option, Some, None, is_some, refl, sym, ◌∙◌, ap, subst}
 use Rattle.std.proofs.lemmas.List.Sums.{sum_by-cons}
-use Rattle.dmr_record.specs.Outgoing.{Sending, sending_of, Keeps}
+use Rattle.dmr_record.specs.Outgoing.{Sending}
 use Rattle.dmr_record.specs.declared.outgoing.Outgoing.{Outgoing}
 use Rattle.dmr_gateway.specs.Gateway as gateway
 use Rattle.dmr_gateway.specs.Packets.{IsPacketFor, IsOutgoingPacket, offer_fault}

@@ -1,6 +1,6 @@
 -- What a slot means is heard in one way, and so a gateway receives one thing of it.
 use Rattle.std.proofs.Common.{◌≡◌, ℕ, Bool, List, [], ◌∷◌, Option, Some, None, refl, sym, ◌∙◌, ap, subst}
-use Rattle.dmr_gateway.specs.Heard.{Tells, IsReading, nothing}
+use Rattle.dmr_gateway.specs.Heard.{Tells, IsReading}
 use Rattle.dmr_gateway.specs.Records.{received_now}
 use Rattle.dmr_gateway.specs.declared.heard.Heard.{Heard}
 use Rattle.dmr_gateway.specs.declared.received.Received.{Received}

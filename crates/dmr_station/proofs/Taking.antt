@@ -1,5 +1,5 @@
 -- What a gateway received is taken one by one, and so is what became of its packets.
-use Rattle.std.proofs.Common.{◌≡◌, ◌≢◌, ℕ, ◌+◌, ◌≤◌, List, [], ◌∷◌, ◌++◌, length, Option, Some, None, refl, sym, ap, ◌∙◌, arith, option_to_list}
+use Rattle.std.proofs.Common.{◌≡◌, ◌≤◌, [], ◌++◌, length, Option, Some, None, refl, arith, option_to_list}
 use Rattle.dmr_arq.specs.declared.sender.Outcome.{Outcome}
 use Rattle.dmr_gateway.specs.Gateway.{Gate, next_received, after_received, next_outcome, after_outcome}
 use Rattle.dmr_gateway.specs.Side.{side_outcome}

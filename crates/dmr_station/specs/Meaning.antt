@@ -13,7 +13,7 @@ use Rattle.dmr_slot.specs.declared.line.SlotOut.{SlotOut}
 use Rattle.dmr_voice.specs.DamagedRecordings.{IsDamagedRecordingOf, meant}
 use Rattle.dmr_voice.specs.Transmissions.{Transmission, Cell, sent_list}
 use Rattle.dmr_voice.specs.WellFormed.{IsWellFormed}
-use Rattle.dmr_voice.specs.declared.said.Content.TheVariants.{Data, First, Middle, Last}
+use Rattle.dmr_voice.specs.declared.said.Content.TheVariants.{Data}
 use Rattle.dmr_voice.specs.declared.said.Said.{Said}
 use Rattle.dmr_voice.specs.declared.said.Said.TheVariants.{Nothing, Repeat}
 use Rattle.dmr_station.specs.declared.sending.DownlinkBurst.{DownlinkBurst}

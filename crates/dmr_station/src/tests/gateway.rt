@@ -1,12 +1,13 @@
 //! A station with its gateway: what it is offered, what it sends and receives, and what it counts.
 
 use super::{new_station, next_frame};
-use crate::{Counts, SILENCE, UplinkFrame};
+use crate::{Counts, SILENCE, Station, UplinkFrame};
 use dmr_bits::Bits;
 use dmr_bptc::{bptc_decode, bptc_encode};
 use dmr_burst::{Burst, Side, encode_burst, read_information};
 use dmr_checks::{Mask, seal};
 use dmr_record::{Octets, Outgoing, ReceivedKind};
+use std::process::Abort;
 
 /// A datagram from radio 1 to radio 2, without data.
 const DATAGRAM: [u8; 28] = [
@@ -26,6 +27,21 @@ fn status_burst() -> [u8; 33] {
         },
         Side::Ms,
     )
+}
+
+/// Offers so many octets of the datagram, for slot 2.
+fn offer(rt: &impl Abort, station: &mut Station, count: u16) {
+    let mut octets = Octets::new();
+    octets.keep(DATAGRAM.get(..usize::from(count)).unwrap_or(&[]));
+    assert!(rt; station.counts().offered < 1_000_000);
+    station.offer(&Outgoing {
+        frame: 0,
+        slot: 2,
+        confirmed: false,
+        full: false,
+        length: count,
+        octets,
+    });
 }
 
 // It came in the first frame of the uplink, and is received in the frame of the downlink in which it is repeated.
@@ -59,18 +75,8 @@ fn status_received(rt: HostRuntime) {
 #[test]
 fn datagrams_offered(rt: HostRuntime) {
     let mut station = new_station(&rt, rt.alloc());
-    for count in [28, 19u16] {
-        let mut octets = Octets::new();
-        octets.keep(DATAGRAM.get(..usize::from(count)).unwrap_or(&[]));
-        station.offer(&Outgoing {
-            frame: 0,
-            slot: 2,
-            confirmed: false,
-            full: false,
-            length: count,
-            octets,
-        });
-    }
+    offer(&rt, &mut station, 28);
+    offer(&rt, &mut station, 19);
     let wanted = [
         b"\xBD\x00\x80\x03\x00\x00\x02\x00\x00\x01",
         b"\xBD\x00\x80\x02\x00\x00\x02\x00\x00\x01",

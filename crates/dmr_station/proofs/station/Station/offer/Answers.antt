@@ -1,4 +1,4 @@
-use Rattle.std.proofs.Common.{Ok, Err, arith}
+use Rattle.std.proofs.Common.{arith}
 use Rattle.dmr_station.proofs.Offers.{one_offer}
 use Rattle.dmr_station.proofs.station.Station.offer.Goals as goal
 
