@@ -7,6 +7,9 @@ UPLINK_HEAD = (TOP / "samples/one_csbk/uplink.dmru").read_bytes()[:8]
 OUTGOING_HEAD = (TOP / "samples/one_csbk/outgoing.dmro").read_bytes()[:8]
 SILENCE = b"\x00"
 
+# A datagram from 12.0.0.1 to 12.0.0.2 with no data.
+DATAGRAM = bytes.fromhex("4500001C123400004011509B0C0000010C0000021398139A0008C0A9")
+
 # The centre of a burst of a mobile station.
 VOICE_SYNC = 0x7F7D5DD57DFD
 DATA_SYNC = 0xD5D7F77FD757
@@ -27,7 +30,8 @@ def slots_of(path):
 
 
 def sample_slots():
-    """The records of slot 1 in each sample: calls, late entries, lost and filled places, and control signalling blocks."""
+    """The records of slot 1 in each sample: calls, late entries, lost and filled places, control signalling blocks, and the
+    packets, statuses and answers of radios."""
     return [slots_of(path) for path in sorted((TOP / "samples").glob("*/uplink.dmru"))]
 
 
@@ -46,6 +50,24 @@ def write_uplink(path, frames, count):
         for _ in range(whole):
             file.write(block)
         file.write(b"".join(frames[:rest]))
+
+
+def write_outgoing(path, records):
+    """An outgoing list of these records, each a frame, a slot, a mode and a datagram."""
+    with open(path, "wb") as file:
+        file.write(OUTGOING_HEAD)
+        for frame, slot, mode, datagram in records:
+            file.write(b"\x02" + frame.to_bytes(4, "big") + bytes([slot, mode]) + len(datagram).to_bytes(2, "big") + datagram)
+
+
+def refused_each_frame(count):
+    """In each frame a datagram that the gateway refuses."""
+    return ((frame, 1, 0, bytes(20)) for frame in range(count))
+
+
+def sent_in_turn(count):
+    """Every 20 frames a datagram, for slot 1 and slot 2 in turn, and so unconfirmed and confirmed, compressed and not."""
+    return ((20 * number, 1 + number % 2, number // 2 % 4, DATAGRAM) for number in range(count // 20))
 
 
 def clean():

@@ -14,9 +14,18 @@ MANY = 2000
 
 
 def long_recording(report):
-    """A recording that is read and written in several pieces: a sample's frames, over and over."""
-    frames = (report.top / "samples/call_lost_and_late_entry/uplink.dmru").read_bytes()[8:]
-    return it.UPLINK_HEAD + 60 * frames
+    """An uplink and an outgoing list that are read and written in several pieces, with datagrams both ways: a sample's frames,
+    twice over, and behind its datagrams those of frames that the run hasn't."""
+    sample = report.top / "samples/radios_that_answer"
+    frames = (sample / "uplink.dmru").read_bytes()[8:]
+    return it.UPLINK_HEAD + 2 * frames, (sample / "outgoing.dmro").read_bytes() + 500 * it.outgoing_record(2**32 - 1)
+
+
+def expect_traffic(report, name, ran):
+    """Datagrams went out, and something came in for the gateway."""
+    words = ran.out.decode().split()
+    counts = dict(zip(words[::2], map(int, words[1::2])))
+    report.expect(f"{name}: datagrams both ways", counts.get("sent", 0) > 0 and counts.get("received", 0) > 0, ran)
 
 
 class Failing:
@@ -82,9 +91,7 @@ def check(report):
     report.expect("there is a C compiler", compiler, "no cc")
     if not compiler:
         return
-    with tempfile.TemporaryDirectory(prefix="dmrgate-failing-") as folder, Room(
-        report, long_recording(report), it.OUTGOING_HEAD + 500 * it.outgoing_record(2**32 - 1)
-    ) as room:
+    with tempfile.TemporaryDirectory(prefix="dmrgate-failing-") as folder, Room(report, *long_recording(report)) as room:
         shim = pathlib.Path(folder) / "failing.so"
         source = report.top / "scripts/failing.c"
         subprocess.run([compiler, "-O1", "-shared", "-fPIC", "-o", shim, source, "-ldl"], check=True)
@@ -93,6 +100,7 @@ def check(report):
         ran = room.run()
         wanted = ran.out, room.outputs()
         report.expect("a whole run", (ran.status, ran.err) == (0, b""), ran)
+        expect_traffic(report, "3,000 frames", ran)
 
         failing = Failing(report, room, shim, wanted)
         growths = check_memory(report, failing)
@@ -106,8 +114,10 @@ def check(report):
         ran, _ = failing.run("short")
         report.expect("an octet at a time", (ran.status, ran.out, room.outputs()) == (0, *wanted), ran)
 
-        room.uplink.write_bytes(it.UPLINK_HEAD + bytes(20))
+        room.uplink.write_bytes(it.UPLINK_HEAD + b"\1" + it.STATUS + bytes(19))
+        room.outgoing.write_bytes(it.OUTGOING_HEAD + it.outgoing_record(0, slot=2))
         ran = room.run()
+        expect_traffic(report, "ten frames", ran)
         short = check_memory(report, Failing(report, room, shim, (ran.out, room.outputs())))
-        report.expect("ten frames want memory as often as 1,000", short == growths, f"{short} and {growths}")
+        report.expect("ten frames want memory as often as 3,000", short == growths, f"{short} and {growths}")
         report.program = script

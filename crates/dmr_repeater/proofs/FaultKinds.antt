@@ -9,7 +9,8 @@ use Rattle.dmr_record.specs.Uplink.{ShowsFault}
 use Rattle.dmr_repeater.specs.declared.fault.RunFault.{RunFault}
 use Rattle.dmr_repeater.specs.declared.fault.RunFault.TheVariants.{File, Memory}
 use Rattle.dmr_repeater.specs.declared.fault.Stream.TheVariants.{Uplink, Outgoing, Downlink, Received}
-use Rattle.dmr_repeater.specs.Runs.{IfOutgoing, IfUplink, is_of_its_stream}
+use Rattle.dmr_repeater.specs.declared.fault.Stream.{Stream}
+use Rattle.dmr_repeater.specs.Runs.{IfOutgoing, IfOutput, IfUplink, is_of_its_stream}
 
 pub uplink_head : (magic : List ℕ) (e : RecordFault) (octets : List ℕ)
     → ShowsHeadFault magic e octets → is_of_its_stream (File Uplink e) ≡ true
@@ -74,3 +75,10 @@ IfUplink-map (File Outgoing fault) P Q found u = tt
 IfUplink-map (File Downlink fault) P Q found u = tt
 IfUplink-map (File Received fault) P Q found u = tt
 IfUplink-map Memory P Q found u = tt
+
+pub IfOutput-map : (e : RunFault) (P Q : Stream → Type 0) → ((output : Stream) → P output → Q output) → IfOutput e P → IfOutput e Q
+IfOutput-map (File Downlink fault) P Q fails u = fails Downlink u
+IfOutput-map (File Received fault) P Q fails u = fails Received u
+IfOutput-map (File Uplink fault) P Q fails u = tt
+IfOutput-map (File Outgoing fault) P Q fails u = tt
+IfOutput-map Memory P Q fails u = tt

@@ -21,14 +21,14 @@ use Rattle.dmr_repeater.specs.Schedule.{Progress, unread, waiting, last_frame, G
 
 -- 1. Lists that go together, taken apart.
 
-record Apart {X Y : Type 0} (R : X → Y → Type 0) (xs ys : List X) (zs : List Y) : Type 0 where
-  front : List Y
-  rest : List Y
-  whole : zs ≡ front ++ rest
-  first : Pairwise R xs front
-  second : Pairwise R ys rest
+pub record Apart {X Y : Type 0} (R : X → Y → Type 0) (xs ys : List X) (zs : List Y) : Type 0 where
+  pub front : List Y
+  pub rest : List Y
+  pub whole : zs ≡ front ++ rest
+  pub first : Pairwise R xs front
+  pub second : Pairwise R ys rest
 
-apart : {X Y : Type 0} (R : X → Y → Type 0) (xs ys : List X) (zs : List Y) → Pairwise R (xs ++ ys) zs → Apart R xs ys zs
+pub apart : {X Y : Type 0} (R : X → Y → Type 0) (xs ys : List X) (zs : List Y) → Pairwise R (xs ++ ys) zs → Apart R xs ys zs
 apart R [] ys zs p = record { front = []; rest = zs; whole = refl; first = tt; second = p }
 apart R (x ∷ xs) ys [] p = absurd p
 apart R (x ∷ xs) ys (z ∷ zs) p =

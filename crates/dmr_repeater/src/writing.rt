@@ -8,7 +8,7 @@ ghost use Rattle.dmr_record.specs.Received.{receipt_octets};
 ghost use Rattle.dmr_station.specs.Frames.{received_of};
 ghost use Rattle.dmr_station.specs.GatewayFrames.{receipt_of};
 ghost use Rattle.dmr_station.specs.Station.{all_taken};
-ghost use Rattle.dmr_repeater.specs.Runs.{FrontOf, IfOutgoing, IfUplink, SendsFrontOfOne, SendsOne};
+ghost use Rattle.dmr_repeater.specs.Runs.{FrontOf, IfOutgoing, IfOutput, IfUplink, SendsFrontOfOne, SendsOne, TearsOne};
 ghost use Rattle.dmr_repeater.specs.Runs.{is_downlink_failure, is_failure, is_memory, is_of_its_stream, is_outgoing_failure};
 ghost use Rattle.dmr_repeater.specs.Runs.{is_received_failure, is_uplink_failure};
 
@@ -82,7 +82,8 @@ pub fn send<D: Sink, R: Sink>(
     ensures torn { OnErr result (SendsFrontOfOne station.old frame.now (D.held downlink.old) (D.held downlink.new)
         (R.held received.old) (R.held received.new)) }
     // What was received is written behind the frame, and not where that fails.
-    ensures order { IfErr result (λ e. is_downlink_failure e ≡ true → R.held received.new ≡ R.held received.old) }
+    ensures failed { IfErr result (λ e. IfOutput e (λ output. TearsOne output station.old frame.now
+        (D.held downlink.old) (D.held downlink.new) (R.held received.old) (R.held received.new))) }
     ensures device { IfErr result (λ e. (D.has_failed downlink.new ≡ is_downlink_failure e)
         × (R.has_failed received.new ≡ is_received_failure e)) }
     ensures others { IfErr result (λ e. (is_uplink_failure e ≡ false) × (is_outgoing_failure e ≡ false)) }
