@@ -17,7 +17,8 @@ use Rattle.dmr_slot.proofs.Cleaning.{ArePairs, firsts, seconds}
 use Rattle.dmr_slot.specs.Clean.{IsCleanMessage, IsCleanInformation, IsCleanGate}
 use Rattle.dmr_slot.specs.declared.line.SlotOut.{SlotOut}
 use Rattle.dmr_record.specs.Outgoing.{Sending}
-use Rattle.dmr_gateway.specs.Bursts.{IsWordBurst, IsHeaderBurst, IsBlockBurst, IsTryBurst, IsAnswerBurst, IsGatewayBurst, IsEncodedAs}
+use Rattle.dmr_gateway.specs.Bursts.{IsWordBurst, IsHeaderBurst, IsBlockBurst, IsTryBurst, IsAnswerBurst, IsGatewayBurst}
+use Rattle.dmr_gateway.specs.Bursts.{IsEncodedAs}
 use Rattle.dmr_gateway.specs.Runs.{Happening}
 use Rattle.dmr_gateway.specs.declared.answers.Due.{Due}
 use Rattle.dmr_gateway.specs.declared.outbox.SlotBurst.{SlotBurst}
@@ -69,7 +70,8 @@ clean_word colour kind message b small clean u = clean_data colour kind u.0 b u.
 clean_header : (colour : ℕ) (h : Header) (b : Burst) → IsHeaderBurst colour h b → IsCleanGate colour (Some b)
 clean_header colour h b u = clean_word colour 6 u.0 b (omega arith) (header_message u.0 u.1.sealed) u.2
 
-clean_block : (colour : ℕ) (rate : Rate) (block : Block) (b : Burst) → IsBlockBurst colour rate block b → IsCleanGate colour (Some b)
+clean_block : (colour : ℕ) (rate : Rate) (block : Block) (b : Burst) → IsBlockBurst colour rate block b
+    → IsCleanGate colour (Some b)
 clean_block colour Half block b u =
     clean_data colour 7 u.0 b u.2 (omega arith) (inr (inr (u.1.content, u.1.sent, block_message u.1.content)))
 clean_block colour Full block b u = clean_data colour 10 u.0 b u.2 (omega arith) (inr (inl refl))
@@ -84,7 +86,8 @@ clean_answer : (colour : ℕ) (due : Due) (number : ℕ) (b : Burst) → IsAnswe
 clean_answer colour due zero b u = clean_header colour _ b u
 clean_answer colour due (suc place) b u = clean_block colour Half u.1 b u.4
 
-clean_burst : (colour llid : ℕ) (sending : SlotBurst) (b : Burst) → IsGatewayBurst colour llid sending b → IsCleanGate colour (Some b)
+clean_burst : (colour llid : ℕ) (sending : SlotBurst) (b : Burst) → IsGatewayBurst colour llid sending b
+    → IsCleanGate colour (Some b)
 clean_burst colour llid (burst.Answer due number) b u = clean_answer colour due number b u
 clean_burst colour llid (burst.Try sending) b u = clean_try colour llid sending b u
 

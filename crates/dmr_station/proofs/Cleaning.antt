@@ -84,7 +84,8 @@ seconds_in (a ∷ first) (b ∷ second) e = ap (λ (outs : List SlotOut). b ∷ 
 same_claims : (outs : List (List SlotOut)) (gates : List (List (Option Burst))) → claims_in outs gates ≡ frame_claims outs gates
 same_claims [] gates = refl
 same_claims (slots ∷ outs) [] = refl
-same_claims (slots ∷ outs) (gate ∷ gates) = ap (λ (claims : List (List Claim)). claims_of slots gate ∷ claims) (same_claims outs gates)
+same_claims (slots ∷ outs) (gate ∷ gates) =
+    ap (λ (claims : List (List Claim)). claims_of slots gate ∷ claims) (same_claims outs gates)
 
 -- the frames of both slots, and of both slots of the gateway, are as many as those in which datagrams are offered
 outs_length : (s : Settings) (slot : ℕ) (back : List Happening) (offers : List (List Sending)) (outs : List SlotOut)
@@ -176,17 +177,20 @@ clean_made s offers frames sending receipts counts u =
     let two : List Given = u.gateway.second_given in
     let bursts = u.downlink.bursts in
     let long : length u.first ≡ length u.second =
-    long_line _ (slots_in 0 frames) u.first u.first_line.0 u.first_line.1 ∙ length-map frames (slot_in 0)
-    ∙ sym (long_line _ (slots_in 1 frames) u.second u.second_line.0 u.second_line.1 ∙ length-map frames (slot_in 1)) in
+    long_line _ (slots_in 0 frames) u.first u.first_line.after u.first_line.pushed ∙ length-map frames (slot_in 0)
+    ∙ sym (long_line _ (slots_in 1 frames) u.second u.second_line.after u.second_line.pushed ∙ length-map frames (slot_in 1)) in
     let one_long = given_length s 1 [] offers u.first one u.gateway.first_slot in
     let two_long = given_length s 2 [] offers u.second two u.gateway.second_slot in
     let out_long = outs_length s 1 [] offers u.first one u.gateway.first_slot in
     let as_long : length outs ≡ length (gates_of one two) =
     frames_length u.first u.second long ∙ out_long ∙ sym (gates_length one two (one_long ∙ sym two_long) ∙ one_long) in
-    let clean_first = pushed_lines_are_clean s.colour s.call_hang (slots_in 0 frames) u.first u.first_line.0 u.first_line.1 in
-    let clean_second = pushed_lines_are_clean s.colour s.call_hang (slots_in 1 frames) u.second u.second_line.0 u.second_line.1 in
+    let clean_first = pushed_lines_are_clean s.colour s.call_hang (slots_in 0 frames) u.first u.first_line.after
+    u.first_line.pushed in
+    let clean_second = pushed_lines_are_clean s.colour s.call_hang (slots_in 1 frames) u.second u.second_line.after
+    u.second_line.pushed in
     let channel : Pairwise (AreSent s.colour) (frames_of s.channel_hang [] (claims_in outs (gates_of one two))) bursts =
-    subst (λ (gates : List (List (Option Burst))). Pairwise (AreSent s.colour) (frames_of s.channel_hang [] (claims_in outs gates)) bursts)
+    subst (λ (gates : List (List (Option Burst))). Pairwise (AreSent s.colour)
+    (frames_of s.channel_hang [] (claims_in outs gates)) bursts)
     u.gateway.gates_are u.downlink.channel in
     let sent = all_frames_sent s.colour (frames_of s.channel_hang [] (claims_in outs (gates_of one two))) bursts channel in
     let both = both_clean s.colour s.channel_hang [] outs (gates_of one two) bursts as_long (pairs_in u.first u.second)

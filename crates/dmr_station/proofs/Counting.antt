@@ -27,7 +27,8 @@ receipt_count [] second = 0
 receipt_count (a ∷ first) [] = 0
 receipt_count (a ∷ first) (b ∷ second) = length (a.received ++ b.received) + receipt_count first second
 
-pub receipts_counted : (frame : ℕ) (first second : List Given) → length (receipts_of frame first second) ≡ receipt_count first second
+pub receipts_counted : (frame : ℕ) (first second : List Given)
+    → length (receipts_of frame first second) ≡ receipt_count first second
 receipts_counted frame [] second = refl
 receipts_counted frame (a ∷ first) [] = refl
 receipts_counted frame (a ∷ first) (b ∷ second) =
@@ -82,13 +83,17 @@ counted_of_both (a ∷ first) (b ∷ second) e =
     let rest : all_counted (givens_of first second) ≡ counts_of first second = counted_of_both first second (omega (arith, e)) in
     let short = receipts_counted 0 first second in
     let long = receipts_counted 0 (a ∷ first) (b ∷ second) in
-    let records : (all_counted (givens_of first second)).received ≡ length (receipts_of 0 first second) = ap (λ (c : Counts). c.received) rest in
-    let refusals : (all_counted (givens_of first second)).refused ≡ refused_in first + refused_in second = ap (λ (c : Counts). c.refused) rest in
+    let records : (all_counted (givens_of first second)).received ≡ length (receipts_of 0 first second) =
+    ap (λ (c : Counts). c.received) rest in
+    let refusals : (all_counted (givens_of first second)).refused ≡ refused_in first + refused_in second =
+    ap (λ (c : Counts). c.refused) rest in
     let x = refused_cons a first in
     let y = refused_cons b second in
     same_counts (added (counted (given_in a b)) (all_counted (givens_of first second))) (counts_of (a ∷ first) (b ∷ second))
     (omega (arith, short, long, records))
-    (outcomes_of_both Delivered a b first second (all_counted (givens_of first second)).delivered (ap (λ (c : Counts). c.delivered) rest))
+    (outcomes_of_both Delivered a b first second (all_counted (givens_of first second)).delivered
+    (ap (λ (c : Counts). c.delivered) rest))
     (outcomes_of_both Sent a b first second (all_counted (givens_of first second)).sent (ap (λ (c : Counts). c.sent) rest))
-    (outcomes_of_both GivenUp a b first second (all_counted (givens_of first second)).given_up (ap (λ (c : Counts). c.given_up) rest))
+    (outcomes_of_both GivenUp a b first second (all_counted (givens_of first second)).given_up
+    (ap (λ (c : Counts). c.given_up) rest))
     (omega (arith, refusals, x, y))

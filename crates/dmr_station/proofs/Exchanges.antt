@@ -14,7 +14,8 @@ use Rattle.dmr_station.specs.Downlink.{Makes}
 use Rattle.dmr_station.specs.Frames.{Memory, Counts, FrameGiven, marked_slots, IsAsked, IsPassed, ArePassed, given_of, received_of}
 use Rattle.dmr_station.specs.Frames.{outcomes_of, received_taken, outcomes_told, added, all_counted, counted, nothing_counted}
 use Rattle.dmr_station.specs.Sent.{AreSentAs}
-use Rattle.dmr_station.specs.Station.{State, fresh, IsOffered, AreOffered, after_offer, IsExchanged, AreExchanged, records_of, receipts_from}
+use Rattle.dmr_station.specs.Station.{State, fresh, IsOffered, AreOffered, after_offer, IsExchanged, AreExchanged}
+use Rattle.dmr_station.specs.Station.{records_of, receipts_from}
 use Rattle.dmr_station.specs.Station.{with_outcomes, all_taken, SendsByTheRules}
 use Rattle.dmr_station.proofs.Counting.{same_counts}
 use Rattle.dmr_station.proofs.Cleaning.{clean_made, sent_bursts_are_clean, two_sent}
@@ -57,7 +58,8 @@ more_refused : (a b : ℕ) (c : Counts) → with_refused b (with_refused a c) �
 more_refused a b c =
     let e : c.refused + a + b ≡ c.refused + (a + b) = omega arith in ap (λ (n : ℕ). record c { refused = n }) e
 
-offering_at : (before next ready : State) (o : Outgoing) (os : List Outgoing) (one : IsOffered before o next) → next ≡ after_offer one.gate (refusal one.result) before
+offering_at : (before next ready : State) (o : Outgoing) (os : List Outgoing) (one : IsOffered before o next)
+    → next ≡ after_offer one.gate (refusal one.result) before
     → Offering (after_offer one.gate (refusal one.result) before) os ready → Offering before (o ∷ os) ready
 offering_at before next ready o os one is more =
     let counted = more.offered in
@@ -75,7 +77,8 @@ offering : (before : State) (os : List Outgoing) (ready : State) → AreOffered 
 offering before [] ready u = record {
   refused = 0;
   offered_all = (refl, ap (λ (s : State). s.memory.gate) u);
-  memory = ap (λ (s : State). s.memory) u ∙ ap (λ (g : Gate). record before.memory { gate = g }) (sym (ap (λ (s : State). s.memory.gate) u));
+  memory = ap (λ (s : State). s.memory) u
+      ∙ ap (λ (g : Gate). record before.memory { gate = g }) (sym (ap (λ (s : State). s.memory.gate) u));
   frames = ap (λ (s : State). s.frames) u;
   repeated = ap (λ (s : State). s.repeated) u;
   offered = let same = ap (λ (s : State). s.offered) u in omega arith;
@@ -208,11 +211,13 @@ sends_by_the_rules s read offers frames records received after pairs slots u =
     let all = together (fresh s) read frames records received after u in
     let made = makes s read offers frames all.sending all.givens after.memory all.passed pairs slots in
     let counted = all.repeated in
-    let receipts : receipts_from 0 received ≡ receipts_from 0 (map (λ (g : FrameGiven). g.received) all.givens) = ap (receipts_from 0) all.received_is in
+    let receipts : receipts_from 0 received ≡ receipts_from 0 (map (λ (g : FrameGiven). g.received) all.givens) =
+    ap (receipts_from 0) all.received_is in
     let counts : after.counts ≡ all_counted all.givens = all.counts ∙ from_nothing (all_counted all.givens) in
     let moved : Makes s offers frames all.sending (receipts_from 0 received) after.counts =
     subst (λ l. Makes s offers frames all.sending l after.counts) (sym receipts)
-    (subst (λ c. Makes s offers frames all.sending (receipts_from 0 (map (λ (g : FrameGiven). g.received) all.givens)) c) (sym counts) made) in
+    (subst (λ c. Makes s offers frames all.sending (receipts_from 0 (map (λ (g : FrameGiven). g.received) all.givens)) c)
+    (sym counts) made) in
     record {
       sending = all.sending;
       makes = moved;

@@ -176,7 +176,8 @@ givens_of (a ∷ first) (b ∷ second) = given_in a b ∷ givens_of first second
 
 -- What frames come to, in both slots, after those that happened before.
 pub record Exchanged (s : Settings) (m : Memory) (back_1 back_2 : List Happening) (offers : List (List Sending))
-    (frames : List (List (Option (List ℕ)))) (sending : List (List (Option DownlinkBurst))) (givens : List FrameGiven) : Type 0 where
+    (frames : List (List (Option (List ℕ)))) (sending : List (List (Option DownlinkBurst)))
+    (givens : List FrameGiven) : Type 0 where
   pub first : List SlotOut
   pub second : List SlotOut
   pub first_after : Line
@@ -203,7 +204,8 @@ claimed : (m : Memory) (f : List (Option (List ℕ))) (x : List (Option Downlink
     (one two : Option Burst) → a.first_gate ≡ one → a.second_gate ≡ two
     → AreSent m.channel.colour (frame_out m.channel (claims_of (a.first ∷ a.second ∷ []) (one ∷ two ∷ []))) a.bursts
 claimed m f x asked a one two e g =
-    subst (λ (l : List (Option Burst)). AreSent m.channel.colour (frame_out m.channel (claims_of (a.first ∷ a.second ∷ []) l)) a.bursts)
+    subst (λ (l : List (Option Burst)). AreSent m.channel.colour
+    (frame_out m.channel (claims_of (a.first ∷ a.second ∷ []) l)) a.bursts)
     (ap (λ (o : Option Burst). o ∷ a.second_gate ∷ []) e ∙ ap (λ (o : Option Burst). one ∷ o ∷ []) g) a.sent
 
 channel_after : (m : Memory) (f : List (Option (List ℕ))) (x : List (Option DownlinkBurst)) (asked : Memory)
@@ -260,7 +262,8 @@ exchanged s back_1 back_2 m (os ∷ oss) (ss ∷ offers) (f ∷ fs) (x ∷ xs) (
       first_pushed = (
         p.asked.first,
         a.first_line,
-        subst (λ (l : Line). ArePushed l (slots_in 0 fs) more.first more.first_after) (ap (λ (k : Memory). k.first) moved) more.first_pushed,
+        subst (λ (l : Line). ArePushed l (slots_in 0 fs) more.first more.first_after) (ap (λ (k : Memory). k.first) moved)
+            more.first_pushed,
       );
       second_pushed = (
         p.asked.second,

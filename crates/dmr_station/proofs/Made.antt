@@ -4,12 +4,12 @@ use Rattle.std.proofs.lemmas.List.{map-append, length-map}
 use Rattle.dmr_burst.specs.declared.burst.Burst.{Burst}
 use Rattle.dmr_slot.specs.Channel.{ChannelOut, frames_of}
 use Rattle.dmr_slot.specs.Frames.{AreSent}
-use Rattle.dmr_slot.specs.Push.{start as silent_line, ArePushed}
+use Rattle.dmr_slot.specs.Push.{Memory as Line, start as silent_line, ArePushed}
 use Rattle.dmr_slot.specs.Recordings.{handed as handed_slots}
 use Rattle.dmr_slot.specs.declared.line.SlotOut.{SlotOut}
 use Rattle.dmr_slot.proofs.Channels.{looks_back}
 use Rattle.dmr_slot.proofs.Recorded.{line_of_what_is_meant}
-use Rattle.dmr_slot.proofs.Fronts.{front_of_what_is_meant}
+use Rattle.dmr_slot.proofs.Fronts.{front_of_any_line, front_of_what_is_meant}
 use Rattle.dmr_slot.proofs.Unique.{one_sent}
 use Rattle.dmr_voice.proofs.Law.{repeats_what_is_meant}
 use Rattle.dmr_voice.specs.DamagedRecordings.{IsDamagedRecordingOf}
@@ -46,6 +46,12 @@ given_length s slot back (o ∷ offers) (out ∷ outs) [] u = absurd u
 given_length s slot back (o ∷ offers) (out ∷ outs) (g ∷ givens) u =
     let more = given_length s slot (u.0 ∷ back) offers outs givens u.3 in omega (arith, more)
 
+-- what is pushed into a line is what a look back over it finds
+pushed_line : (s : Settings) (slots : List (Option (List ℕ))) (outs : List SlotOut) (after : Line)
+    → ArePushed (silent_line s.colour s.call_hang) slots outs after → IsPushedLine s slots outs
+pushed_line s slots outs after pushed =
+    record { after = after; pushed = pushed; looks_back = front_of_any_line s.colour s.call_hang slots outs after pushed }
+
 pub makes : (s : Settings) (oss : List (List Outgoing)) (offers : List (List Sending)) (frames : List (List (Option (List ℕ))))
     (sending : List (List (Option DownlinkBurst))) (givens : List FrameGiven) (after : Memory)
     → ArePassed (start s) oss frames sending givens after → Pairwise AreReadFrom oss offers → AllByRecursion AreForSlots offers
@@ -59,8 +65,8 @@ makes s oss offers frames sending givens after u pairs slots =
     record {
       first = both.first;
       second = both.second;
-      first_line = (both.first_after, both.first_pushed);
-      second_line = (both.second_after, both.second_pushed);
+      first_line = pushed_line s (slots_in 0 frames) both.first both.first_after both.first_pushed;
+      second_line = pushed_line s (slots_in 1 frames) both.second both.second_after both.second_pushed;
       gates = gates_of both.first_given both.second_given;
       gateway = record {
         first_given = both.first_given;
@@ -98,20 +104,21 @@ module _ (s : Settings) (lead : ℕ) (ts : List (Transmission
     (same : slots_in number (handed frames) ≡ handed_slots (slots_in number frames)) where
   whole_of_meaning : IsPushedLine s (slots_in number (handed frames)) outs
       → IsLineOfWhatIsMeant s (sent_list s.colour lead ts) (slots_in number frames) outs
-  whole_of_meaning (after, pushed) =
-      line_of_what_is_meant repeats_what_is_meant s.colour s.call_hang lead ts (slots_in number frames) outs after well recorded
-      (subst (λ (l : List (Option (List ℕ))). ArePushed (silent_line s.colour s.call_hang) l outs after) same pushed)
+  whole_of_meaning line =
+      line_of_what_is_meant repeats_what_is_meant s.colour s.call_hang lead ts (slots_in number frames) outs line.after well
+      recorded
+      (subst (λ (l : List (Option (List ℕ))). ArePushed (silent_line s.colour s.call_hang) l outs line.after) same line.pushed)
 
   front_of_meaning : (xs ys : List (List (Option (List ℕ)))) → handed frames ≡ xs ++ ys → IsPushedLine s (slots_in number xs) outs
       → IsFrontOfWhatIsMeant s (sent_list s.colour lead ts) (slots_in number frames) (length xs) outs
-  front_of_meaning xs ys split (after, pushed) =
+  front_of_meaning xs ys split line =
       let slots_split : handed_slots (slots_in number frames) ≡ slots_in number xs ++ slots_in number ys =
       sym same ∙ ap (slots_in number) split ∙ map-append (slot_in number) xs ys in
       subst (λ (count : ℕ). IsFrontOfWhatIsMeant s (sent_list s.colour lead ts) (slots_in number frames) count outs)
       (length-map xs (slot_in number))
       (front_of_what_is_meant repeats_what_is_meant s.colour s.call_hang lead ts (slots_in number frames) (slots_in number xs)
-      (slots_in number ys) outs after
-      well recorded slots_split pushed)
+      (slots_in number ys) outs line.after
+      well recorded slots_split line.pushed)
 
 -- in both slots
 module _ (s : Settings) (lead : ℕ) (ts : List (Transmission

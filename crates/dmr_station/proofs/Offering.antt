@@ -1,5 +1,6 @@
 -- The packets that are offered are those of the datagrams that were read.
-use Rattle.std.proofs.Common.{◌≡◌, ℕ, ◌+◌, eqb, Bool, true, false, cond, List, [], ◌∷◌, length, take, Option, Some, None, is_some, refl, sym, ◌∙◌, ap, subst}
+use Rattle.std.proofs.Common.{◌≡◌, ℕ, ◌+◌, eqb, Bool, true, false, cond, List, [], ◌∷◌, length, take, Option, Some, None}
+use Rattle.std.proofs.Common.{is_some, refl, sym, ◌∙◌, ap, subst}
 use Rattle.std.proofs.lemmas.List.Sums.{sum_by-cons}
 use Rattle.dmr_record.specs.Outgoing.{Sending}
 use Rattle.dmr_record.specs.declared.outgoing.Outgoing.{Outgoing}
@@ -20,17 +21,20 @@ fault_read o s r =
     ∙ ((kept o.confirmed o.full s.datagram).fault
     ∙ ap fault_of r.fields))
 
-packet_read : (llid : ℕ) (o : Outgoing) (s : Sending) (q : Queued) → IsReadFrom o s → fault_of s ≡ None → IsOutgoingPacket llid o q → IsPacketFor llid s.confirmed s.full s.datagram q
+packet_read : (llid : ℕ) (o : Outgoing) (s : Sending) (q : Queued) → IsReadFrom o s → fault_of s ≡ None
+    → IsOutgoingPacket llid o q → IsPacketFor llid s.confirmed s.full s.datagram q
 packet_read llid o s q r none p =
     let whole : take 1400 s.datagram ≡ s.datagram = (kept o.confirmed o.full s.datagram).whole (ap fault_of r.fields ∙ none) in
     let same : o.octets ≡ s.datagram = r.keeps.front ∙ whole in
-    let a : IsPacketFor llid o.confirmed o.full s.datagram q = subst (λ octets. IsPacketFor llid o.confirmed o.full octets q) same p in
+    let a : IsPacketFor llid o.confirmed o.full s.datagram q =
+    subst (λ octets. IsPacketFor llid o.confirmed o.full octets q) same p in
     subst (λ (x : Sending). IsPacketFor llid x.confirmed x.full s.datagram q) r.fields a
 
 slot_read : (o : Outgoing) (s : Sending) → IsReadFrom o s → o.slot ≡ s.slot
 slot_read o s r = ap (λ (x : Sending). x.slot) r.fields
 
-one_read : (mine : Bool) (own meant : Option GatewayFault) (llid slot : ℕ) (o : Outgoing) (s : Sending) (more : List Sending) (packets : List Queued) (Rest : List Queued → Type 0) →
+one_read : (mine : Bool) (own meant : Option GatewayFault) (llid slot : ℕ) (o : Outgoing) (s : Sending) (more : List Sending)
+    (packets : List Queued) (Rest : List Queued → Type 0) →
     own ≡ meant → meant ≡ fault_of s → IsReadFrom o s →
     ((later : List Queued) → Rest later → Offers llid (of_slot slot more) later) →
     gateway.OffersOf mine own llid o packets Rest →
@@ -52,9 +56,11 @@ offers_read llid slot [] [] packets pairs p = p
 offers_read llid slot [] (s ∷ ss) packets pairs p = elim pairs [ ]
 offers_read llid slot (o ∷ os) [] packets pairs p = elim pairs [ ]
 offers_read llid slot (o ∷ os) (s ∷ ss) packets pairs p =
-    one_read (eqb s.slot slot) (asked.fault_of o) (fault_of s) llid slot o s ss packets (gateway.Offers llid slot os) (fault_read o s pairs.0) refl pairs.0
+    one_read (eqb s.slot slot) (asked.fault_of o) (fault_of s) llid slot o s ss packets (gateway.Offers llid slot os)
+    (fault_read o s pairs.0) refl pairs.0
     (λ later q. offers_read llid slot os ss later pairs.1 q)
-    (subst (λ n. gateway.OffersOf (eqb n slot) (asked.fault_of o) llid o packets (gateway.Offers llid slot os)) (slot_read o s pairs.0) p)
+    (subst (λ n. gateway.OffersOf (eqb n slot) (asked.fault_of o) llid o packets (gateway.Offers llid slot os))
+    (slot_read o s pairs.0) p)
 
 count_of : (f : Option GatewayFault) → gateway.fault_count f ≡ cond (is_some f) 1 0
 count_of None = refl

@@ -8,7 +8,8 @@ use Rattle.dmr_station.specs.Frames.{Memory}
 use Rattle.dmr_station.specs.Station.{State, IsOffered, state_of}
 use Rattle.dmr_station.specs.declared.station.Counts.{Counts}
 
-pub one_offer : (before : State) (m next : Memory) (c : Counts) (o : Outgoing) (result : Result (Unit {0}) GatewayFault) (refused : ℕ)
+pub one_offer : (before : State) (m next : Memory) (c : Counts) (o : Outgoing) (result : Result (Unit {0}) GatewayFault)
+    (refused : ℕ)
     → state_of m c ≡ before → IsOffer (fault_of o) o result m.gate next.gate → next ≡ record m { gate = next.gate }
     → refused ≡ c.refused + refusal result
     → IsOffered before o (state_of next (record c { offered = c.offered + 1; refused = refused }))

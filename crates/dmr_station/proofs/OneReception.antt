@@ -16,10 +16,12 @@ told_alike None (Some y) P u v = (u y).1 ((v y).0 refl)
 told_alike (Some x) None P u v = sym ((v x).1 ((u x).0 refl))
 told_alike (Some x) (Some y) P u v = sym ((v x).1 ((u x).0 refl))
 
-pub read_alike : (kind : ℕ) (information : List Bool) (a b : Heard) → IsReading kind information a → IsReading kind information b → a ≡ b
+pub read_alike : (kind : ℕ) (information : List Bool) (a b : Heard) → IsReading kind information a
+    → IsReading kind information b → a ≡ b
 read_alike kind information a b u v =
     ap (λ x. record a { header = x }) (told_alike a.header b.header _ u.header v.header)
-    ∙ ap (λ x. record a { header = b.header; unconfirmed = x }) (told_alike a.unconfirmed b.unconfirmed _ u.unconfirmed v.unconfirmed)
+    ∙ ap (λ x. record a { header = b.header; unconfirmed = x })
+    (told_alike a.unconfirmed b.unconfirmed _ u.unconfirmed v.unconfirmed)
     ∙ ap (λ x. record b { confirmed = x }) (told_alike a.confirmed b.confirmed _ u.confirmed v.confirmed)
 
 heard_alike : (said : Said) (a b : Heard) → IsHeardOf said a → IsHeardOf said b → a ≡ b
@@ -48,5 +50,6 @@ one_reception (said ∷ more) llid slot back (x ∷ xs) (y ∷ ys) u v =
 pub same_meaning : (a b : List Said) → a ≡ b → IsSameMeaning a b
 same_meaning a b same = record {
   said = same;
-  records = λ llid slot x y u v. one_reception a llid slot [] x y u (subst (λ saids. AreRecordsOf llid slot [] saids y) (sym same) v);
+  records = λ llid slot x y u v. one_reception a llid slot [] x y u
+      (subst (λ saids. AreRecordsOf llid slot [] saids y) (sym same) v);
 }

@@ -4,6 +4,7 @@ use Rattle.std.specs.List.{flat_map}
 use Rattle.dmr_burst.specs.declared.burst.Burst.{Burst}
 use Rattle.dmr_slot.specs.Channel.{claims_of, frames_of}
 use Rattle.dmr_slot.specs.Frames.{AreSent}
+use Rattle.dmr_slot.specs.Fronts.{IsFrontOfLine}
 use Rattle.dmr_slot.specs.Push.{Memory as Line, start as silent_line, ArePushed}
 use Rattle.dmr_slot.specs.declared.channel.Claim.{Claim}
 use Rattle.dmr_slot.specs.declared.line.SlotOut.{SlotOut}
@@ -67,9 +68,12 @@ pub record IsDownlinkOf (s : Settings) (first second : List SlotOut) (gates : Li
 
 -- 3. By the rules, whatever is read.
 
--- What a line that heard nothing gives for slots, one push after another.
-abbrev pub IsPushedLine : Settings → List (Option (List ℕ)) → List SlotOut → Type 0
-IsPushedLine s slots outs = (after : Line) × ArePushed (silent_line s.colour s.call_hang) slots outs after
+-- What a line that heard nothing gives for slots, one push after another; and by looking back, it is what the rules for voice calls
+-- repeat of them, or else the call hang.
+pub record IsPushedLine (s : Settings) (slots : List (Option (List ℕ))) (outs : List SlotOut) : Type 0 where
+  pub after : Line
+  pub pushed : ArePushed (silent_line s.colour s.call_hang) slots outs after
+  pub looks_back : IsFrontOfLine s.colour s.call_hang slots outs
 
 -- What the rules make of frames that are handed over one after another, and of the datagrams of the outgoing file: the lines of
 -- both slots, what the gateway makes of them, and what goes out.

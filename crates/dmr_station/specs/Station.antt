@@ -14,7 +14,8 @@ use Rattle.dmr_station.specs.declared.sending.DownlinkBurst.{DownlinkBurst}
 use Rattle.dmr_station.specs.declared.station.Counts.{Counts as StationCounts}
 use Rattle.dmr_station.specs.Clean.{IsCleanDownlink}
 use Rattle.dmr_station.specs.Downlink.{repeated_count, slots_of, Makes}
-use Rattle.dmr_station.specs.Frames.{Settings, Memory, Counts, start, settings_in as settings_remembered, nothing_counted, outcome_count}
+use Rattle.dmr_station.specs.Frames.{Settings, Memory, Counts, start, settings_in as settings_remembered, nothing_counted}
+use Rattle.dmr_station.specs.Frames.{outcome_count}
 use Rattle.dmr_station.specs.Frames.{IsAsked, received_of, outcomes_of, received_taken, outcomes_told}
 use Rattle.dmr_station.specs.GatewayFrames.{AreReadFrom, AreForSlots, receipt_of}
 use Rattle.dmr_station.specs.Pairs.{Pairwise}
@@ -78,9 +79,9 @@ with_outcomes outcomes c =
       given_up = c.given_up + outcome_count GivenUp outcomes;
     }
 
--- A frame of the uplink is taken, and the records of a frame of the downlink are given: what goes out by the rules, exactly encoded,
--- in the place that it has among all records of the downlink, and counted. What became of the gateway's packets is counted too; what
--- it received is still to be taken.
+-- A frame of the uplink is taken, and the records of a frame of the downlink are given: what goes out by the rules, exactly
+-- encoded, in the place that it has among all records of the downlink, and counted. What became of the gateway's packets is
+-- counted too; what it received is still to be taken.
 pub record IsExchanged (before : State) (frame : List (Option (List ℕ))) (records : List (Option (List ℕ × List ℕ)))
     (after : State) : Type 0 where
   pub sending : List (Option DownlinkBurst)

@@ -30,7 +30,8 @@ pub fn sends_front_of_what_is_meant()
 /// What the lines of both slots and the gateway give goes out in one way.
 pub fn one_downlink()
     ensures law { (s : Settings) (first second : List SlotOut) (gates : List (List (Option Burst)))
-        (a b : List (List (Option DownlinkBurst))) → IsDownlinkOf s first second gates a → IsDownlinkOf s first second gates b → a ≡ b }
+        (a b : List (List (Option DownlinkBurst)))
+        → IsDownlinkOf s first second gates a → IsDownlinkOf s first second gates b → a ≡ b }
 {}
 
 /// What slots of the downlink send has one encoding.

@@ -33,7 +33,13 @@ impl Model for Lines {
 
     ghost Value = { Memory };
 
-    ghost view = { λ l. record { first = l.first; second = l.second; channel = l.channel; gate = l.gateway; kept = l.announcer.kept } };
+    ghost view = { λ l. record {
+      first = l.first;
+      second = l.second;
+      channel = l.channel;
+      gate = l.gateway;
+      kept = l.announcer.kept;
+    } };
 
     ghost invariant = { λ l. IfSome l.announcer.kept IsFitMessage };
 }
