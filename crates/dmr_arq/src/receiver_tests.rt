@@ -110,7 +110,7 @@ fn last(rt: &impl Abort, receiver: &mut Receiver, block: Option<&Block>) -> (Opt
 }
 
 /// A confirmed packet of 64 blocks.
-fn most_blocks() -> Packet {
+fn packet_of_64_blocks() -> Packet {
     split_packet(&[5; 636], Rate::Half, true)
 }
 
@@ -135,7 +135,7 @@ fn retry(rt: &impl Abort, receiver: &mut Receiver, packet: &Packet) {
 
 #[test]
 fn confirmed_packet_received(rt: HostRuntime) {
-    let packet = most_blocks();
+    let packet = packet_of_64_blocks();
     let mut receiver = Receiver::new(1);
     first_try(&rt, &mut receiver, &packet);
     retry(&rt, &mut receiver, &packet);
@@ -143,7 +143,7 @@ fn confirmed_packet_received(rt: HostRuntime) {
 
 #[test]
 fn repeated_retry(rt: HostRuntime) {
-    let packet = most_blocks();
+    let packet = packet_of_64_blocks();
     let mut receiver = Receiver::new(1);
     first_try(&rt, &mut receiver, &packet);
     retry(&rt, &mut receiver, &packet);
@@ -157,7 +157,7 @@ fn repeated_retry(rt: HostRuntime) {
 
 #[test]
 fn same_serial_twice(rt: HostRuntime) {
-    let packet = most_blocks();
+    let packet = packet_of_64_blocks();
     let mut receiver = Receiver::new(1);
     first_try(&rt, &mut receiver, &packet);
     for _ in 0..2 {
@@ -224,6 +224,31 @@ fn short_data_with_bit_padding(rt: HostRuntime) {
         body: Octets::from_slice(&DATAGRAM[..7]),
     };
     assert!(rt; out.delivered == Some(received));
+}
+
+// The block of its one place makes the packet, which nothing answers; a place without one loses it.
+#[test]
+fn unconfirmed_packet_received(rt: HostRuntime) {
+    let header = Header::Unconfirmed(ALONE);
+    let block = Block {
+        serial: None,
+        octets: Octets::from_slice(&DATAGRAM),
+    };
+    let mut receiver = Receiver::new(1);
+    receiver.header(&header);
+    assert!(rt; receiver.open() == Some(None));
+    let out = receiver.place(Some(&block));
+    let received = Joined {
+        header,
+        body: Octets::from_slice(&DATAGRAM[..7]),
+    };
+    assert!(rt; out.delivered == Some(received));
+    assert!(rt; out.answer.is_none());
+    assert!(rt; receiver.open().is_none());
+    receiver.header(&header);
+    assert!(rt; receiver.open() == Some(None));
+    let out = receiver.place(None);
+    assert!(rt; out.delivered.is_none() && out.answer.is_none());
 }
 
 /// Whether packet 0 of a source, of one block, is delivered.
