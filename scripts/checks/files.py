@@ -117,6 +117,22 @@ def check_standard_streams(report):
                 report.expect("that file is as it was", other.read_bytes() == OLD)
 
 
+def check_closed_streams(report):
+    """No file of a run takes the place of a standard stream that is closed, where what is printed would get into it."""
+    report.program, script = report.top / "crates/dmr_program/out/dmrgate", report.program
+    whole = (report.top / "samples/one_csbk/downlink.dmrd").read_bytes()
+    for uplink, downlink in ((it.ONE_CSBK, whole), (it.UPLINK_HEAD + b"\0", it.DOWNLINK_HEAD + b"\0\0")):
+        for closed in ([0], [1], [2], [0, 1], [0, 2], [1, 2], [0, 1, 2]):
+            with Room(report, uplink, it.OUTGOING_HEAD) as room:
+                streams = {name: None for at, name in enumerate(("stdin", "stdout", "stderr")) if at in closed}
+                ran = room.run(streams={**streams, "preexec_fn": lambda: [os.close(at) for at in closed]})
+                name = f"streams {closed} are closed, {len(uplink)} octets"
+                report.expect(f"{name}: the outputs", room.outputs() == [downlink, it.RECEIVED_HEAD], room.outputs())
+                is_printed = uplink == it.ONE_CSBK and 1 not in closed
+                report.expect(f"{name}: the status", ran.status == (0 if is_printed else 1), ran)
+    report.program = script
+
+
 def check_pipes(report):
     downlink = (report.top / "samples/one_csbk/downlink.dmrd").read_bytes()
     with Room(report, it.ONE_CSBK, it.OUTGOING_HEAD) as room:
@@ -152,5 +168,6 @@ def check(report):
     check_one_output(report)
     check_nothing_lost(report)
     check_standard_streams(report)
+    check_closed_streams(report)
     check_pipes(report)
     check_colours(report)

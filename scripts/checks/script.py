@@ -6,12 +6,17 @@ import shutil
 import subprocess
 import tempfile
 
-# It builds a program that prints the sources, and counts its builds. Asked to, it changes a source meanwhile, or fails.
+# It builds a program that prints the sources, and counts its builds; so does its gate. Asked to, it changes a source meanwhile, or
+# fails.
 TOOLCHAIN = r"""#!/bin/sh
 here=$(pwd)
 top=${here%/crates/*}
 echo "$(basename "$here") $1" >>"$top/said"
-[ "$1" = run ] || exit 0
+case $1 in
+    run) ;;
+    ci) cd crates/dmr_program ;;
+    *) exit 0 ;;
+esac
 if [ -e "$top/fail" ]; then
     echo "a function is not proved"
     exit 1
@@ -28,6 +33,7 @@ chmod +x out/dmr_program
 if [ -e "$top/edit" ]; then
     mv "$top/edit" "$top/crates/low/src/lib.rt"
 fi
+[ "$1" != ci ] || echo "2 passed, 0 failed"
 """
 
 
@@ -45,12 +51,22 @@ class Tree:
         (self.top / "crates.txt").write_text("# Lowest first.\nunused:\nlow: kit\ndmr_program: low\n")
         (self.tools / "rt").write_text(TOOLCHAIN)
         (self.tools / "rt").chmod(0o755)
-        shutil.copy(report.top / "dmrgate", self.top / "dmrgate")
+        for it in ("dmrgate", "check"):
+            shutil.copy(report.top / it, self.top / it)
+        shutil.copytree(report.top / "scripts", self.top / "scripts", ignore=shutil.ignore_patterns("__pycache__"))
         self.report, self.script = report, self.top / "dmrgate"
 
-    def run(self, script=None, path=None):
+    def call(self, *words, path=None):
         env = {**os.environ, "PATH": path or f"{self.tools}:{os.environ['PATH']}"}
-        return subprocess.run([script or self.script, "a", "b c"], env=env, cwd="/", capture_output=True, text=True)
+        return subprocess.run(words, env=env, cwd="/", capture_output=True, text=True)
+
+    def run(self, script=None, path=None):
+        return self.call(script or self.script, "a", "b c", path=path)
+
+    def expect_gate(self, name, status, last):
+        """The gate ends so, when it is run by the script check."""
+        ran = self.call(self.top / "check", "proofs")
+        self.report.expect(name, (ran.returncode, ran.stdout.splitlines()[-1:]) == (status, [last]), ran)
 
     def expect(self, name, builds, script=None):
         """The program that ran was built of what stands in the sources, and was built so often."""
@@ -64,6 +80,21 @@ class Tree:
         self.report.expect(f"{name}: builds", had == builds * ["low lib", "dmr_program run"], had)
         self.report.expect(f"{name}: said so", bool(ran.stderr) == bool(builds), ran.stderr)
         return ran
+
+
+def check_gate(tree):
+    """What the gate proved and built isn't built once more, where the sources are still the same."""
+    (tree.low / "lib.rt").write_text("fourth\n")
+    tree.expect_gate("the gate", 0, "3 passed, 0 failed")
+    tree.expect("behind the gate", 0)
+    (tree.top / "edit").write_text("fifth\n")
+    tree.expect_gate("the gate, with an edit meanwhile", 0, "3 passed, 0 failed")
+    tree.expect("behind an edit during the gate", 1)
+    (tree.low / "lib.rt").write_text("sixth\n")
+    (tree.top / "fail").write_text("")
+    tree.expect_gate("a gate that fails", 1, "0 passed, 1 failed")
+    (tree.top / "fail").unlink()
+    tree.expect("behind a gate that failed", 1)
 
 
 def check(report):
@@ -102,7 +133,8 @@ def check(report):
         report.expect("a build that fails", is_told, ran)
         (tree.top / "fail").unlink()
         tree.expect("after a build that failed", 1)
-        (tree.low / "lib.rt").write_text("fourth\n")
+        check_gate(tree)
+        (tree.low / "lib.rt").write_text("last\n")
         ran = tree.run(path="/usr/bin:/bin")
         is_told = ran.returncode == 1 and ran.stdout == "" and "Rattle kit" in ran.stderr
         report.expect("with no toolchain", is_told or shutil.which("rt", path="/usr/bin:/bin"), ran)

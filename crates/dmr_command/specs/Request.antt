@@ -1,18 +1,62 @@
 -- What the words of a command line ask for.
-use Rattle.std.specs.Prelude.{◌≡◌, ℕ, List, Some, codes}
-use Rattle.clap.specs.Words.{first_value, found_of}
-use Rattle.clap.specs.declared.parser.matches.ArgMatches.{ArgMatches}
+use Rattle.std.specs.Prelude.{◌≡◌, ◌<◌, ◌^◌, ℕ, [], Option, Some, None, Result, IfOk, IfErr, OnOk, codes, unwrap_or}
+use Rattle.std.specs.Str.Parse.{IsNumeral, digits_value, without_leading_plus}
+use Rattle.clap.specs.Words.{first_value, one_text, Text}
+use Rattle.clap.specs.declared.parser.matches.Found.{Found}
 use Rattle.dmr_files.specs.Place.{IsNamed}
 use Rattle.dmr_files.specs.declared.place.Place.{Place}
 use Rattle.dmr_files.specs.declared.place.Places.{Places}
+use Rattle.dmr_gateway.specs.Config.{fault_of}
+use Rattle.dmr_gateway.specs.declared.config.Config.{Config}
+use Rattle.dmr_gateway.specs.declared.config.ConfigFault.{ConfigFault}
+use Rattle.dmr_command.specs.declared.request.Request.{Request}
+use Rattle.dmr_command.specs.declared.request.Request.TheVariants.{Slot, Run}
 
--- the place that the value of an option names
-abbrev pub IsPlaceOf : ArgMatches → List ℕ → Place → Type 0
-IsPlaceOf run option place = (name : List ℕ) → first_value (found_of run) option ≡ Some name → IsNamed name place
+-- the text that an option was given, or has where it is left out
+abbrev pub text_of : Found → Text → Text
+text_of found option = unwrap_or (first_value found option) []
+
+-- the place that an option names
+abbrev pub IsPlaceOf : Found → Text → Place → Type 0
+IsPlaceOf found option place = IsNamed (text_of found option) place
 
 -- Each file's place is that of the option of its name.
-pub record ArePlacesOf (run : ArgMatches) (places : Places) : Type 0 where
-  pub uplink : IsPlaceOf run (codes "uplink") places.uplink
-  pub outgoing : IsPlaceOf run (codes "outgoing") places.outgoing
-  pub downlink : IsPlaceOf run (codes "downlink") places.downlink
-  pub received : IsPlaceOf run (codes "received") places.received
+pub record ArePlacesOf (found : Found) (places : Places) : Type 0 where
+  pub uplink : IsPlaceOf found (codes "uplink") places.uplink
+  pub outgoing : IsPlaceOf found (codes "outgoing") places.outgoing
+  pub downlink : IsPlaceOf found (codes "downlink") places.downlink
+  pub received : IsPlaceOf found (codes "received") places.received
+
+-- the number of so many bits that the text of an option spells
+abbrev pub IsNumberOf : ℕ → Found → Text → ℕ → Type 0
+IsNumberOf width found option number = (text : Text) → one_text found option ≡ Some text
+    → IsNumeral 10 (without_leading_plus text) → digits_value 10 (without_leading_plus text) < 2 ^ width
+    → number ≡ digits_value 10 (without_leading_plus text)
+
+-- Each setting is that of the option of its name, and the first that is refused is told.
+pub record AreSettingsOf (found : Found) (config : Result Config ConfigFault) : Type 0 where
+  pub colour : ℕ
+  pub colour_number : IsNumberOf 8 found (codes "colour") colour
+  pub llid : ℕ
+  pub llid_number : IsNumberOf 32 found (codes "llid") llid
+  pub call_hang : ℕ
+  pub call_hang_number : IsNumberOf 16 found (codes "call-hang") call_hang
+  pub channel_hang : ℕ
+  pub channel_hang_number : IsNumberOf 16 found (codes "channel-hang") channel_hang
+  pub queue : ℕ
+  pub queue_number : IsNumberOf 8 found (codes "queue") queue
+  pub set_colour : IfOk config (λ c. c.colour ≡ colour)
+  pub set_llid : IfOk config (λ c. c.llid ≡ llid)
+  pub set_call_hang : IfOk config (λ c. c.call_hang ≡ call_hang)
+  pub set_channel_hang : IfOk config (λ c. c.channel_hang ≡ channel_hang)
+  pub set_queue : IfOk config (λ c. c.queue ≡ queue)
+  pub valid : OnOk config (fault_of colour llid call_hang channel_hang queue ≡ None)
+  pub fault : IfErr config (λ e. fault_of colour llid call_hang channel_hang queue ≡ Some e)
+
+-- What a command with these options asks for: `run` for a run, and any other for the burst of `slot`.
+abbrev pub IsAskedBy : Option (Text × Found) → Request → Type 0
+IsAskedBy None (Slot burst) = burst.now ≡ []
+IsAskedBy None (Run config places) = ⊥
+IsAskedBy (Some command) (Slot burst) = (command.0 ≡ codes "run" → ⊥) × (burst.now ≡ text_of command.1 (codes "burst"))
+IsAskedBy (Some command) (Run config places) =
+    (command.0 ≡ codes "run") × AreSettingsOf command.1 config × ArePlacesOf command.1 places

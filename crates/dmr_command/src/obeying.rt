@@ -1,5 +1,5 @@
 //! Doing what the words of a command line ask for.
-ghost use Rattle.std.specs.Prelude.{◌≡◌, ◌⊎◌, false, true};
+ghost use Rattle.std.specs.Prelude.{◌≡◌, ◌≤◌, ◌⊎◌, false, true};
 ghost use Rattle.dmr_report.specs.declared.status.TheConstants.{FAILURE, SUCCESS, USAGE};
 
 use crate::request::{Request, request_of};
@@ -17,6 +17,7 @@ fn print_answer<K: Sink, E: Sink>(alloc: Global, answer: &Error, out: &mut K, er
     ensures alone { (out.new ≡ out.old) ⊎ (err.new ≡ err.old) }
     ensures success { result ≡ SUCCESS → err.new ≡ err.old }
     ensures usage { result ≡ USAGE → out.new ≡ out.old }
+    ensures status { result ≤ 2 }
     ensures out_failed { K.has_failed out.new ≡ true → result ≡ FAILURE }
     ensures err_failed { E.has_failed err.new ≡ true → result ≡ FAILURE }
 {
@@ -41,6 +42,7 @@ pub fn obey<T: AsStr, S: System, K: Sink, E: Sink>(
     ensures alone { (out.new ≡ out.old) ⊎ (err.new ≡ err.old) }
     ensures success { result ≡ SUCCESS → err.new ≡ err.old }
     ensures usage { result ≡ USAGE → out.new ≡ out.old }
+    ensures status { result ≤ 2 }
     ensures out_failed { K.has_failed out.new ≡ true → result ≡ FAILURE }
     ensures err_failed { E.has_failed err.new ≡ true → result ≡ FAILURE }
 {

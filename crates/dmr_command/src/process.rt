@@ -1,5 +1,8 @@
 //! The program, on the system that it runs on.
+ghost use Rattle.std.specs.Prelude.{◌≤◌};
+
 use crate::obeying::obey;
+use dmr_files::StandIns;
 use dmr_record::ToWrite;
 use dmr_report::{USAGE, print_error};
 use std::env;
@@ -12,7 +15,10 @@ fn words_of(rt: &HostRuntime) -> io::Result<Vec<String>> {
 }
 
 /// Does what the program was started for, and answers its exit status.
-pub fn program(rt: &HostRuntime) -> u8 {
+pub fn program(rt: &HostRuntime) -> u8
+    ensures status { result ≤ 2 }
+{
+    let _held = StandIns::new(rt);
     let mut out = ToWrite::new(rt.stdout());
     let mut err = ToWrite::new(rt.stderr());
     match words_of(rt) {

@@ -1,5 +1,7 @@
 //! What the words of a command line ask for.
-ghost use Rattle.dmr_command.specs.Request.{ArePlacesOf, IsPlaceOf};
+ghost use Rattle.std.specs.Prelude.{◌≡◌, option_map};
+ghost use Rattle.clap.specs.Words.{found_of};
+ghost use Rattle.dmr_command.specs.Request.{ArePlacesOf, AreSettingsOf, IsAskedBy, IsNumberOf, IsPlaceOf, text_of};
 
 use crate::command::command;
 use clap::{ArgMatches, Error};
@@ -20,16 +22,23 @@ pub enum Request<'a> {
     },
 }
 
+/// The text of an option that is required.
+fn text_of<'a>(matches: &ArgMatches<'a>, option: &str) -> &'a str
+    ensures text { result.now ≡ text_of (found_of matches.now) option.now }
+{
+    matches.get_str(option).unwrap_or("")
+}
+
 /// The place that an option of `run` names, which requires each.
 fn place_of<'a>(run: &ArgMatches<'a>, option: &str) -> Place<'a>
-    ensures place { IsPlaceOf run.now option.now result }
+    ensures place { IsPlaceOf (found_of run.now) option.now result }
 {
-    Place::named(run.get_str(option).unwrap_or(""))
+    Place::named(text_of(run, option))
 }
 
 /// Where a command line of `run` has its files.
 fn places_of<'a>(run: &ArgMatches<'a>) -> Places<'a>
-    ensures places { ArePlacesOf run.now result }
+    ensures places { ArePlacesOf (found_of run.now) result }
 {
     Places {
         uplink: place_of(run, "uplink"),
@@ -39,28 +48,67 @@ fn places_of<'a>(run: &ArgMatches<'a>) -> Places<'a>
     }
 }
 
-/// The settings of a command line of `run`, each of which is required or has a default.
-fn config_of(run: &ArgMatches<'_>) -> Result<Config, ConfigFault> {
+/// A number of 8 bits, which has a default.
+fn octet_of(run: &ArgMatches<'_>, option: &str) -> u8
+    ensures number { IsNumberOf 8 (found_of run.now) option.now result }
+{
+    match run.get_one::<u8>(option) {
+        Some(number) => number,
+        None => 0,
+    }
+}
+
+/// A number of frames, of 16 bits, which has a default.
+fn frames_of(run: &ArgMatches<'_>, option: &str) -> u16
+    ensures number { IsNumberOf 16 (found_of run.now) option.now result }
+{
+    match run.get_one::<u16>(option) {
+        Some(number) => number,
+        None => 0,
+    }
+}
+
+/// An address, a number of 32 bits, which is required.
+fn address_of(run: &ArgMatches<'_>, option: &str) -> u32
+    ensures number { IsNumberOf 32 (found_of run.now) option.now result }
+{
+    match run.get_one::<u32>(option) {
+        Some(number) => number,
+        None => 0,
+    }
+}
+
+/// The settings of a command line of `run`.
+fn config_of(run: &ArgMatches<'_>) -> Result<Config, ConfigFault>
+    ensures settings { AreSettingsOf (found_of run.now) result }
+{
     Config::new(
-        run.get_one::<u8>("colour").unwrap_or(0),
-        run.get_one::<u32>("llid").unwrap_or(0),
-        run.get_one::<u16>("call-hang").unwrap_or(0),
-        run.get_one::<u16>("channel-hang").unwrap_or(0),
-        run.get_one::<u8>("queue").unwrap_or(0),
+        octet_of(run, "colour"),
+        address_of(run, "llid"),
+        frames_of(run, "call-hang"),
+        frames_of(run, "channel-hang"),
+        octet_of(run, "queue"),
     )
+}
+
+/// What a command with its options asks for.
+pub fn request_by<'a>(command: Option<(&'a str, &ArgMatches<'a>)>) -> Request<'a>
+    ensures asked { IsAskedBy (option_map (λ c. (c.0.now, found_of c.1.now)) command.entry) result }
+{
+    match command {
+        Some(("run", run)) => Request::Run {
+            config: config_of(run),
+            places: places_of(run),
+        },
+        Some((_, slot)) => Request::Slot(text_of(slot, "burst")),
+        // Not reached, since a command is required. No burst has no digits.
+        None => Request::Slot(""),
+    }
 }
 
 /// What the words of a command line ask for, of which the first is the program's name. The error has the text for whoever wrote
 /// them, which is help or the version where these are asked for.
 pub fn request_of<'a, T: AsStr>(alloc: Global, words: &'a [T]) -> Result<Request<'a>, Error> {
     let matches = command(alloc)?.try_get_matches_from(words)?;
-    match matches.subcommand() {
-        Some(("run", run)) => Ok(Request::Run {
-            config: config_of(run),
-            places: places_of(run),
-        }),
-        Some((_, slot)) => Ok(Request::Slot(slot.get_str("burst").unwrap_or(""))),
-        // Not reached, since a subcommand is required. No burst has no digits.
-        None => Ok(Request::Slot("")),
-    }
+    Ok(request_by(matches.subcommand()))
 }

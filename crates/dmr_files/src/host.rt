@@ -13,6 +13,9 @@ const STANDARD_OUTPUT: &str = "/dev/stdout";
 
 const STANDARD_ERROR: &str = "/dev/stderr";
 
+/// A file that holds nothing.
+const NOWHERE: &str = "/dev/null";
+
 /// What is read: a file, or standard input.
 #[derive(Drop)]
 pub enum HostInput {
@@ -49,6 +52,35 @@ impl Write for HostOutput {
             HostOutput::File(file) => file.flush(),
             HostOutput::Standard(output) => output.flush(),
         }
+    }
+}
+
+/// Files in the places of the standard streams that are closed. Without them the files of a run would take these places, and what
+/// is printed would get into an output.
+#[derive(Drop)]
+pub struct StandIns {
+    input: Option<File>,
+    output: Option<File>,
+    error: Option<File>,
+}
+
+impl StandIns {
+    /// Takes the places of the standard streams that are closed, as long as it is held.
+    pub fn new(rt: &HostRuntime) -> StandIns {
+        StandIns {
+            input: stand_in(rt, STANDARD_INPUT),
+            output: stand_in(rt, STANDARD_OUTPUT),
+            error: stand_in(rt, STANDARD_ERROR),
+        }
+    }
+}
+
+/// A file that takes the place of a standard stream, where that is closed: a system gives the lowest place that is free. It is at
+/// its end, and can't be written.
+fn stand_in(rt: &HostRuntime, path: &str) -> Option<File> {
+    match fs::metadata(rt, path) {
+        Ok(_) => None,
+        Err(_) => fs::open(rt, NOWHERE).ok(),
     }
 }
 

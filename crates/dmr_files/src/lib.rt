@@ -13,7 +13,7 @@ mod place;
 mod running;
 mod system;
 
-pub use host::{HostInput, HostOutput};
+pub use host::{HostInput, HostOutput, StandIns};
 pub use identity::{FileKind, Identity};
 pub use place::{Place, Places};
 pub use running::run_places;

@@ -1,6 +1,8 @@
 //! A run over files at their places.
-ghost use Rattle.std.specs.Prelude.{◌≡◌, false, IfOk, IfErr};
+ghost use Rattle.std.specs.Prelude.{◌≡◌, ◌≤◌, ◌+◌, ◌^◌, true, false, IfOk, IfErr};
 ghost use Rattle.std.specs.Io.KnownBytes.{Keeps};
+ghost use Rattle.dmr_repeater.specs.Runs.{is_of_its_stream};
+ghost use Rattle.dmr_files.specs.Ending.{IfDone, IfFault, IsRefused};
 
 use crate::opening::{Opened, open_files};
 use crate::place::Places;
@@ -18,7 +20,14 @@ pub fn run_places<S: System>(
     alloc: Global,
     config: Config,
     places: &Places<'_>,
-) -> RunEnd {
+) -> RunEnd
+    // A recording has at most 1,048,576 frames, and the downlink six more.
+    ensures few { IfDone result (λ summary. summary.frames ≤ 2 ^ 20 + 6) }
+    // A fault is one that its file can have.
+    ensures kind { IfFault result (λ fault. is_of_its_stream fault ≡ true) }
+    // The settings are none that are refused.
+    ensures set { IsRefused result → ⊥ }
+{
     match open_files(system, places) {
         Ok(files) => run_files(alloc, config, files),
         Err(stream) => RunEnd::CannotOpen(stream),
@@ -30,7 +39,11 @@ fn run_files<I: Read + Drop, O: Write + Drop>(
     alloc: Global,
     config: Config,
     files: Opened<I, O>,
-) -> RunEnd {
+) -> RunEnd
+    ensures few { IfDone result (λ summary. summary.frames ≤ 2 ^ 20 + 6) }
+    ensures kind { IfFault result (λ fault. is_of_its_stream fault ≡ true) }
+    ensures set { IsRefused result → ⊥ }
+{
     let Opened {
         uplink,
         outgoing,
@@ -59,7 +72,10 @@ fn run_buffered<U: Read + Drop, O: Read + Drop, D: Write + Drop, R: Write + Drop
     outgoing: O,
     downlink: D,
     received: R,
-) -> Result<Summary, RunFault> {
+) -> Result<Summary, RunFault>
+    ensures few { IfOk result (λ summary. summary.frames ≤ 2 ^ 20 + 6) }
+    ensures kind { IfErr result (λ e. is_of_its_stream e ≡ true) }
+{
     let mut uplink = buffered_source(alloc, uplink)?;
     let mut outgoing = buffered_source(alloc, outgoing)?;
     let mut downlink = buffered_sink(alloc, downlink)?;
