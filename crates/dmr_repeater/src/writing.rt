@@ -47,6 +47,29 @@ fn write_all_received<R: Sink>(
     ensures torn { OnErr result (FrontOf (R.held received.old) (R.held received.new)
         (flat_map receipt_octets (map (receipt_of number) (received_of station.old.memory.gate)))) }
 {
+    // In most frames nothing is received, and what is received is large.
+    if station.has_nothing_received() {
+        return Ok(());
+    }
+    write_each_received(station, received, number)
+}
+
+/// Writes record by record what the gateway received in a frame.
+fn write_each_received<R: Sink>(
+    station: &mut Station,
+    received: &mut R,
+    number: u32,
+) -> Result<(), RecordFault>
+    requires well { R.has_failed received.old ≡ false }
+    ensures receipts { OnOk result (Appends (R.held received.old) (R.held received.new)
+        (flat_map receipt_octets (map (receipt_of number) (received_of station.old.memory.gate)))) }
+    ensures taken { OnOk result (station.new ≡ all_taken station.old) }
+    ensures well { OnOk result (R.has_failed received.new ≡ false) }
+    ensures fault { IfErr result (λ e. e ≡ RecordFault.Write) }
+    ensures failed { OnErr result (R.has_failed received.new ≡ true) }
+    ensures torn { OnErr result (FrontOf (R.held received.old) (R.held received.new)
+        (flat_map receipt_octets (map (receipt_of number) (received_of station.old.memory.gate)))) }
+{
     loop {
         let Some(one) = station.take_received() else {
             return Ok(());

@@ -47,9 +47,9 @@ impl Model for Lines {
 impl Lines {
     ghost use Rattle.dmr_gateway.specs.Gateway.{IsOffer, IsSlot};
     ghost use Rattle.dmr_gateway.specs.Packets.{fault_of};
-    ghost use Rattle.std.specs.Prelude.{option_to_list};
+    ghost use Rattle.std.specs.Prelude.{◌↔◌, IsTrue, option_to_list};
     ghost use Rattle.std.specs.List.{flat_map};
-    ghost use Rattle.dmr_gateway.specs.Gateway.{next_received, after_received};
+    ghost use Rattle.dmr_gateway.specs.Gateway.{HasNothingReceived, next_received, after_received};
     ghost use Rattle.dmr_gateway.specs.Received.{IsFitReceived};
     ghost use Rattle.dmr_station.specs.Frames.{settings_of, start, IsAsked, outcomes_of, outcomes_told};
 
@@ -92,6 +92,13 @@ impl Lines {
         let bursts = self.channel.frame(&outs, &[first, second]);
         let message = self.announcer.next(&outs);
         marked_slots(message, &outs, &bursts)
+    }
+
+    /// Whether the gateway received nothing that isn't taken yet.
+    pub fn has_nothing_received(&self) -> bool
+        ensures value { IsTrue result ↔ HasNothingReceived self.now.gate }
+    {
+        self.gateway.has_nothing_received()
     }
 
     /// What the gateway received, one after the other, slot 1's first and of a slot its status first.

@@ -61,7 +61,8 @@ impl Model for Station {
 
 impl Station {
     ghost use Rattle.dmr_gateway.specs.Received.{IsFitReceived};
-    ghost use Rattle.dmr_gateway.specs.Gateway.{IsSlot, next_received};
+    ghost use Rattle.std.specs.Prelude.{◌↔◌, IsTrue};
+    ghost use Rattle.dmr_gateway.specs.Gateway.{IsSlot, HasNothingReceived, next_received};
     ghost use Rattle.dmr_station.specs.Frames.{settings_of};
     ghost use Rattle.dmr_station.specs.Station.{fresh, IsOffered, IsExchanged, taken_once, counts_of_gateway};
 
@@ -113,6 +114,13 @@ impl Station {
         self.counts.sent += count_outcome(Outcome::Sent, &outcomes);
         self.counts.given_up += count_outcome(Outcome::GivenUp, &outcomes);
         records
+    }
+
+    /// Whether the gateway received nothing that isn't taken yet.
+    pub fn has_nothing_received(&self) -> bool
+        ensures value { IsTrue result ↔ HasNothingReceived self.now.memory.gate }
+    {
+        self.lines.has_nothing_received()
     }
 
     /// What the gateway received in the frame, one after the other, slot 1's first and of a slot its status first. What isn't

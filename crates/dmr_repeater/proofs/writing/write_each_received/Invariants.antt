@@ -2,7 +2,7 @@
 use Rattle.std.proofs.Common.{◌≡◌, false, length}
 use Rattle.dmr_station.specs.Frames.{received_of}
 use Rattle.dmr_repeater.proofs.Received.{Written}
-use Rattle.dmr_repeater.proofs.writing.write_all_received.Given as goal
+use Rattle.dmr_repeater.proofs.writing.write_each_received.Given as goal
 
 abbrev pub invariant-loop-one : goal.invariant-loop-one
 invariant-loop-one g l = record {

@@ -1,7 +1,7 @@
 use Rattle.std.proofs.Common.{sym, subst}
 use Rattle.dmr_station.specs.Station.{State}
 use Rattle.dmr_repeater.proofs.Received.{Written, one_written, torn_received}
-use Rattle.dmr_repeater.proofs.writing.write_all_received.Goals as goal
+use Rattle.dmr_repeater.proofs.writing.write_each_received.Goals as goal
 
 pub returns-in-Err-clause-torn : goal.returns-in-Err-clause-torn
 returns-in-Err-clause-torn g c =
