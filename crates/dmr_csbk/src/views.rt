@@ -1,7 +1,6 @@
 //! What the bodies of some blocks mean.
 ghost use Rattle.std.specs.Prelude.{◌≡◌, ◌↔◌, IsSome, IfSome, slice_index_or, false};
 ghost use Rattle.dmr_bits.specs.Bits.{number_of, part, bits_of_octets};
-ghost use Rattle.dmr_csbk.specs.declared.views.TheConstants.{DOWN_ACT, PREAMBLE};
 
 use crate::block::Csbk;
 use dmr_bits::Bits;
@@ -39,7 +38,7 @@ pub struct Preamble {
 impl Csbk {
     /// The body as BS_Dwn_Act, where the opcode says so. It tests the opcode alone.
     pub fn down_act(&self) -> Option<BsDownAct>
-        ensures opcode { IsSome result ↔ (self.now.code ≡ DOWN_ACT) }
+        ensures opcode { IsSome result ↔ (self.now.code ≡ 56) }
         ensures bs { IfSome result (λ act. act.bs ≡ number_of (part (bits_of_octets self.now.body) 16 40)) }
         ensures source { IfSome result (λ act. act.source ≡ number_of (part (bits_of_octets self.now.body) 40 64)) }
     {
@@ -55,7 +54,7 @@ impl Csbk {
 
     /// The body as a preamble, where the opcode says so. It tests the opcode alone.
     pub fn preamble(&self) -> Option<Preamble>
-        ensures opcode { IsSome result ↔ (self.now.code ≡ PREAMBLE) }
+        ensures opcode { IsSome result ↔ (self.now.code ≡ 61) }
         ensures packet { IfSome result (λ preamble. preamble.packet ≡ slice_index_or (bits_of_octets self.now.body) 0 false) }
         ensures group { IfSome result (λ preamble. preamble.group ≡ slice_index_or (bits_of_octets self.now.body) 1 false) }
         ensures left { IfSome result (λ preamble. preamble.left ≡ number_of (part (bits_of_octets self.now.body) 8 16)) }
