@@ -2,7 +2,7 @@
 //!
 //! `request_of` reads the words, by a command line parser whose texts are its own; `obey` does what they ask for, on a system
 //! (`dmr_files`), and prints to two sinks (`dmr_record`): what was asked for to the first, errors to the second. `program` is
-//! both on the system that it runs on. `specs/Request.antt` says which option a place comes from.
+//! both on the system that it runs on. `specs/Request.antt` says which option each place and each setting comes from.
 #![tactic(auto)]
 
 mod command;

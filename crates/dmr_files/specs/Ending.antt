@@ -2,7 +2,7 @@
 use Rattle.dmr_repeater.specs.declared.fault.RunFault.{RunFault}
 use Rattle.dmr_repeater.specs.declared.summary.Summary.{Summary}
 use Rattle.dmr_report.specs.declared.run_end.RunEnd.{RunEnd}
-use Rattle.dmr_report.specs.declared.run_end.RunEnd.TheVariants.{Done, Fault, CannotOpen, Setting}
+use Rattle.dmr_report.specs.declared.run_end.RunEnd.TheVariants.{Done, Fault, Setting}
 
 -- where a run came to the end of its files, this holds of its numbers
 abbrev pub IfDone : RunEnd → (Summary → Type 0) → Type 0
