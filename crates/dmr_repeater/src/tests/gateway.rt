@@ -313,7 +313,7 @@ fn status_received(rt: HostRuntime) -> Result<(), Fail> {
 // though the retry comes twice.
 #[test]
 fn confirmed_packet_received(rt: HostRuntime) -> Result<(), Fail> {
-    let packet = sample(&rt, "confirmed_packet");
+    let packet = sample(&rt, "confirmed_packet_received");
     let uplink = octets_of(&rt, rt.alloc(), packet.uplink);
     let (_answer, downlink, received) = outcome(&rt, rt.alloc(), &uplink, &OUTGOING);
     let slots = slots_of(rt.alloc(), &downlink)?;
@@ -336,7 +336,7 @@ fn confirmed_packet_received(rt: HostRuntime) -> Result<(), Fail> {
 // Both retries bring the first block twice, and never the last.
 #[test]
 fn same_serial_twice(rt: HostRuntime) -> Result<(), Fail> {
-    let packet = sample(&rt, "confirmed_packet");
+    let packet = sample(&rt, "confirmed_packet_received");
     let recorded = octets_of(&rt, rt.alloc(), packet.uplink);
     // Frames 0 to 64 have 63 bursts, 65 to 79 none, 80 to 82 three, 83 to 89 none, 90 to 92 three.
     let frame = 35;
