@@ -134,6 +134,17 @@ fn retry(rt: &impl Abort, receiver: &mut Receiver, packet: &Packet) {
 }
 
 #[test]
+fn place_within_a_try(rt: HostRuntime) {
+    let mut receiver = Receiver::new(1);
+    receiver.header(&header_of(true, 2));
+    assert!(rt; !receiver.is_at_last());
+    receiver.go_on(None);
+    assert!(rt; receiver.is_at_last());
+    let lost = last(&rt, &mut receiver, None);
+    assert!(rt; lost == (answer(Verdict::Selective, 0), false));
+}
+
+#[test]
 fn confirmed_packet_received(rt: HostRuntime) {
     let packet = packet_of_64_blocks();
     let mut receiver = Receiver::new(1);

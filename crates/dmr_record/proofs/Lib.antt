@@ -1,3 +1,5 @@
+pub mod DownlinkLemmas
+pub mod DownlinkReading
 pub mod HeadLemmas
 pub mod Kept
 pub mod NoFault
@@ -6,6 +8,8 @@ pub mod OutgoingLemmas
 pub mod OutgoingReading
 pub mod Pieces
 pub mod Readings
+pub mod ReceivedLemmas
+pub mod ReceivedReading
 pub mod Spellings
 pub mod Torn
 pub mod UplinkLemmas

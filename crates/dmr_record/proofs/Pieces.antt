@@ -1,13 +1,16 @@
 -- Pieces of a buffer, and of what a device has given or taken.
-use Rattle.std.proofs.Common.{◌≡◌, ℕ, ◌+◌, ◌-◌, ◌≤◌, List, ◌++◌, length, take, drop, replicate, ◌∷◌, ap, ◌∙◌, subst, sym, Option, append-nil, arith}
-use Rattle.std.proofs.lemmas.List.{take_at, drop_at, drop_all, length-replicate, length-take-le, take-append-le, take_rest}
+use Rattle.std.proofs.Common.{◌≡◌, ℕ, ◌+◌, ◌-◌, ◌≤◌, List, ◌++◌, length, take, drop, replicate, [], ◌∷◌, ap, ◌∙◌, subst, sym}
+use Rattle.std.proofs.Common.{Option, append-nil, arith}
+use Rattle.std.proofs.lemmas.List.{take_at, take_all, drop_at, drop_all, length-replicate, length-take-le, take-append-le}
+use Rattle.std.proofs.lemmas.List.{take_rest}
 use Rattle.std.specs.Io.KnownBytes.{Consumes, Appends}
 use Rattle.std.proofs.KnownBytes.{Consumes-trans, Appends-trans}
 use borrow.Rule.Slice.PartMut.{put_mid, post_of}
 use lib.Seq.{take-add}
 
 -- what was read into the rest of a buffer stands after what had come
-pub take-put_mid_front : (at k n : ℕ) (xs ys : List ℕ) → at ≤ length xs → n ≤ length ys → take (at + n) (put_mid at k xs ys) ≡ take at xs ++ take n ys
+pub take-put_mid_front : (at k n : ℕ) (xs ys : List ℕ) → at ≤ length xs → n ≤ length ys → take (at + n) (put_mid at k xs ys) ≡
+    take at xs ++ take n ys
 take-put_mid_front at k n xs ys within fits =
     let rest = ys ++ post_of at k xs in
     let long = length-take-le at xs within in
@@ -22,8 +25,21 @@ pub Consumes-filled : (a b c : Option (List ℕ)) (at k n : ℕ) (xs ys : List �
 Consumes-filled a b c at k n xs ys within fits front more =
     subst (Consumes a c) (sym (take-put_mid_front at k n xs ys within fits)) (Consumes-trans a b c _ _ front more)
 
+-- a source gave a tag, and then what belongs to it
+pub tagged : (a b c : Option (List ℕ)) (tag wanted : ℕ) (rest : List ℕ) → tag ≡ wanted → Consumes a b (tag ∷ []) → Consumes b c rest
+    → Consumes a c (wanted ∷ rest)
+tagged a b c tag wanted rest e p q =
+    let P : ℕ → Type 0 = λ t. Consumes a c (t ∷ rest) in
+    subst P e (Consumes-trans a b c (tag ∷ []) rest p q)
+
+-- a source filled a buffer that spells this
+pub Consumes-spelled : (a b : Option (List ℕ)) (n : ℕ) (xs ys : List ℕ) → length xs ≡ n → xs ≡ ys → Consumes a b (take n xs) →
+    Consumes a b ys
+Consumes-spelled a b n xs ys all e took = subst (Consumes a b) (take_all n xs (omega arith) ∙ e) took
+
 -- a sink took the front of a piece, and then some of the rest, `&piece[at..]`
-pub Appends-onwards : (a b c : Option (List ℕ)) (at n : ℕ) (xs : List ℕ) → Appends a b (take at xs) → Appends b c (take n (take (length xs - at) (drop at xs))) → Appends a c (take (at + n) xs)
+pub Appends-onwards : (a b c : Option (List ℕ)) (at n : ℕ) (xs : List ℕ) → Appends a b (take at xs) → Appends b c (take n (take
+    (length xs - at) (drop at xs))) → Appends a c (take (at + n) xs)
 Appends-onwards a b c at n xs front more =
     let joined = Appends-trans a b c _ _ front (subst (Appends b c) (ap (take n) (take_rest xs at)) more) in
     subst (Appends a c) (sym (take-add at n xs)) joined

@@ -1,6 +1,8 @@
--- The downlink file.
-use Rattle.std.specs.Prelude.{◌≡◌, ℕ, List, [], ◌∷◌, ◌++◌, Option, Some, None, length}
+-- The downlink file: what its octets spell, and what faults they show.
+use Rattle.std.specs.Prelude.{◌≡◌, ◌≢◌, ℕ, ◌%◌, ◌<◌, ◌≤◌, List, [], ◌∷◌, ◌++◌, Option, Some, None, length}
 use Rattle.std.specs.List.{flat_map}
+use Rattle.dmr_record.specs.declared.fault.RecordFault.{RecordFault}
+use Rattle.dmr_record.specs.declared.fault.RecordFault.TheVariants.{CutRecord, BadTag, HalfFrame, TooLong, Read}
 use Rattle.dmr_record.specs.declared.head.TheConstants.{DOWNLINK_MAGIC}
 use Rattle.dmr_record.specs.Head.{head_octets}
 
@@ -24,3 +26,23 @@ downlink_octets slots = flat_map sent_octets slots
 -- the file of these slots: slot 1 and slot 2 of the first frame, and so on
 abbrev pub downlink_file : List Sent → List ℕ
 downlink_file slots = head_octets DOWNLINK_MAGIC ++ downlink_octets slots
+
+-- the most slots that a downlink file has: two for each of the 1,048,576 frames of an uplink, and of six more
+abbrev pub most_slots : ℕ
+most_slots = 2097164
+
+-- less than a whole slot: nothing, or 01 and fewer octets than a CACH and a burst have
+abbrev pub IsPartOfSent : List ℕ → Type 0
+IsPartOfSent [] = Unit {0}
+IsPartOfSent (tag ∷ body) = (tag ≡ 1) × (length body < 36)
+
+-- These octets, taken as the front of a slot with so many slots before it, show this fault. Past the limit one
+-- octet does, whatever it is, and behind slot 1 of a frame none does.
+abbrev pub ShowsDownlinkFault : ℕ → ℕ → RecordFault → List ℕ → Type 0
+ShowsDownlinkFault limit before TooLong octets = (limit ≤ before) × (length octets ≡ 1)
+ShowsDownlinkFault limit before BadTag octets = (before < limit)
+    × (tag : ℕ) × (1 < tag) × (octets ≡ tag ∷ [])
+ShowsDownlinkFault limit before HalfFrame octets = (before % 2 ≡ 1) × (octets ≡ [])
+ShowsDownlinkFault limit before CutRecord octets = (before < limit) × (octets ≢ []) × IsPartOfSent octets
+ShowsDownlinkFault limit before Read octets = (limit ≤ before → octets ≡ []) × IsPartOfSent octets
+ShowsDownlinkFault limit before e octets = ⊥

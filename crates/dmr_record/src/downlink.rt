@@ -1,14 +1,20 @@
 //! The downlink file, slot by slot.
 
-ghost use Rattle.std.specs.Prelude.{◌≡◌, false, true, Some, IfErr, OnOk, OnErr};
-ghost use Rattle.std.specs.Io.KnownBytes.{Appends};
+ghost use Rattle.std.specs.Prelude.{◌≡◌, ◌%◌, ◌<◌, ◌⊎◌, ◌++◌, [], List, ℕ, length, false, true, Some};
+ghost use Rattle.std.specs.Prelude.{IfOk, IfErr, OnOk, OnErr, IfSome, IfNone};
+ghost use Rattle.std.specs.Io.KnownBytes.{Consumes, Appends, IsAtEnd};
 ghost use Rattle.dmr_record.specs.Devices.{Tears};
-ghost use Rattle.dmr_record.specs.Downlink.{sent_octets};
+ghost use Rattle.dmr_record.specs.Downlink.{IsSent, sent_octets, most_slots, ShowsDownlinkFault};
+ghost use Rattle.dmr_record.specs.Faults.{is_of_end, is_device_fault};
 
-use crate::device::Sink;
+use crate::device::{Sink, Source};
 use crate::fault::RecordFault;
 use crate::tag::{BURST, SILENCE};
-use crate::transfer::put;
+use crate::transfer::{fill_whole, put, read_octet};
+use crate::uplink::FRAME_LIMIT;
+
+/// How many slots a downlink file has at most: those of the longest uplink file, and of the six frames behind it.
+pub const SLOT_LIMIT: u32 = 2 * (FRAME_LIMIT + 6);
 
 /// The record of a burst behind its CACH.
 fn burst_record(cach: [u8; 3], burst: [u8; 33]) -> [u8; 37]
@@ -36,5 +42,68 @@ pub fn write_slot<K: Sink>(
     match slot {
         None => put(sink, &[SILENCE]),
         Some(sent) => put(sink, &burst_record(sent.0, sent.1)),
+    }
+}
+
+/// Reads a CACH and a burst behind a tag.
+fn read_sent<S: Source>(source: &mut S) -> Result<([u8; 3], [u8; 33]), RecordFault>
+    requires well { S.has_failed source.old ≡ false }
+    ensures octets { IfOk result (λ sent. Consumes (S.left source.old) (S.left source.new) (sent.0 ++ sent.1)) }
+    ensures well { OnOk result (S.has_failed source.new ≡ false) }
+    ensures part { OnErr result ((part : List ℕ) × (length part < 36)
+        × Consumes (S.left source.old) (S.left source.new) part) }
+    ensures cause { IfErr result (λ e. (e ≡ RecordFault.CutRecord) ⊎ (e ≡ RecordFault.Read)) }
+    ensures cut { IfErr result (λ e. is_of_end e ≡ true → IsAtEnd (S.left source.new)) }
+    ensures device { IfErr result (λ e. S.has_failed source.new ≡ is_device_fault e) }
+{
+    let mut octets = [0u8; 36];
+    fill_whole(source, &mut octets, 36)?;
+    let mut cach = [0u8; 3];
+    let mut burst = [0u8; 33];
+    cach.copy_from_slice(&octets[..3]);
+    burst.copy_from_slice(&octets[3..]);
+    Ok((cach, burst))
+}
+
+/// Reads the next slot of a downlink file behind its head: silence, or a CACH and a burst. It answers `None` at
+/// the end of the source, where that is behind slot 2 of a frame or the head.
+///
+/// `before` is the number of slots that were read before it. A slot past `SLOT_LIMIT` is `TooLong` as soon as its
+/// first octet is there, whatever that is.
+pub fn read_slot<S: Source>(
+    source: &mut S,
+    before: u32,
+) -> Result<Option<Option<([u8; 3], [u8; 33])>>, RecordFault>
+    requires well { S.has_failed source.old ≡ false }
+    // A slot is what the octets taken spell.
+    ensures slot { IfOk result (λ found. IfSome found (λ slot. (before < most_slots) × IsSent slot
+        × Consumes (S.left source.old) (S.left source.new) (sent_octets slot))) }
+    // There is none only at the end, behind whole frames.
+    ensures end { IfOk result (λ found. IfNone found ((before % 2 ≡ 0)
+        × Consumes (S.left source.old) (S.left source.new) [] × IsAtEnd (S.left source.new))) }
+    ensures well { OnOk result (S.has_failed source.new ≡ false) }
+    // A fault is shown by the octets taken, all of this slot.
+    ensures fault { IfErr result (λ e. (taken : List ℕ) × Consumes (S.left source.old) (S.left source.new) taken
+        × ShowsDownlinkFault most_slots before e taken) }
+    ensures cut { IfErr result (λ e. is_of_end e ≡ true → IsAtEnd (S.left source.new)) }
+    // `Read` is told exactly where the device failed.
+    ensures device { IfErr result (λ e. S.has_failed source.new ≡ is_device_fault e) }
+{
+    let Some(tag) = read_octet(source)? else {
+        if before % 2 == 1 {
+            return Err(RecordFault::HalfFrame);
+        }
+        return Ok(None);
+    };
+    if before >= SLOT_LIMIT {
+        return Err(RecordFault::TooLong);
+    }
+    match tag {
+        SILENCE => Ok(Some(None)),
+        BURST => {
+            let sent = read_sent(source)?;
+            Ok(Some(Some(sent)))
+        }
+        _ => Err(RecordFault::BadTag),
     }
 }

@@ -17,13 +17,14 @@ pub enum RecordFault {
     /// The file ends inside its head or inside a record.
     #[error("cut record")]
     CutRecord,
-    /// A record begins with an octet that begins none, or names no slot or no mode.
+    /// A record begins with an octet that begins none, or names no slot, no mode or no kind.
     #[error("bad tag")]
     BadTag,
     /// The file ends behind slot 1 of a frame.
     #[error("half frame")]
     HalfFrame,
-    /// A record of the outgoing file has an earlier frame than the one before it.
+    /// A record of the outgoing file has an earlier frame than the one before it, or one of the received file
+    /// doesn't stand behind the one before it in the order of frames, slots and kinds.
     #[error("frame order")]
     FrameOrder,
     /// There are more frames or records than a file may have.

@@ -4,15 +4,18 @@
 //! no choice: a text that begins with a record has no fault, and no text has two faults. This leaves `Read`
 //! out, which a device has and no text.
 
-ghost use Rattle.std.specs.Prelude.{◌≡◌, ◌≢◌, ℕ, ◌+◌, ◌<◌, ◌≤◌, List, ◌++◌, length};
+ghost use Rattle.std.specs.Prelude.{◌≡◌, ◌≢◌, ℕ, ◌+◌, ◌%◌, ◌<◌, ◌≤◌, List, ◌++◌, Option, length};
 ghost use Rattle.std.specs.List.{AllByRecursion};
 ghost use Rattle.dmr_record.specs.declared.fault.RecordFault.{RecordFault};
-ghost use Rattle.dmr_record.specs.Downlink.{Sent, IsSent, downlink_file};
+ghost use Rattle.dmr_record.specs.Downlink.{Sent, IsSent, sent_octets, downlink_octets, downlink_file, ShowsDownlinkFault};
 ghost use Rattle.dmr_record.specs.Faults.{HasFault};
 ghost use Rattle.dmr_record.specs.Head.{head_octets, ShowsHeadFault};
 ghost use Rattle.dmr_record.specs.Outgoing.{Sending, IsSending, AreInOrder};
 ghost use Rattle.dmr_record.specs.Outgoing.{sending_octets, sendings_octets, outgoing_file, ShowsOutgoingFault};
-ghost use Rattle.dmr_record.specs.Received.{Receipt, IsReceipt, received_file};
+ghost use Rattle.dmr_record.specs.Received.{Receipt, IsReceipt, receipt_octets, receipts_octets, received_file};
+ghost use Rattle.dmr_record.specs.Received.{Fields, IsReadable, Follows, fields_of, ShowsReceivedFault};
+ghost use Rattle.dmr_record.specs.Received as received;
+ghost use Rattle.dmr_record.specs.Spelling.{IsPrefixCode};
 ghost use Rattle.dmr_record.specs.Uplink.{Frame, IsFrame, frame_octets, frames_octets, uplink_file, ShowsFault};
 
 /// An uplink file is that of one list of frames.
@@ -74,4 +77,42 @@ pub fn outgoing_faults()
     ensures all { (limit before last : ℕ) (sendings : List Sending) (e : RecordFault)
         → AllByRecursion IsSending sendings → AreInOrder last sendings → before + length sendings ≤ limit
         → HasFault (ShowsOutgoingFault limit before last) (sendings_octets sendings) e → e ≡ RecordFault.Read }
+{}
+
+/// The same of the slots of a downlink file, which has whole frames.
+pub fn downlink_faults()
+    ensures none { (limit before : ℕ) (slot : Sent) (rest : List ℕ) (e : RecordFault)
+        → IsSent slot → before < limit
+        → HasFault (ShowsDownlinkFault limit before) (sent_octets slot ++ rest) e → e ≡ RecordFault.Read }
+    ensures one { (limit before : ℕ) (text : List ℕ) (e f : RecordFault)
+        → HasFault (ShowsDownlinkFault limit before) text e → HasFault (ShowsDownlinkFault limit before) text f
+        → e ≢ RecordFault.Read → f ≢ RecordFault.Read → e ≡ f }
+    ensures all { (limit before : ℕ) (slots : List Sent) (e : RecordFault)
+        → AllByRecursion IsSent slots → before + length slots ≤ limit → (before + length slots) % 2 ≡ 0
+        → HasFault (ShowsDownlinkFault limit before) (downlink_octets slots) e → e ≡ RecordFault.Read }
+{}
+
+/// The same of the records of a received file, which follow one another.
+pub fn received_faults()
+    ensures none { (limit before : ℕ) (last : Option Fields) (r : Receipt) (rest : List ℕ) (e : RecordFault)
+        → IsReadable r → before < limit → Follows last (fields_of r)
+        → HasFault (ShowsReceivedFault limit before last) (receipt_octets r ++ rest) e → e ≡ RecordFault.Read }
+    ensures one { (limit before : ℕ) (last : Option Fields) (text : List ℕ) (e f : RecordFault)
+        → HasFault (ShowsReceivedFault limit before last) text e
+        → HasFault (ShowsReceivedFault limit before last) text f
+        → e ≢ RecordFault.Read → f ≢ RecordFault.Read → e ≡ f }
+    ensures all { (limit before : ℕ) (last : Option Fields) (receipts : List Receipt) (e : RecordFault)
+        → AllByRecursion IsReadable receipts → received.AreInOrder last receipts → before + length receipts ≤ limit
+        → HasFault (ShowsReceivedFault limit before last) (receipts_octets receipts) e → e ≡ RecordFault.Read }
+{}
+
+/// A slot that was written to a downlink file is read back: no other slot's octets begin a text that its own begin.
+pub fn downlink_is_read_back()
+    ensures back { IsPrefixCode IsSent sent_octets }
+{}
+
+/// A record that was written to a received file is read back: no other record's octets begin a text that its own
+/// begin.
+pub fn received_is_read_back()
+    ensures back { IsPrefixCode IsReceipt receipt_octets }
 {}

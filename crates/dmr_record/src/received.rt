@@ -1,15 +1,26 @@
 //! The received file, record by record.
 
-ghost use Rattle.std.specs.Prelude.{◌≡◌, ◌<◌, ◌^◌, length, false, true, IfErr, OnOk, OnErr};
-ghost use Rattle.std.specs.Io.KnownBytes.{Appends};
+ghost use Rattle.std.specs.Prelude.{◌≡◌, ◌<◌, ◌≤◌, ◌^◌, ◌↔◌, [], List, ℕ, length, take, false, true};
+ghost use Rattle.std.specs.Prelude.{IsTrue, IfOk, IfErr, OnOk, OnErr, IfSome, IfNone};
+ghost use Rattle.std.specs.Io.KnownBytes.{Consumes, Appends, IsAtEnd};
 ghost use Rattle.dmr_record.specs.Devices.{Tears};
-ghost use Rattle.dmr_record.specs.Received.{kind_octet, receipt_fields, receipt_octets};
+ghost use Rattle.dmr_record.specs.Faults.{is_of_end, is_device_fault};
+ghost use Rattle.dmr_record.specs.Received.{kind_octet, receipt_fields, receipt_octets, IsReceipt};
+ghost use Rattle.dmr_record.specs.Received.{Fields, Fit, IsSlot, IsPlace, IsBehind, Follows, field_octets};
+ghost use Rattle.dmr_record.specs.Received.{fields_read, last_read, receipt_of, most_receipts, ShowsReceivedFault};
 
-use crate::device::Sink;
+use crate::device::{Sink, Source};
+use crate::downlink::SLOT_LIMIT;
 use crate::fault::RecordFault;
 use crate::tag::RECEIVED;
-use crate::transfer::put_both;
+use crate::transfer::{fill_whole, put_both, read_octet};
 use byteorder::{BigEndian, ByteOrder};
+
+/// How many records a received file has at most: a status and a packet in each slot of the longest downlink file.
+pub const RECEIVED_LIMIT: u32 = 2 * SLOT_LIMIT;
+
+/// How many octets a record of the received file has at most.
+pub const OCTET_LIMIT: usize = 65_535;
 
 /// What the octets of a received packet are.
 #[derive(Clone, Copy, Debug, PartialEq, Eq)]
@@ -31,6 +42,59 @@ impl ReceivedKind {
             ReceivedKind::Datagram => 0,
             ReceivedKind::ShortData => 1,
             ReceivedKind::Status => 2,
+        }
+    }
+
+    /// The kind that an octet says, where it says one.
+    fn of_octet(octet: u8) -> Option<ReceivedKind>
+        ensures kind { IfSome result (λ kind. octet ≡ kind_octet kind) }
+        ensures none { IfNone result (2 < octet) }
+    {
+        match octet {
+            0 => Some(ReceivedKind::Datagram),
+            1 => Some(ReceivedKind::ShortData),
+            2 => Some(ReceivedKind::Status),
+            _ => None,
+        }
+    }
+}
+
+/// A record of the received file without its octets: what came in a slot, from whom, and when it was whole.
+#[derive(Clone, Copy, Debug, PartialEq, Eq)]
+pub struct Received {
+    /// The downlink frame in which it was whole.
+    pub frame: u32,
+    /// The slot in which it came: 1 or 2.
+    pub slot: u8,
+    /// What its octets are.
+    pub kind: ReceivedKind,
+    /// The address of its source, of 24 bits.
+    pub source: u32,
+    /// How many octets it has.
+    pub length: u16,
+}
+
+impl Received {
+    /// Whether it may stand behind the record `last` in a file.
+    fn is_behind(self, last: Received) -> bool
+        ensures value { IsTrue result ↔ IsBehind (fields_read last) (fields_read self) }
+    {
+        if self.frame != last.frame {
+            return self.frame > last.frame;
+        }
+        if self.slot != last.slot {
+            return self.slot > last.slot;
+        }
+        matches!(last.kind, ReceivedKind::Status) && !matches!(self.kind, ReceivedKind::Status)
+    }
+
+    /// Whether it may stand behind the last record of those before it, if there are any.
+    fn follows(self, last: Option<Received>) -> bool
+        ensures value { IsTrue result ↔ Follows (last_read last) (fields_read self) }
+    {
+        match last {
+            None => true,
+            Some(last) => self.is_behind(last),
         }
     }
 }
@@ -72,4 +136,83 @@ pub fn write_received<K: Sink>(
 {
     let fields = fields_of(frame, slot, kind, source, octets.len() as u16);
     put_both(sink, &fields, octets)
+}
+
+/// The record that these fields are of, where they name a slot and a kind.
+fn received_of(octets: [u8; 11]) -> Option<Received>
+    ensures fields { IfSome result (λ r. octets ≡ field_octets (fields_read r)) }
+    ensures fit { IfSome result (λ r. Fit (fields_read r)) }
+    ensures slot { IfSome result (λ r. IsSlot r.slot) }
+    ensures none { IfNone result ((f : Fields) × Fit f × (¬ IsPlace f.slot f.kind) × (octets ≡ field_octets f)) }
+{
+    let frame = BigEndian::read_u32(&octets[..4]);
+    let slot = octets[4];
+    let source = BigEndian::read_u24(&octets[6..9]);
+    let length = BigEndian::read_u16(&octets[9..]);
+    if slot != 1 && slot != 2 {
+        return None;
+    }
+    let Some(kind) = ReceivedKind::of_octet(octets[5]) else {
+        return None;
+    };
+    Some(Received {
+        frame,
+        slot,
+        kind,
+        source,
+        length,
+    })
+}
+
+/// Reads the next record of a received file behind its head, and its octets to the front of the buffer. It
+/// answers `None` at the end of the source.
+///
+/// `before` is the number of records that were read before it, and `last` the last of them. A record past
+/// `RECEIVED_LIMIT` is `TooLong` as soon as its first octet is there, whatever that is. Then the first octet is
+/// tested; the slot and the kind, and then the order of the records, once the fields are there; and then the
+/// octets are read. The order is that of the frames; of a frame slot 1 stands first, and of a slot its status,
+/// which at most one packet follows.
+pub fn read_received<S: Source>(
+    source: &mut S,
+    before: u32,
+    last: Option<Received>,
+    octets: &mut [u8],
+) -> Result<Option<Received>, RecordFault>
+    requires well { S.has_failed source.old ≡ false }
+    requires room { 65535 ≤ length octets.old }
+    // A record is what the octets taken spell.
+    ensures receipt { IfOk result (λ found. IfSome found (λ r. (before < most_receipts) × IsSlot r.slot
+        × Follows (last_read last) (fields_read r) × (length (take r.length octets.new) ≡ r.length)
+        × IsReceipt (receipt_of r (take r.length octets.new))
+        × Consumes (S.left source.old) (S.left source.new) (receipt_octets (receipt_of r (take r.length octets.new))))) }
+    // There is none only at the end.
+    ensures end { IfOk result (λ found. IfNone found (Consumes (S.left source.old) (S.left source.new) []
+        × IsAtEnd (S.left source.new))) }
+    ensures well { OnOk result (S.has_failed source.new ≡ false) }
+    // A fault is shown by the octets taken, all of this record.
+    ensures fault { IfErr result (λ e. (taken : List ℕ) × Consumes (S.left source.old) (S.left source.new) taken
+        × ShowsReceivedFault most_receipts before (last_read last) e taken) }
+    ensures cut { IfErr result (λ e. is_of_end e ≡ true → IsAtEnd (S.left source.new)) }
+    // `Read` is told exactly where the device failed.
+    ensures device { IfErr result (λ e. S.has_failed source.new ≡ is_device_fault e) }
+{
+    let Some(tag) = read_octet(source)? else {
+        return Ok(None);
+    };
+    if before >= RECEIVED_LIMIT {
+        return Err(RecordFault::TooLong);
+    }
+    if tag != RECEIVED {
+        return Err(RecordFault::BadTag);
+    }
+    let mut fields = [0u8; 11];
+    fill_whole(source, &mut fields, 11)?;
+    let Some(received) = received_of(fields) else {
+        return Err(RecordFault::BadTag);
+    };
+    if !received.follows(last) {
+        return Err(RecordFault::FrameOrder);
+    }
+    fill_whole(source, octets, received.length as usize)?;
+    Ok(Some(received))
 }

@@ -2,6 +2,7 @@
 
 mod devices;
 mod octets;
+mod outputs;
 
 use crate::*;
 use devices::{FailsAt, OneByOne, Silence};

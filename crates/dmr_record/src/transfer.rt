@@ -1,8 +1,10 @@
 //! Whole pieces, in as many calls of a device as they take.
 
-ghost use Rattle.std.specs.Prelude.{◌≡◌, ◌<◌, ◌≤◌, ◌++◌, [], ◌∷◌, List, ℕ, length, take, false, true, IfOk, IfErr, OnOk, OnErr, IfSome, IfNone};
+ghost use Rattle.std.specs.Prelude.{◌≡◌, ◌<◌, ◌≤◌, ◌⊎◌, ◌++◌, [], ◌∷◌, List, ℕ, length, take, false, true};
+ghost use Rattle.std.specs.Prelude.{IfOk, IfErr, OnOk, OnErr, IfSome, IfNone};
 ghost use Rattle.std.specs.Io.KnownBytes.{Consumes, Appends, IsAtEnd};
 ghost use Rattle.dmr_record.specs.Devices.{Tears};
+ghost use Rattle.dmr_record.specs.Faults.{is_of_end, is_device_fault};
 
 use crate::device::{Sink, Source};
 use crate::fault::RecordFault;
@@ -48,6 +50,29 @@ pub fn fill<S: Source>(source: &mut S, buffer: &mut [u8]) -> Result<usize, Recor
         × Consumes (S.left source.old) (S.left source.new) taken) }
 {
     fill_front(source, buffer, buffer.len())
+}
+
+/// Reads so many octets to the front of the buffer. Where the source ends before, its record is cut.
+pub fn fill_whole<S: Source>(
+    source: &mut S,
+    buffer: &mut [u8],
+    count: usize,
+) -> Result<(), RecordFault>
+    requires well { S.has_failed source.old ≡ false }
+    requires room { count ≤ length buffer.old }
+    ensures octets { OnOk result (Consumes (S.left source.old) (S.left source.new) (take count buffer.new)) }
+    ensures well { OnOk result (S.has_failed source.new ≡ false) }
+    ensures part { OnErr result ((part : List ℕ) × (length part < count)
+        × Consumes (S.left source.old) (S.left source.new) part) }
+    ensures cause { IfErr result (λ e. (e ≡ RecordFault.CutRecord) ⊎ (e ≡ RecordFault.Read)) }
+    ensures cut { IfErr result (λ e. is_of_end e ≡ true → IsAtEnd (S.left source.new)) }
+    ensures device { IfErr result (λ e. S.has_failed source.new ≡ is_device_fault e) }
+{
+    let came = fill_front(source, buffer, count)?;
+    if came < count {
+        return Err(RecordFault::CutRecord);
+    }
+    Ok(())
 }
 
 /// Writes the whole piece, or stops where the sink fails.

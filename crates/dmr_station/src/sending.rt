@@ -1,11 +1,10 @@
 //! The octets of what a slot of the downlink sends.
-ghost use Rattle.std.specs.Prelude.{◌≡◌, ◌<◌, ◌^◌, ◌+◌, All};
-ghost use Rattle.dmr_station.specs.Announced.{IsFitMessage};
-ghost use Rattle.dmr_station.specs.Sent.{lcss_of, AreOctets, AreSentAs, FitsItsFields, IsCachOf, IsSentAs};
+ghost use Rattle.std.specs.Prelude.{◌<◌, ◌^◌, ◌+◌, All};
+ghost use Rattle.dmr_station.specs.Sent.{AreOctets, AreSentAs, FitsItsFields, IsSentAs};
 
 use crate::announcing::Message;
-use dmr_burst::{Burst, Side, cach, encode_burst};
-use dmr_embedded::short_lc;
+use crate::fragments::Fragments;
+use dmr_burst::{Burst, Side, encode_burst};
 
 /// What a slot of the downlink sends where it isn't silent.
 #[derive(Clone, Copy, Debug, PartialEq, Eq)]
@@ -17,33 +16,6 @@ pub struct DownlinkBurst {
     pub message: Message,
 }
 
-/// Where in its Short LC the fragment of a record stands.
-fn link_control_start_stop(place: u32) -> u8
-    ensures value { result ≡ lcss_of place }
-    ensures fits { result < 4 }
-{
-    match place % 4 {
-        0 => 0b01,
-        3 => 0b10,
-        _ => 0b11,
-    }
-}
-
-/// The CACH of a record.
-fn cach_of(busy: bool, message: Message, place: u32) -> [u8; 3]
-    requires fit { IsFitMessage message }
-    ensures cach { IsCachOf busy message place result }
-{
-    let four = short_lc(message.slco, message.body);
-    let fragments = &four[..];
-    cach(
-        busy,
-        place % 2 == 1,
-        link_control_start_stop(place),
-        &fragments[place as usize % 4],
-    )
-}
-
 /// Tells the proof that octets are below 256, which the array that a call gives doesn't.
 fn below_256(octets: &[u8])
     ensures octets { AreOctets octets.now }
@@ -52,14 +24,19 @@ fn below_256(octets: &[u8])
 }
 
 /// The octets of a slot, which is the record at this place of the downlink, counted from 0.
-fn encode_slot(place: u32, slot: &Option<DownlinkBurst>) -> Option<([u8; 3], [u8; 33])>
+fn encode_slot(
+    place: u32,
+    slot: &Option<DownlinkBurst>,
+    fragments: &mut Fragments,
+) -> Option<([u8; 3], [u8; 33])>
     requires fits { FitsItsFields slot.now }
     ensures sent { IsSentAs place slot.now result }
 {
     match slot {
         Some(sending) => {
+            fragments.take(sending.message);
             let sent = (
-                cach_of(sending.is_repeated, sending.message, place),
+                fragments.cach(sending.is_repeated, place),
                 encode_burst(&sending.burst, Side::Bs),
             );
             below_256(&sent.0);
@@ -70,17 +47,19 @@ fn encode_slot(place: u32, slot: &Option<DownlinkBurst>) -> Option<([u8; 3], [u8
     }
 }
 
-/// The octets of both slots of a frame, the first of which is the record at this place.
+/// The octets of both slots of a frame, the first of which is the record at this place. The fragments are those of the message
+/// that went out last.
 pub fn encode_frame(
     place: u32,
     slots: &[Option<DownlinkBurst>; 2],
+    fragments: &mut Fragments,
 ) -> [Option<([u8; 3], [u8; 33])>; 2]
     requires fit { All FitsItsFields slots.now }
     requires room { place + 1 < 2 ^ 32 }
     ensures sent { AreSentAs place slots.now result }
 {
     [
-        encode_slot(place, &slots[0]),
-        encode_slot(place + 1, &slots[1]),
+        encode_slot(place, &slots[0], fragments),
+        encode_slot(place + 1, &slots[1], fragments),
     ]
 }

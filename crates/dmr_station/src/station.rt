@@ -4,6 +4,7 @@ ghost use Rattle.std.specs.List.{flat_map};
 ghost use Rattle.dmr_station.specs.Downlink.{is_repeated as slot_is_repeated, repeated_count};
 ghost use Rattle.dmr_station.specs.Frames.{outcome_count};
 
+use crate::fragments::Fragments;
 use crate::lines::Lines;
 use crate::sending::{DownlinkBurst, encode_frame};
 use dmr_gateway::{Config, Outcome, Received};
@@ -45,6 +46,7 @@ pub struct Counts {
 #[derive(Drop)]
 pub struct Station {
     lines: Lines,
+    fragments: Fragments,
     counts: Counts,
 }
 
@@ -73,6 +75,7 @@ impl Station {
     {
         Ok(Station {
             lines: Lines::new(alloc, config)?,
+            fragments: Fragments::new(),
             counts: Counts {
                 frames: 0,
                 repeated: 0,
@@ -106,7 +109,7 @@ impl Station {
         ensures exchanged { IsExchanged self.old frame.now result self.new }
     {
         let slots = self.lines.pass(frame);
-        let records = encode_frame(2 * self.counts.frames, &slots);
+        let records = encode_frame(2 * self.counts.frames, &slots, &mut self.fragments);
         let outcomes = self.lines.take_outcomes();
         self.counts.frames += 1;
         self.counts.repeated += count_repeated(&slots);

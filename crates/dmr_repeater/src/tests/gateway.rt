@@ -16,6 +16,9 @@ use std::alloc::{AllocError, Global};
 use std::process::Abort;
 use std::test::Fail;
 
+/// The acknowledgement of packet 0 of radio 2, but for its check.
+const ACKNOWLEDGED: [u8; 10] = [0x01, 0x40, 0, 0, 2, 0, 0, 1, 0, 0x08];
+
 /// The sample of a name.
 fn sample(rt: &impl Abort, name: &str) -> GatewaySample {
     GATEWAY_SAMPLES
@@ -138,8 +141,19 @@ fn datagram_sent(rt: HostRuntime) -> Result<(), Fail> {
     assert_eq!(rt; letters.as_slice(), &b".....CCCCDrIIIII"[..]);
     let preamble = said_in(&rt, &slots, 7);
     assert!(rt; preamble.starts_with(b"\xBD\x00\x80\x03\x00\x00\x02\x00\x00\x01"));
-    let header = said_in(&rt, &slots, 9);
-    assert!(rt; header.starts_with(b"\x02\x31\x00\x00\x02\x00\x00\x01\x81\x00"));
+    Ok(())
+}
+
+// Behind the preambles: compressed, rate 1/2, one block from radio 1 to radio 2, and the check.
+#[test]
+fn unconfirmed_header_octets(rt: HostRuntime) -> Result<(), Fail> {
+    let datagram = sample(&rt, "datagram_sent");
+    let uplink = octets_of(&rt, rt.alloc(), datagram.uplink);
+    let outgoing = octets_of(&rt, rt.alloc(), datagram.outgoing);
+    let (_answer, downlink, _received) = outcome(&rt, rt.alloc(), &uplink, &outgoing);
+    let slots = slots_of(rt.alloc(), &downlink)?;
+    let octets = [0x02, 0x31, 0x00, 0x00, 0x02, 0x00, 0x00, 0x01, 0x81, 0x00];
+    assert!(rt; said_in(&rt, &slots, 9) == seal(&octets, Mask::Header));
     Ok(())
 }
 
@@ -309,8 +323,7 @@ fn status_received(rt: HostRuntime) -> Result<(), Fail> {
     Ok(())
 }
 
-// Of 64 blocks the first and the last are missing: an answer asks for them, a retry brings them, and the packet is received once,
-// though the retry comes twice.
+// Of 64 blocks the first and the last are missing: an answer asks for them, a retry brings them, and the packet is received.
 #[test]
 fn confirmed_packet_received(rt: HostRuntime) -> Result<(), Fail> {
     let packet = sample(&rt, "confirmed_packet_received");
@@ -321,15 +334,25 @@ fn confirmed_packet_received(rt: HostRuntime) -> Result<(), Fail> {
     assert!(rt; asked.starts_with(b"\x01\x40\0\0\x02\0\0\x01\x01\x80"));
     let flags = said_in(&rt, &slots, 71);
     assert!(rt; flags.starts_with(b"\xFE\xFF\xFF\xFF\xFF\xFF\xFF\x7F"));
+    let answered = said_in(&rt, &slots, 89);
+    assert!(rt; answered.starts_with(&ACKNOWLEDGED));
+    assert!(rt; received.get(9..13) == Some(&[0, 0, 0, 88][..]));
+    Ok(())
+}
+
+// The retry comes twice: it is acknowledged each time, and the packet is received once.
+#[test]
+fn repeated_retry(rt: HostRuntime) -> Result<(), Fail> {
+    let packet = sample(&rt, "confirmed_packet_received");
+    let uplink = octets_of(&rt, rt.alloc(), packet.uplink);
+    let (answer, downlink, received) = outcome(&rt, rt.alloc(), &uplink, &OUTGOING);
+    assert_eq!(rt; answer.map_or(0, |summary| summary.received), 1);
+    let slots = slots_of(rt.alloc(), &downlink)?;
     for frame in [89, 99usize] {
         let answered = said_in(&rt, &slots, frame);
-        assert!(rt;
-            answered.starts_with(b"\x01\x40\0\0\x02\0\0\x01\0\x08"),
-            "in frame {frame}"
-        );
+        assert!(rt; answered.starts_with(&ACKNOWLEDGED), "in frame {frame}");
     }
     assert_eq!(rt; received.len(), 8 + 12 + 636);
-    assert!(rt; received.get(9..13) == Some(&[0, 0, 0, 88][..]));
     Ok(())
 }
 

@@ -30,14 +30,14 @@ fn status_burst() -> [u8; 33] {
 }
 
 /// Offers so many octets of the datagram, for slot 2.
-fn offer(rt: &impl Abort, station: &mut Station, count: u16) {
+pub fn offer(rt: &impl Abort, station: &mut Station, count: u16, confirmed: bool) {
     let mut octets = Octets::new();
     octets.keep(DATAGRAM.get(..usize::from(count)).unwrap_or(&[]));
     assert!(rt; station.counts().offered < 1_000_000);
     station.offer(&Outgoing {
         frame: 0,
         slot: 2,
-        confirmed: false,
+        confirmed,
         full: false,
         length: count,
         octets,
@@ -75,8 +75,8 @@ fn status_received(rt: HostRuntime) {
 #[test]
 fn datagrams_offered(rt: HostRuntime) {
     let mut station = new_station(&rt, rt.alloc());
-    offer(&rt, &mut station, 28);
-    offer(&rt, &mut station, 19);
+    offer(&rt, &mut station, 28, false);
+    offer(&rt, &mut station, 19, false);
     let wanted = [
         b"\xBD\x00\x80\x03\x00\x00\x02\x00\x00\x01",
         b"\xBD\x00\x80\x02\x00\x00\x02\x00\x00\x01",

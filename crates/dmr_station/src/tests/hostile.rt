@@ -1,6 +1,7 @@
 //! Bursts that no radio sends: what a station gives for them is clean all the same, as the readers tell.
 ghost use Rattle.std.specs.Prelude.{◌≤◌};
 
+use super::gateway::offer;
 use super::{new_station, next_frame};
 use crate::SILENCE;
 use dmr_bits::Bits;
@@ -9,7 +10,7 @@ use dmr_burst::{
     Burst, Emb, Side, encode_burst, read_emb, read_embedded, read_information, read_slot_type,
     read_sync,
 };
-use dmr_checks::{Mask, opens};
+use dmr_checks::{Mask, opens, seal};
 use dmr_csbk::csbk_read;
 use dmr_embedded::{embed, extract};
 use dmr_link::{LcUse, lc_read};
@@ -100,8 +101,26 @@ impl Numbers {
         )
     }
 
-    /// A third of the slots has a valid sync, and a third a slot type too. One slot in six is silent.
+    /// An acknowledgement of radio 2 for radio 1, of a packet of any number.
+    fn acknowledgement(&mut self) -> [u8; 33] {
+        let number = (self.next() % 8) as u8;
+        let octets = [0x01, 0x40, 0, 0, 1, 0, 0, 2, 0, 0x08 | number];
+        encode_burst(
+            &Burst::Data {
+                colour: 1,
+                kind: 6,
+                information: bptc_encode(&Bits::<96>::from_octets(&seal(&octets, Mask::Header))),
+            },
+            Side::Ms,
+        )
+    }
+
+    /// A third of the slots has a valid sync, and a third a slot type too. One slot in six is silent, and in one of eight a radio
+    /// answers.
     fn slot(&mut self) -> Option<[u8; 33]> {
+        if self.next() % 8 == 0 {
+            return Some(self.acknowledgement());
+        }
         match self.next() % 6 {
             0 | 1 => Some(self.synced()),
             2 | 3 => Some(self.data()),
@@ -235,6 +254,9 @@ fn hostile_frames(rt: HostRuntime) -> Result<(), Fail> {
     let mut station = new_station(&rt, rt.alloc());
     let mut slots = Vec::new(rt.alloc());
     for number in 0..FRAMES + 6 {
+        if number % 40 == 0 {
+            offer(&rt, &mut station, 28, number % 80 == 0);
+        }
         let frame = if number < FRAMES {
             [numbers.slot(), numbers.slot()]
         } else {
@@ -246,8 +268,9 @@ fn hostile_frames(rt: HostRuntime) -> Result<(), Fail> {
     }
     let counts = station.counts();
     assert_eq!(rt; counts.frames, FRAMES + 6);
-    // A few of the slots hold what is repeated, so that all rules are met.
+    // A few of the slots hold what is repeated, and datagrams go out between, so that all rules are met.
     assert!(rt; counts.repeated > FRAMES / 10);
+    assert!(rt; counts.sent > 0 && counts.delivered > 0 && counts.given_up > 0);
     assert_eq!(rt; slots.len(), 2 * (FRAMES as usize + 6));
     assert!(rt; count_bursts(&slots) > FRAMES as usize);
     assert!(rt; are_clean(&slots, 0));

@@ -2,7 +2,8 @@ use Rattle.std.proofs.Common.{rules, ◌++◌, inl, inr, ◌∷◌, refl}
 use Rattle.std.proofs.lemmas.Result.{err_from_is_err_and}
 use Rattle.std.proofs.KnownBytes.{Consumes-trans}
 use Rattle.dmr_record.specs.Outgoing.{Fields, field_octets, Fit}
-use Rattle.dmr_record.proofs.OutgoingLemmas.{tagged, ShowsOutgoingFault-part}
+use Rattle.dmr_record.proofs.OutgoingLemmas.{ShowsOutgoingFault-part}
+use Rattle.dmr_record.proofs.Pieces.{tagged}
 use Rattle.dmr_record.proofs.outgoing.read_outgoing.Goals as goal
 
 pub returns-in_err-fields-clause-fault : goal.returns-in_err-fields-clause-fault
@@ -12,7 +13,7 @@ returns-in_err-fields-clause-fault g c =
     let (part, fewer, took) = c.in_err-fields.ensures.part in
     rw (p.1, p.2) (
       2 ∷ part,
-      tagged _ _ _ _ part c.if-tag-ne-OUTGOING.false octet took,
+      tagged _ _ _ _ 2 part c.if-tag-ne-OUTGOING.false octet took,
       ShowsOutgoingFault-part _ _ _ _ (2 ∷ part) c.if-before-ge-RECORD_LIMIT.false (λ e. (cc)) c.in_err-fields.ensures.cause
           (inr (inl (part, fewer, refl))),
     )
@@ -24,7 +25,7 @@ returns-in_default-mode_named-clause-fault g c =
     let f : Fields = record { frame = read.frame; slot = read.slot; mode = read.mode; count = read.length } in
     let fit : Fit f = record { frame = search rules; count = search rules } in (
       2 ∷ field_octets f,
-      tagged _ _ _ _ (field_octets f) c.if-tag-ne-OUTGOING.false octet c.in_ok-fields.ensures.fields,
+      tagged _ _ _ _ 2 (field_octets f) c.if-tag-ne-OUTGOING.false octet c.in_ok-fields.ensures.fields,
       (c.if-before-ge-RECORD_LIMIT.false, inr (f, fit, c.in_default-mode_named.ensures.none, refl)),
     )
 
@@ -35,7 +36,7 @@ returns-then-fields-last-clause-fault g c =
     let f : Fields = record { frame = read.frame; slot = read.slot; mode = read.mode; count = read.length } in
     let fit : Fit f = record { frame = search rules; count = search rules } in (
       2 ∷ field_octets f,
-      tagged _ _ _ _ (field_octets f) c.if-tag-ne-OUTGOING.false octet c.in_ok-fields.ensures.fields,
+      tagged _ _ _ _ 2 (field_octets f) c.if-tag-ne-OUTGOING.false octet c.in_ok-fields.ensures.fields,
       (c.if-before-ge-RECORD_LIMIT.false, f, fit, c.in-Some-mode_named.ensures.place, c.if-fields-last.true, refl),
     )
 
@@ -47,7 +48,7 @@ returns-in_err-octets-clause-fault g c =
     let f : Fields = record { frame = read.frame; slot = read.slot; mode = read.mode; count = read.length } in
     let fit : Fit f = record { frame = search rules; count = search rules } in
     let (part, fewer, took) = c.in_err-octets.ensures.part in
-    let fields = tagged _ _ _ _ (field_octets f) c.if-tag-ne-OUTGOING.false octet c.in_ok-fields.ensures.fields in
+    let fields = tagged _ _ _ _ 2 (field_octets f) c.if-tag-ne-OUTGOING.false octet c.in_ok-fields.ensures.fields in
     rw (p.1, p.2) (
       2 ∷ (field_octets f ++ part),
       Consumes-trans _ _ _ (2 ∷ field_octets f) part fields took,

@@ -1,0 +1,19 @@
+-- What is offered so far was due.
+use Rattle.std.proofs.Common.{◌≡◌, ◌+◌, ◌-◌, length, false, true}
+use Rattle.std.specs.Io.KnownBytes.{IsAtEnd}
+use Rattle.dmr_record.specs.declared.outgoing.TheConstants.{RECORD_LIMIT}
+use Rattle.dmr_repeater.specs.Schedule.{OffersDue, waiting}
+use Rattle.dmr_repeater.proofs.schedule.Schedule.offer_each.Given as goal
+
+abbrev pub invariant-loop-record : goal.invariant-loop-record
+invariant-loop-record g l = record {
+  well : g.S.Source.has_failed l.source ≡ false;
+  end : l.self.at_end ≡ true → IsAtEnd (g.S.Source.left l.source);
+  offers : OffersDue l.frame l.fn.self l.self l.fn.station l.station (g.S.Source.left l.initial.source) (g.S.Source.left l.source);
+  counted : l.self.records ≡ l.station.offered + length (waiting l.self);
+  frames : l.station.frames ≡ l.fn.station.frames;
+  stays : l.fn.self.at_end ≡ true → l.self.at_end ≡ true;
+}
+
+abbrev pub decreases-loop-record : goal.decreases-loop-record
+decreases-loop-record g l = RECORD_LIMIT + length (waiting l.self) - l.self.records
