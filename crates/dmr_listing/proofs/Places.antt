@@ -34,16 +34,31 @@ since_less count reading earlier since frame below = since (suc frame) (omega ar
 stands_later : (before place : VoicePlace) (reading : Option Reading) (earlier : List (Option Reading)) → following before ≡ Some
     place
     → IsWithin reading → StandsIn before earlier → StandsIn place (reading ∷ earlier)
-stands_later A B reading earlier e within stands = record { begins = stands.begins; since = since_more 0 reading earlier within
-    stands.since }
-stands_later B C reading earlier e within stands = record { begins = stands.begins; since = since_more 1 reading earlier within
-    stands.since }
-stands_later C D reading earlier e within stands = record { begins = stands.begins; since = since_more 2 reading earlier within
-    stands.since }
-stands_later D E reading earlier e within stands = record { begins = stands.begins; since = since_more 3 reading earlier within
-    stands.since }
-stands_later E F reading earlier e within stands = record { begins = stands.begins; since = since_more 4 reading earlier within
-    stands.since }
+stands_later A B reading earlier e within stands = record {
+  begins = stands.begins;
+  since = since_more 0 reading earlier within
+      stands.since;
+}
+stands_later B C reading earlier e within stands = record {
+  begins = stands.begins;
+  since = since_more 1 reading earlier within
+      stands.since;
+}
+stands_later C D reading earlier e within stands = record {
+  begins = stands.begins;
+  since = since_more 2 reading earlier within
+      stands.since;
+}
+stands_later D E reading earlier e within stands = record {
+  begins = stands.begins;
+  since = since_more 3 reading earlier within
+      stands.since;
+}
+stands_later E F reading earlier e within stands = record {
+  begins = stands.begins;
+  since = since_more 4 reading earlier within
+      stands.since;
+}
 stands_later before place reading earlier e within stands = absurd (cc)
 
 told_later : (before : Option VoicePlace) (place : VoicePlace) (reading : Option Reading) (earlier : List (Option Reading)) →
@@ -79,17 +94,32 @@ place_stands [] E stands = absurd stands.begins
 place_stands [] F stands = absurd stands.begins
 place_stands (r ∷ rs) A stands = after_sync (place_of rs) r stands.begins
 place_stands (r ∷ rs) B stands =
-    behind_told A B r rs refl (stands.since 0 (omega arith)) (place_stands rs A (record { begins = stands.begins; since =
-        since_less 0 r rs stands.since }))
+    behind_told A B r rs refl (stands.since 0 (omega arith)) (place_stands rs A (record {
+      begins = stands.begins;
+      since =
+          since_less 0 r rs stands.since;
+    }))
 place_stands (r ∷ rs) C stands =
-    behind_told B C r rs refl (stands.since 0 (omega arith)) (place_stands rs B (record { begins = stands.begins; since =
-        since_less 1 r rs stands.since }))
+    behind_told B C r rs refl (stands.since 0 (omega arith)) (place_stands rs B (record {
+      begins = stands.begins;
+      since =
+          since_less 1 r rs stands.since;
+    }))
 place_stands (r ∷ rs) D stands =
-    behind_told C D r rs refl (stands.since 0 (omega arith)) (place_stands rs C (record { begins = stands.begins; since =
-        since_less 2 r rs stands.since }))
+    behind_told C D r rs refl (stands.since 0 (omega arith)) (place_stands rs C (record {
+      begins = stands.begins;
+      since =
+          since_less 2 r rs stands.since;
+    }))
 place_stands (r ∷ rs) E stands =
-    behind_told D E r rs refl (stands.since 0 (omega arith)) (place_stands rs D (record { begins = stands.begins; since =
-        since_less 3 r rs stands.since }))
+    behind_told D E r rs refl (stands.since 0 (omega arith)) (place_stands rs D (record {
+      begins = stands.begins;
+      since =
+          since_less 3 r rs stands.since;
+    }))
 place_stands (r ∷ rs) F stands =
-    behind_told E F r rs refl (stands.since 0 (omega arith)) (place_stands rs E (record { begins = stands.begins; since =
-        since_less 4 r rs stands.since }))
+    behind_told E F r rs refl (stands.since 0 (omega arith)) (place_stands rs E (record {
+      begins = stands.begins;
+      since =
+          since_less 4 r rs stands.since;
+    }))

@@ -16,7 +16,7 @@ sent_behind : ℕ → List ℕ → Result (Option (Option (List ℕ × List ℕ)
 sent_behind tag text =
     cond (ltb 1 tag) (Err BadTag)
     (cond (ltb 0 tag) (cond (leb 36 (length text)) (Ok (Some (Some (take 3 text, take 33 (drop 3 text)), drop 36 text))) (Err
-        CutRecord)) (Ok (Some (None, text))))
+    CutRecord)) (Ok (Some (None, text))))
 
 -- what a text is read as, with so many slots before it: a slot and what follows it, the end, or a fault
 pub sent_at : ℕ → ℕ → List ℕ → Result (Option (Option (List ℕ × List ℕ) × List ℕ)) RecordFault
@@ -60,8 +60,10 @@ sent_at-shown limit before BadTag taken rest (below, tag, past, s) own end = rw 
     refl
 sent_at-shown limit before CutRecord [] rest (below, some, is_part) own end = absurd (some refl)
 sent_at-shown limit before CutRecord (tag ∷ body) rest (below, some, is_part) own end =
-    let few : leb 36 (length (body ++ [])) ≡ false = lt-leb 36 (length (body ++ [])) (let fewer = is_part.1 in omega (arith,
-        length-append body [])) in
+    let few : leb 36 (length (body ++ [])) ≡ false = lt-leb 36 (length (body ++ [])) (let fewer = is_part.1 in omega (
+      arith,
+      length-append body [],
+    )) in
     rw (end refl, lt-leb limit before below, is_part.0, few) refl
 sent_at-shown limit before e taken rest shows own end = absurd shows
 
@@ -71,8 +73,8 @@ pub slots_no_fault : (limit before : ℕ) (slots : List Sent) (e : RecordFault) 
     → (before + length slots) % 2 ≡ 0 → HasFault (ShowsDownlinkFault limit before) (downlink_octets slots) e → e ≡ Read
 slots_no_fault limit before [] e p few whole has =
     no_fault_read (ShowsDownlinkFault limit before) (sent_at limit before) (sent_at-shown limit before) [] None e (sent_at-end
-        limit before (omega arith)) has
+    limit before (omega arith)) has
 slots_no_fault limit before (s ∷ ss) e p few whole has =
     no_fault_read (ShowsDownlinkFault limit before) (sent_at limit before) (sent_at-shown limit before) (downlink_octets (s ∷ ss))
-        (Some (s, downlink_octets ss)) e
+    (Some (s, downlink_octets ss)) e
     (sent_at-spelled limit before s (downlink_octets ss) (omega arith) p.0) has

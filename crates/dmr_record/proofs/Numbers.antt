@@ -45,8 +45,14 @@ source_fits xs source eleven each middle = absurd (omega arith)
 -- eleven octets are the fields of a received record that they spell
 pub received_fields_spelled : (xs : List ℕ) (frame source len : ℕ) → length xs ≡ 11 → ((i : ℕ) → get_or xs i 0 < 256)
     → frame ≡ big_number 4 (take 4 xs) → source ≡ big_number 3 (take 3 (drop 6 xs)) → len ≡ big_number 2 (take 2 (drop 9 xs))
-    → xs ≡ received.field_octets (record { frame = frame; slot = slice_index_or xs 4 0; kind = slice_index_or xs 5 0; source =
-        source; count = len })
+    → xs ≡ received.field_octets (record {
+      frame = frame;
+      slot = slice_index_or xs 4 0;
+      kind = slice_index_or xs 5 0;
+      source =
+          source;
+      count = len;
+    })
 received_fields_spelled (a ∷ b ∷ c ∷ d ∷ slot ∷ kind ∷ x ∷ y ∷ z ∷ e ∷ f ∷ []) frame source len eleven each first middle last =
     let number = four_octets frame a b c d (each 0) (each 1) (each 2) (each 3) first in
     let address = three_octets source x y z (each 6) (each 7) (each 8) middle in

@@ -107,7 +107,7 @@ receipt_behind last f text =
     cond (told (is_place f.slot f.kind))
     (cond (told (follows last f))
     (cond (leb f.count (length text)) (Ok (Some (receipt_from f (take f.count text), drop f.count text))) (Err CutRecord)) (Err
-        FrameOrder))
+    FrameOrder))
     (Err BadTag)
 
 fields_at : List ℕ → Fields
@@ -131,11 +131,11 @@ fields_at-spelled : (f : Fields) (rest : List ℕ) → Fit f → fields_at (fiel
 unfolding fields_at
 fields_at-spelled f rest fit =
     let frame = big_number-reads_back 4 f.frame (f.slot ∷ f.kind ∷ (big_bytes 3 f.source ++ (big_bytes 2 f.count ++ rest)))
-        fit.frame in
+    fit.frame in
     let source = big_number-reads_back 3 f.source (big_bytes 2 f.count ++ rest) fit.source in
     let count = big_number-reads_back 2 f.count rest fit.count in
     ap (λ n. fields n f.slot f.kind (big_number 3 (big_bytes 3 f.source ++ (big_bytes 2 f.count ++ rest))) (big_number 2
-        (big_bytes 2 f.count ++ rest))) frame
+    (big_bytes 2 f.count ++ rest))) frame
     ∙ ap (λ n. fields f.frame f.slot f.kind n (big_number 2 (big_bytes 2 f.count ++ rest))) source
     ∙ ap (λ n. fields f.frame f.slot f.kind f.source n) count
 
@@ -154,8 +154,10 @@ receipt_at-fields : (limit before : ℕ) (last : Option Fields) (f : Fields) (te
     → receipt_at limit before last (3 ∷ (field_octets f ++ text)) ≡ receipt_behind last f text
 unfolding receipt_at fields_behind
 receipt_at-fields limit before last f text below fit =
-    let long : leb 11 (length (field_octets f ++ text)) ≡ true = le-leb 11 (length (field_octets f ++ text)) (omega (arith,
-        length-append (field_octets f) text)) in
+    let long : leb 11 (length (field_octets f ++ text)) ≡ true = le-leb 11 (length (field_octets f ++ text)) (omega (
+      arith,
+      length-append (field_octets f) text,
+    )) in
     rw (lt-leb limit before below, long) (ap (λ g. receipt_behind last g text) (fields_at-spelled f text fit))
 
 -- a record that a text begins with is read
@@ -183,8 +185,11 @@ unfolding receipt_at fields_behind receipt_behind
 receipt_at-shown limit before last Read taken rest shows own end = absurd (true≢false own)
 receipt_at-shown limit before last TooLong [] rest (past, one) own end = absurd (omega arith)
 receipt_at-shown limit before last TooLong (t ∷ ts) rest (past, one) own end = rw (le-leb limit before past) refl
-receipt_at-shown limit before last BadTag taken rest (below, inl (tag, other, s)) own end = rw (s, lt-leb limit before below,
-    ne_eqb tag 3 other) refl
+receipt_at-shown limit before last BadTag taken rest (below, inl (tag, other, s)) own end = rw (
+  s,
+  lt-leb limit before below,
+  ne_eqb tag 3 other,
+) refl
 receipt_at-shown limit before last BadTag taken rest (below, inr (f, fit, misses, s)) own end =
     ap (λ l. receipt_at limit before last (l ++ rest)) s ∙ receipt_at-fields limit before last f rest below fit
     ∙ rw (told-no (is_place f.slot f.kind) misses) refl
@@ -196,10 +201,13 @@ receipt_at-shown limit before last CutRecord taken rest (below, some, inr (inl (
     let short : leb 11 (length (part ++ [])) ≡ false = lt-leb 11 (length (part ++ [])) (omega (arith, length-append part [])) in
     rw (s, end refl, lt-leb limit before below, short) refl
 receipt_at-shown limit before last CutRecord taken rest (below, some, inr (inr (f, part, fit, place, order, few, s))) own end =
-    let short : leb f.count (length (part ++ [])) ≡ false = lt-leb f.count (length (part ++ [])) (omega (arith, length-append part
-        [])) in
+    let short : leb f.count (length (part ++ [])) ≡ false = lt-leb f.count (length (part ++ [])) (omega (
+      arith,
+      length-append part
+          [],
+    )) in
     ap (λ l. receipt_at limit before last (l ++ rest)) s ∙ ap (λ r. receipt_at limit before last (3 ∷ (field_octets f ++ (part ++
-        r)))) (end refl)
+    r)))) (end refl)
     ∙ receipt_at-fields limit before last f (part ++ []) below fit
     ∙ rw (told-yes (is_place f.slot f.kind) place, told-yes (follows last f) order, short) refl
 receipt_at-shown limit before last e taken rest shows own end = absurd shows
@@ -208,13 +216,13 @@ receipt_at-shown limit before last e taken rest shows own end = absurd shows
 pub receipts_no_fault : (limit before : ℕ) (last : Option Fields) (receipts : List Receipt) (e : RecordFault) → AllByRecursion
     IsReadable receipts
     → AreInOrder last receipts → before + length receipts ≤ limit → HasFault (ShowsReceivedFault limit before last)
-        (receipts_octets receipts) e → e ≡ Read
+    (receipts_octets receipts) e → e ≡ Read
 receipts_no_fault limit before last [] e p order few has =
     no_fault_read (ShowsReceivedFault limit before last) (receipt_at limit before last) (receipt_at-shown limit before last) []
-        None e
+    None e
     (receipt_at-end limit before last) has
 receipts_no_fault limit before last (r ∷ rs) e p order few has =
     no_fault_read (ShowsReceivedFault limit before last) (receipt_at limit before last) (receipt_at-shown limit before last)
-        (receipts_octets (r ∷ rs))
+    (receipts_octets (r ∷ rs))
     (Some (r, receipts_octets rs)) e (receipt_at-spelled limit before last r (receipts_octets rs) (omega arith) p.0.1 order.0
-        p.0.0) has
+    p.0.0) has

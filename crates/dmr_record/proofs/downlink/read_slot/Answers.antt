@@ -12,6 +12,8 @@ returns-in_err-sent-in-1-clause-fault g c =
     rw (p.1, p.2) (
       1 ∷ part,
       tagged _ _ _ _ 1 part c.in-1.is octet took,
-      ShowsDownlinkFault-part _ _ _ (1 ∷ part) c.if-before-ge-SLOT_LIMIT.false (λ e. (cc)) c.in_err-sent-in-1.ensures.cause (refl,
-          fewer),
+      ShowsDownlinkFault-part _ _ _ (1 ∷ part) c.if-before-ge-SLOT_LIMIT.false (λ e. (cc)) c.in_err-sent-in-1.ensures.cause (
+        refl,
+        fewer,
+      ),
     )

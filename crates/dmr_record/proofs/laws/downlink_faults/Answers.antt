@@ -8,7 +8,7 @@ pub returns : goal.returns
 returns c = record {
   none = λ limit before slot rest e is below has.
       no_fault_read (ShowsDownlinkFault limit before) (sent_at limit before) (sent_at-shown limit before) (sent_octets slot ++
-          rest) (Some (slot, rest)) e
+      rest) (Some (slot, rest)) e
       (sent_at-spelled limit before slot rest below is) has;
   one = λ limit before. one_fault_read (ShowsDownlinkFault limit before) (sent_at limit before) (sent_at-shown limit before);
   all = slots_no_fault;

@@ -8,7 +8,7 @@ pub returns : goal.returns
 returns c = record {
   none = λ limit before last r rest e is below order has.
       no_fault_read (ShowsReceivedFault limit before last) (receipt_at limit before last) (receipt_at-shown limit before last)
-          (receipt_octets r ++ rest)
+      (receipt_octets r ++ rest)
       (Some (r, rest)) e (receipt_at-spelled limit before last r rest below is.1 order is.0) has;
   one = λ limit before last. one_fault_read (ShowsReceivedFault limit before last) (receipt_at limit before last)
       (receipt_at-shown limit before last);

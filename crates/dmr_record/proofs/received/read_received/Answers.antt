@@ -23,9 +23,11 @@ returns-in_default-received_of-clause-fault g c =
     let octet = rw c.in-Some.is at c.in_ok-tag.ensures.octet in
     let eleven : length c.fill_whole.new.buffer ≡ 11 = search rules in
     let (f, fit, misses, spelled) = c.in_default-received_of.ensures.none in
-    let took = Consumes-spelled _ _ 11 c.fill_whole.new.buffer (field_octets f) eleven spelled c.in_ok-fill_whole.ensures.octets in
-    (3 ∷ field_octets f, tagged _ _ _ _ 3 (field_octets f) c.if-tag-ne-RECEIVED.false octet took,
-        (c.if-before-ge-RECEIVED_LIMIT.false, inr (f, fit, misses, refl)))
+    let took = Consumes-spelled _ _ 11 c.fill_whole.new.buffer (field_octets f) eleven spelled c.in_ok-fill_whole.ensures.octets in (
+      3 ∷ field_octets f,
+      tagged _ _ _ _ 3 (field_octets f) c.if-tag-ne-RECEIVED.false octet took,
+      (c.if-before-ge-RECEIVED_LIMIT.false, inr (f, fit, misses, refl)),
+    )
 
 pub returns-then-not-follows-clause-fault : goal.returns-then-not-follows-clause-fault
 returns-then-not-follows-clause-fault g c =
@@ -34,7 +36,7 @@ returns-then-not-follows-clause-fault g c =
     let read = c.in-Some-received_of.received in
     let f = fields_read read in
     let took = Consumes-spelled _ _ 11 c.fill_whole.new.buffer (field_octets f) eleven c.in-Some-received_of.ensures.fields
-        c.in_ok-fill_whole.ensures.octets in (
+    c.in_ok-fill_whole.ensures.octets in (
       3 ∷ field_octets f,
       tagged _ _ _ _ 3 (field_octets f) c.if-tag-ne-RECEIVED.false octet took,
       (
@@ -55,7 +57,7 @@ returns-in_err-fill_whole-2-clause-fault g c =
     let read = c.in-Some-received_of.received in
     let f = fields_read read in
     let took = Consumes-spelled _ _ 11 c.fill_whole.new.buffer (field_octets f) eleven c.in-Some-received_of.ensures.fields
-        c.in_ok-fill_whole.ensures.octets in
+    c.in_ok-fill_whole.ensures.octets in
     let front = tagged _ _ _ _ 3 (field_octets f) c.if-tag-ne-RECEIVED.false octet took in
     let (part, fewer, more) = c.in_err-fill_whole-2.ensures.part in
     let place : IsPlace read.slot (kind_octet read.kind) = (c.in-Some-received_of.ensures.slot, kind_octet-low read.kind) in
