@@ -36,6 +36,3 @@ pub use received::{
 };
 pub use transfer::put;
 pub use uplink::{FRAME_LIMIT, read_frame};
-
-#[cfg(test)]
-mod tests;

@@ -22,6 +22,3 @@ mod sending;
 mod station;
 
 pub use station::{Counts, DownlinkFrame, SILENCE, Station, UplinkFrame};
-
-#[cfg(test)]
-mod tests;

@@ -1,0 +1,290 @@
+//! Worked histories of one receiver.
+ghost use Rattle.std.specs.Prelude.{◌<◌, ◌^◌};
+ghost use Rattle.dmr_data.specs.Header.{IsFitHeader};
+
+use crate::tests::one_block;
+use dmr_arq::{Answer, Joined, Receiver, Verdict};
+use dmr_data::{
+    Block, Confirmed, Header, Octets, Packet, Rate, ShortData, Unconfirmed, split_packet,
+};
+use std::process::Abort;
+use std::test::Fail;
+
+/// The header of a full try of a packet of one block from 2 to 1, of packet 0.
+const FIRST: Confirmed = Confirmed {
+    group: false,
+    wanted: true,
+    pad: 5,
+    sap: 4,
+    destination: 1,
+    source: 2,
+    full: true,
+    blocks: 1,
+    resynchronize: false,
+    number: 0,
+    fragment: 8,
+};
+
+/// The header of a packet of one block from 2 to 1 without confirmation.
+const ALONE: Unconfirmed = Unconfirmed {
+    group: false,
+    wanted: false,
+    pad: 1,
+    sap: 3,
+    destination: 1,
+    source: 2,
+    full: true,
+    blocks: 1,
+    fragment: 0,
+};
+
+/// The header of short data of one block from 2 to 1.
+const SHORT: ShortData = ShortData {
+    group: false,
+    wanted: true,
+    blocks: 1,
+    destination: 1,
+    source: 2,
+    data_format: 0,
+    resynchronize: false,
+    full: true,
+    bit_padding: 15,
+};
+
+/// The twelve octets of a block that makes a packet: seven of the body, a pad octet, and the check.
+const DATAGRAM: [u8; 12] = [
+    0x12, 0x34, 0x00, 0x01, 0x00, 0x13, 0x9A, 0x00, 0x66, 0xC3, 0xEE, 0x66,
+];
+
+/// The header of a try from 2 to 1, of packet 0, without pad octets.
+fn header_of(full: bool, blocks: u8) -> Header
+    requires seven_bits { blocks < 2 ^ 7 }
+    ensures fit { IsFitHeader result }
+{
+    Header::Confirmed(Confirmed {
+        pad: 0,
+        full,
+        blocks,
+        ..FIRST
+    })
+}
+
+/// A place of a try that isn't its last, and gives nothing.
+fn middle(rt: &impl Abort, receiver: &mut Receiver, block: Option<&Block>) {
+    assert!(rt; receiver.open() == Some(Some(64)));
+    let out = receiver.place(block);
+    assert!(rt; out.delivered.is_none() && out.answer.is_none());
+}
+
+/// Whether this is the packet that the header of its first try opened.
+fn is_whole(joined: &Option<Joined>) -> bool {
+    match joined {
+        Some(joined) => {
+            let body = joined.body.as_slice();
+            joined.header == header_of(true, 64)
+                && body.len() == 636
+                && body.iter().all(|octet| *octet == 5)
+        }
+        None => false,
+    }
+}
+
+/// What radio 1 answers to a try of that packet.
+fn answer(verdict: Verdict, flags: u128) -> Option<Answer> {
+    Some(Answer {
+        from: 1,
+        to: 2,
+        sap: 4,
+        number: 0,
+        verdict,
+        flags,
+    })
+}
+
+/// The last place of a try: its answer, and whether the packet was delivered.
+fn last(rt: &impl Abort, receiver: &mut Receiver, block: Option<&Block>) -> (Option<Answer>, bool) {
+    assert!(rt; receiver.open().is_some());
+    let out = receiver.place(block);
+    assert!(rt; receiver.open().is_none());
+    (out.answer, is_whole(&out.delivered))
+}
+
+/// A confirmed packet of 64 blocks.
+fn packet_of_64_blocks() -> Packet {
+    split_packet(&[5; 636], Rate::Half, true)
+}
+
+/// A packet of 64 blocks, of which the first and the last are lost.
+fn first_try(rt: &impl Abort, receiver: &mut Receiver, packet: &Packet) {
+    receiver.header(&header_of(true, 64));
+    middle(rt, receiver, None);
+    for serial in 1..63usize {
+        middle(rt, receiver, packet.blocks.get(serial));
+    }
+    let answered = last(rt, receiver, None);
+    assert!(rt; answered == (answer(Verdict::Selective, 0x7FFF_FFFF_FFFF_FFFE), false));
+}
+
+/// Both blocks that were lost, in a try of their own, complete the packet.
+fn retry(rt: &impl Abort, receiver: &mut Receiver, packet: &Packet) {
+    receiver.header(&header_of(false, 2));
+    middle(rt, receiver, packet.blocks.get(0));
+    let answered = last(rt, receiver, packet.blocks.get(63));
+    assert!(rt; answered == (answer(Verdict::Ack, 0), true));
+}
+
+#[test]
+fn place_within_a_try(rt: HostRuntime) {
+    let mut receiver = Receiver::new(1);
+    receiver.header(&header_of(true, 2));
+    assert!(rt; !receiver.is_at_last());
+    receiver.go_on(None);
+    assert!(rt; receiver.is_at_last());
+    let lost = last(&rt, &mut receiver, None);
+    assert!(rt; lost == (answer(Verdict::Selective, 0), false));
+}
+
+#[test]
+fn confirmed_packet_received(rt: HostRuntime) {
+    let packet = packet_of_64_blocks();
+    let mut receiver = Receiver::new(1);
+    first_try(&rt, &mut receiver, &packet);
+    retry(&rt, &mut receiver, &packet);
+}
+
+#[test]
+fn repeated_retry(rt: HostRuntime) {
+    let packet = packet_of_64_blocks();
+    let mut receiver = Receiver::new(1);
+    first_try(&rt, &mut receiver, &packet);
+    retry(&rt, &mut receiver, &packet);
+    receiver.header(&header_of(false, 2));
+    assert!(rt; receiver.open() == Some(Some(2)));
+    let out = receiver.place(packet.blocks.get(0));
+    assert!(rt; out.delivered.is_none() && out.answer.is_none());
+    let answered = last(&rt, &mut receiver, packet.blocks.get(63));
+    assert!(rt; answered == (answer(Verdict::Ack, 0), false));
+}
+
+#[test]
+fn same_serial_twice(rt: HostRuntime) {
+    let packet = packet_of_64_blocks();
+    let mut receiver = Receiver::new(1);
+    first_try(&rt, &mut receiver, &packet);
+    for _ in 0..2 {
+        receiver.header(&header_of(false, 2));
+        middle(&rt, &mut receiver, packet.blocks.get(0));
+        let answered = last(&rt, &mut receiver, packet.blocks.get(0));
+        assert!(rt; answered == (answer(Verdict::Selective, 0x7FFF_FFFF_FFFF_FFFF), false));
+    }
+}
+
+#[test]
+fn headers_that_open(rt: HostRuntime) {
+    let mut receiver = Receiver::new(1);
+    receiver.header(&Header::Confirmed(Confirmed {
+        group: true,
+        ..FIRST
+    }));
+    assert!(rt; receiver.open().is_none());
+    receiver.header(&Header::Confirmed(Confirmed {
+        fragment: 3,
+        ..FIRST
+    }));
+    assert!(rt; receiver.open().is_none());
+    receiver.header(&Header::Unconfirmed(Unconfirmed {
+        fragment: 3,
+        ..ALONE
+    }));
+    assert!(rt; receiver.open().is_none());
+    // A packet of one try opens, whatever its F.
+    receiver.header(&Header::Unconfirmed(Unconfirmed {
+        full: false,
+        ..ALONE
+    }));
+    assert!(rt; receiver.open() == Some(None));
+    receiver.header(&Header::ShortData(ShortData {
+        group: true,
+        ..SHORT
+    }));
+    assert!(rt; receiver.open().is_none());
+    // A partial try opens, whatever its fragment number.
+    receiver.header(&Header::Confirmed(FIRST));
+    receiver.header(&Header::Confirmed(Confirmed {
+        full: false,
+        fragment: 3,
+        ..FIRST
+    }));
+    assert!(rt; receiver.open() == Some(Some(1)));
+}
+
+// Fifteen bits of padding are one octet and a part of the body.
+#[test]
+fn short_data_with_bit_padding(rt: HostRuntime) {
+    let mut receiver = Receiver::new(1);
+    receiver.header(&Header::ShortData(SHORT));
+    assert!(rt; receiver.open() == Some(None));
+    let block = Block {
+        serial: None,
+        octets: Octets::from_slice(&DATAGRAM),
+    };
+    let out = receiver.place(Some(&block));
+    assert!(rt; out.answer.is_none());
+    let received = Joined {
+        header: Header::ShortData(SHORT),
+        body: Octets::from_slice(&DATAGRAM[..7]),
+    };
+    assert!(rt; out.delivered == Some(received));
+}
+
+// The block of its one place makes the packet, which nothing answers; a place without one loses it.
+#[test]
+fn unconfirmed_packet_received(rt: HostRuntime) {
+    let header = Header::Unconfirmed(ALONE);
+    let block = Block {
+        serial: None,
+        octets: Octets::from_slice(&DATAGRAM),
+    };
+    let mut receiver = Receiver::new(1);
+    receiver.header(&header);
+    assert!(rt; receiver.open() == Some(None));
+    let out = receiver.place(Some(&block));
+    let received = Joined {
+        header,
+        body: Octets::from_slice(&DATAGRAM[..7]),
+    };
+    assert!(rt; out.delivered == Some(received));
+    assert!(rt; out.answer.is_none());
+    assert!(rt; receiver.open().is_none());
+    receiver.header(&header);
+    assert!(rt; receiver.open() == Some(None));
+    let out = receiver.place(None);
+    assert!(rt; out.delivered.is_none() && out.answer.is_none());
+}
+
+/// Whether packet 0 of a source, of one block, is delivered.
+fn delivers(rt: &impl Abort, receiver: &mut Receiver, source: u32, packet: &Packet) -> bool
+    requires address { source < 2 ^ 24 }
+{
+    receiver.header(&Header::Confirmed(Confirmed { source, ..FIRST }));
+    assert!(rt; receiver.open() == Some(Some(1)));
+    receiver.place(packet.blocks.get(0)).delivered.is_some()
+}
+
+// A packet is a repeat while 63 other sources were heard since, and new with the 64th.
+#[test]
+fn sources_remembered(rt: HostRuntime) {
+    let packet = one_block(7);
+    for (others, again) in [(63u8, false), (64, true)] {
+        let mut receiver = Receiver::new(1);
+        assert!(rt; delivers(&rt, &mut receiver, 2, &packet));
+        for other in 0..others {
+            assert!(rt; delivers(&rt, &mut receiver, 3 + u32::from(other), &packet));
+        }
+        assert_eq!(rt;
+            delivers(&rt, &mut receiver, 2, &packet),
+            again,
+            "{others} others"
+        );
+    }
+}
