@@ -65,7 +65,8 @@ def check_manual(report, top, run, slot, version):
 
 
 def offered(report, *words):
-    ran = subprocess.run(["bash", "-c", COMPLETE, "bash", report.top / BASH, *words], capture_output=True, text=True, cwd=report.top)
+    command = ["bash", "-c", COMPLETE, "bash", report.top / BASH, *words]
+    ran = subprocess.run(command, capture_output=True, text=True, cwd=report.top)
     report.expect(f"bash completes {words}", ran.stderr == "", ran.stderr)
     return set(ran.stdout.split())
 
@@ -85,7 +86,8 @@ def check_completions(report, top, run, slot):
         had = offered(report, *words)
         report.expect(f"bash offers for {words}", had == wanted, had ^ wanted)
     text = (report.top / ZSH).read_text()
-    parts = [text[: text.index("    run)")], *re.split(r"^    (?:slot|help)\)$", text[text.index("    run)") :], flags=re.MULTILINE)]
+    begin = text.index("    run)")
+    parts = [text[:begin], *re.split(r"^    (?:slot|help)\)$", text[begin:], flags=re.MULTILINE)]
     for name, part, wanted in zip(("the program", "run", "slot"), parts, (top, run, slot)):
         report.expect(f"zsh's options of {name}", options_in(part) == wanted, options_in(part) ^ wanted)
     lines = (report.top / FISH).read_text().splitlines()

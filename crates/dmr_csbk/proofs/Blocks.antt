@@ -16,16 +16,25 @@ use Rattle.dmr_csbk.specs.Block.{field_bits, IsFit, IsBlock}
 -- the fields are decided by their bits
 pub same_fields : (a b : Csbk) → IsFit a → IsFit b → field_bits a ≡ field_bits b → a ≡ b
 same_fields a b p q e =
-    let tail : bits_of 6 a.code ++ (bits_of 8 a.fid ++ bits_of_octets a.body) ≡ bits_of 6 b.code ++ (bits_of 8 b.fid ++ bits_of_octets b.body) = cc in
+    let tail : bits_of 6 a.code ++ (bits_of 8 a.fid ++ bits_of_octets a.body) ≡ bits_of 6 b.code ++ (bits_of 8 b.fid ++
+    bits_of_octets b.body) = cc in
     let last : a.last ≡ b.last = cc in
     let protect : a.protect ≡ b.protect = cc in
-    let code = same_number 6 a.code b.code (bits_of 8 a.fid ++ bits_of_octets a.body) (bits_of 8 b.fid ++ bits_of_octets b.body) p.code q.code tail in
+    let code = same_number 6 a.code b.code (bits_of 8 a.fid ++ bits_of_octets a.body) (bits_of 8 b.fid ++ bits_of_octets b.body)
+    p.code q.code tail in
     let fid = same_number 8 a.fid b.fid (bits_of_octets a.body) (bits_of_octets b.body) p.fid q.fid code.1 in
     let body = same_octets a.body b.body p.octets q.octets (p.count ∙ sym q.count) fid.1 in
     same_record a.last b.last a.protect b.protect a.code b.code a.fid b.fid a.body b.body last protect code.0 fid.0 body
   where
     same_record : (l l' p p' : Bool) (c c' f f' : ℕ) (o o' : List ℕ) → l ≡ l' → p ≡ p' → c ≡ c' → f ≡ f' → o ≡ o'
-        → ◌≡◌ {A = Csbk} (record { last = l; protect = p; code = c; fid = f; body = o }) (record { last = l'; protect = p'; code = c'; fid = f'; body = o' })
+        → ◌≡◌ {A = Csbk} (record { last = l; protect = p; code = c; fid = f; body = o }) (record {
+          last = l';
+          protect = p';
+          code =
+              c';
+          fid = f';
+          body = o';
+        })
     same_record l l' p p' c c' f f' o o' e1 e2 e3 e4 e5 = cc
 
 -- the first octets of a message are those of its first bits
@@ -42,7 +51,8 @@ same_message c a b p q =
     let long : length xs ≡ 12 = length-octets_of 12 a in
     let long' : length ys ≡ 12 = length-octets_of 12 b in
     let fronts : take 10 xs ≡ take 10 ys =
-    same_octets (take 10 xs) (take 10 ys) (All-take (λ octet. octet < 256) 10 xs (octets_of-small 12 a)) (All-take (λ octet. octet < 256) 10 ys (octets_of-small 12 b))
+    same_octets (take 10 xs) (take 10 ys) (All-take (λ octet. octet < 256) 10 xs (octets_of-small 12 a)) (All-take (λ octet. octet
+    < 256) 10 ys (octets_of-small 12 b))
     (length-take-le 10 xs (omega arith) ∙ sym (length-take-le 10 ys (omega arith)))
     (front_of a p.long ∙ p.fields ∙ sym q.fields ∙ sym (front_of b q.long)) in
     let same = sealed_alike mask.Csbk xs ys long long' (octets_of-small 12 a) (octets_of-small 12 b) fronts p.sealed q.sealed in
@@ -65,11 +75,14 @@ fields_first last protect code fid body rest six eight many =
 
 -- ---- writing
 -- the sealed octets of the fields are a block
-pub sealed_block : (c : Csbk) (message : List Bool) (fields block : List ℕ) (list : List Bool) → IsFit c → list ≡ field_bits c → bits_of_octets fields ≡ list
-    → take 10 block ≡ fields → IsSealed mask.Csbk block → message ≡ bits_of_octets block → length block ≡ 12 → All (λ octet. octet < 256) block → IsBlock c message
+pub sealed_block : (c : Csbk) (message : List Bool) (fields block : List ℕ) (list : List Bool) → IsFit c → list ≡ field_bits c →
+    bits_of_octets fields ≡ list
+    → take 10 block ≡ fields → IsSealed mask.Csbk block → message ≡ bits_of_octets block → length block ≡ 12 → All (λ octet. octet
+    < 256) block → IsBlock c message
 sealed_block c message fields block list fit is spelled front sealed written long small = record {
   fit = fit;
   long = ap length written ∙ length-bits_of_octets block ∙ omega arith;
   fields = ap (take 80) written ∙ bits_of_octets-take 10 block (omega arith) ∙ ap bits_of_octets front ∙ spelled ∙ is;
-  sealed = subst (IsSealed mask.Csbk) (sym (octets_of-bits_of_octets block small) ∙ ap (λ n. octets_of n (bits_of_octets block)) long ∙ ap (octets_of 12) (sym written)) sealed;
+  sealed = subst (IsSealed mask.Csbk) (sym (octets_of-bits_of_octets block small) ∙ ap (λ n. octets_of n (bits_of_octets block))
+      long ∙ ap (octets_of 12) (sym written)) sealed;
 }

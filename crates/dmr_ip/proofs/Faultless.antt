@@ -2,15 +2,18 @@
 use Rattle.std.proofs.Common.{◌≡◌, ◌≢◌, ℕ, Bool, true, false, not, ◌||◌, cond, List, refl, sym, arith}
 use Rattle.std.specs.Prelude.{Option, Some, None, ◌==◌}
 use Rattle.std.proofs.lemmas.Bool.{and_parts, and_from, eqb-true, eqb-false, eq-eqb, leb-true, le-leb}
-use Rattle.dmr_ip.specs.Datagram.{IsDatagram, datagram_fault, has_length, version, header_words, has_header_sum, is_whole, protocol, has_udp_length, has_udp_sum}
+use Rattle.dmr_ip.specs.Datagram.{IsDatagram, datagram_fault, has_length, version, header_words}
+use Rattle.dmr_ip.specs.Datagram.{has_header_sum, is_whole, protocol, has_udp_length, has_udp_sum}
 use Rattle.dmr_ip.specs.declared.fault.IpFault.{IpFault}
 
 -- a test that finds nothing has passed, and so have those behind it
-passed : (test : Bool) (found : IpFault) (others : Option IpFault) → cond (not test) (Some found) others ≡ None → (test ≡ true) × (others ≡ None)
+passed : (test : Bool) (found : IpFault) (others : Option IpFault) → cond (not test) (Some found) others ≡ None → (test ≡ true) ×
+    (others ≡ None)
 passed true found others e = (refl, e)
 passed false found others e = cc
 
-pass : (test : Bool) (found : IpFault) (others : Option IpFault) → test ≡ true → others ≡ None → cond (not test) (Some found) others ≡ None
+pass : (test : Bool) (found : IpFault) (others : Option IpFault) → test ≡ true → others ≡ None → cond (not test) (Some found)
+    others ≡ None
 pass true found others e h = h
 pass false found others e h = cc
 

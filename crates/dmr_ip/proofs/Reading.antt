@@ -1,11 +1,16 @@
 -- What octets are read as is what they spell.
-use Rattle.std.proofs.Common.{◌≡◌, ℕ, zero, suc, ◌+◌, ◌*◌, ◌/◌, ◌%◌, ◌<◌, ◌≤◌, ◌==◌, Bool, true, false, not, ◌&&◌, ◌||◌, cond, ltb, List, [], ◌∷◌, ◌++◌, length, drop, get_or, Ok, refl, sym, ap, ◌∙◌, inl, inr, arith, length-drop}
+use Rattle.std.proofs.Common.{◌≡◌, ℕ, zero, suc, ◌+◌, ◌*◌, ◌/◌, ◌%◌, ◌<◌, ◌≤◌, ◌==◌, Bool, true, false, not, ◌&&◌, ◌||◌}
+use Rattle.std.proofs.Common.{cond, ltb, List, [], ◌∷◌, ◌++◌, length, drop, get_or}
+use Rattle.std.proofs.Common.{Ok, refl, sym, ap, ◌∙◌, inl, inr, arith, length-drop}
 use Rattle.std.specs.Prelude.{Option, Some, None}
 use Rattle.std.specs.Int.{to_be_bytes, w16}
 use Rattle.std.proofs.lemmas.Bool.{and_parts, and_from, or_parts, or_from, eqb-true, eq-eqb, ne_eqb, le-ltb, ltb-false}
 use Rattle.dmr_ip.specs.Contents.{AreOctets, Contents, FitsDatagram, datagram_of}
 use Rattle.dmr_ip.specs.Datagram.{unless}
-use Rattle.dmr_ip.specs.Spelling.{Identifies, Spells, address_identifiers, behind_identifiers, behind_ports, destination_identifier, expand, form, form_fault, opcode_bit, port_from, port_length, port_octets, ports_length, read_contents, source_identifier}
+use Rattle.dmr_ip.specs.Spelling.{Identifies, Spells, address_identifiers, behind_identifiers}
+use Rattle.dmr_ip.specs.Spelling.{behind_ports, destination_identifier, expand, form}
+use Rattle.dmr_ip.specs.Spelling.{form_fault, opcode_bit, port_from, port_length}
+use Rattle.dmr_ip.specs.Spelling.{port_octets, ports_length, read_contents, source_identifier}
 use Rattle.dmr_ip.specs.declared.fault.ExpandFault.{ExpandFault}
 
 -- The octets have no fault as a form: their identifiers are known, both ports are there, and the datagram isn't too long.
@@ -20,11 +25,13 @@ pub record IsForm (octets : List ℕ) (group : Bool) : Type 0 where
   pub at_most : 28 + length (behind_ports octets) ≤ 1400
 
 -- a test that finds nothing is false, and so are those behind it
-silent : (test : Bool) (found : ExpandFault) (others : Option ExpandFault) → cond test (Some found) others ≡ None → (test ≡ false) × (others ≡ None)
+silent : (test : Bool) (found : ExpandFault) (others : Option ExpandFault) → cond test (Some found) others ≡ None → (test ≡ false)
+    × (others ≡ None)
 silent false found others e = (refl, e)
 silent true found others e = cc
 
-passes : (test : Bool) (found : ExpandFault) (others : Option ExpandFault) → test ≡ false → others ≡ None → cond test (Some found) others ≡ None
+passes : (test : Bool) (found : ExpandFault) (others : Option ExpandFault) → test ≡ false → others ≡ None → cond test (Some found)
+    others ≡ None
 passes false found others e h = h
 passes true found others e h = cc
 
@@ -85,7 +92,8 @@ two_octets high low h k =
 not_zero : (n : ℕ) → (suc n == 0) ≡ false
 not_zero n = ne_eqb (suc n) 0 (λ e. omega arith)
 
-port_split : (identifier : ℕ) (octets : List ℕ) → port_length identifier ≤ length octets → AreOctets octets → octets ≡ port_octets identifier (port_from identifier octets) ++ drop (port_length identifier) octets
+port_split : (identifier : ℕ) (octets : List ℕ) → port_length identifier ≤ length octets → AreOctets octets → octets ≡ port_octets
+    identifier (port_from identifier octets) ++ drop (port_length identifier) octets
 port_split zero [] room h = absurd (omega arith)
 port_split zero (high ∷ []) room h = absurd (omega arith)
 port_split zero (high ∷ low ∷ rest) room h =
@@ -101,13 +109,16 @@ port_named (suc (suc (suc n))) octets h = absurd (omega arith)
 port_fits : (identifier : ℕ) (octets : List ℕ) → AreOctets octets → port_from identifier octets < 65536
 port_fits zero octets h = omega (arith, h 0, h 1)
 port_fits (suc zero) octets h = omega arith
-port_fits (suc (suc n)) octets h = let e = not_zero (suc n) in let f : (suc (suc n) == 1) ≡ false = ne_eqb (suc (suc n)) 1 (λ e. omega arith) in rw (e, f) (omega arith)
+port_fits (suc (suc n)) octets h = let e = not_zero (suc n) in let f : (suc (suc n) == 1) ≡ false = ne_eqb (suc (suc n)) 1 (λ e.
+    omega arith) in rw (e, f) (omega arith)
 
-same_form : (a b c d e : ℕ) (rest front : List ℕ) (c' d' e' : ℕ) (rest' : List ℕ) → a ∷ b ∷ [] ≡ front → c ≡ c' → d ≡ d' → e ≡ e' → rest ≡ rest' → a ∷ b ∷ c ∷ d ∷ e ∷ rest ≡ front ++ (c' ∷ d' ∷ e' ∷ rest')
+same_form : (a b c d e : ℕ) (rest front : List ℕ) (c' d' e' : ℕ) (rest' : List ℕ) → a ∷ b ∷ [] ≡ front → c ≡ c' → d ≡ d' → e ≡ e' →
+    rest ≡ rest' → a ∷ b ∷ c ∷ d ∷ e ∷ rest ≡ front ++ (c' ∷ d' ∷ e' ∷ rest')
 same_form a b c d e rest front c' d' e' rest' p q r s t = rw (← p, q, r, s, t) refl
 
 -- a form, as it is read
-pub Spells-read : (octets : List ℕ) (source destination : ℕ) (group : Bool) → AreOctets octets → IsForm octets group → Spells octets source destination group (datagram_of source destination group (read_contents octets))
+pub Spells-read : (octets : List ℕ) (source destination : ℕ) (group : Bool) → AreOctets octets → IsForm octets group → Spells
+    octets source destination group (datagram_of source destination group (read_contents octets))
 Spells-read [] source destination group h f = absurd (omega (arith, f.at_least))
 Spells-read (a ∷ []) source destination group h f = absurd (omega (arith, f.at_least))
 Spells-read (a ∷ b ∷ []) source destination group h f = absurd (omega (arith, f.at_least))
@@ -123,7 +134,8 @@ Spells-read (a ∷ b ∷ c ∷ d ∷ e ∷ rest) source destination group h f =
     let identification : a ∷ b ∷ [] ≡ to_be_bytes w16 (256 * a + b) = sym (two_octets a b (h 0) (h 1)) in
     let source_identifier : d ≡ d % 128 = omega arith in
     let destination_identifier : e ≡ e % 128 = omega arith in
-    let first : rest ≡ port_octets (d % 128) (port_from (d % 128) rest) ++ behind = port_split (d % 128) rest (omega arith) rest_octets in
+    let first : rest ≡ port_octets (d % 128) (port_from (d % 128) rest) ++ behind = port_split (d % 128) rest (omega arith)
+    rest_octets in
     let second : behind ≡ port_octets (e % 128) (port_from (e % 128) behind) ++ drop (port_length (e % 128)) behind =
     port_split (e % 128) behind (simp length-drop (omega arith)) behind_octets in
     record {
@@ -139,7 +151,8 @@ Spells-read (a ∷ b ∷ c ∷ d ∷ e ∷ rest) source destination group h f =
       destination_identifier = e % 128;
       source_port = port_named (d % 128) rest f.source;
       destination_port = port_named (e % 128) behind f.destination;
-      spelled = same_form a b c d e rest (to_be_bytes w16 (256 * a + b)) _ _ _ _ identification f.addresses source_identifier destination_identifier
+      spelled = same_form a b c d e rest (to_be_bytes w16 (256 * a + b)) _ _ _ _ identification f.addresses source_identifier
+          destination_identifier
           (first ∙ ap (λ tail. port_octets (d % 128) (port_from (d % 128) rest) ++ tail) second);
       stands_for = refl;
     }
@@ -156,7 +169,8 @@ record IsReadBack (identifier port : ℕ) (rest : List ℕ) : Type 0 where
 IsReadBack-spelled : (port : ℕ) (rest : List ℕ) → port < 65536 → IsReadBack 0 port rest
 IsReadBack-spelled port rest h = record { known = omega arith; number = omega arith; behind = refl; count = omega arith }
 
-IsReadBack-port : (identifier port : ℕ) (rest : List ℕ) → Identifies identifier port → port < 65536 → IsReadBack identifier port rest
+IsReadBack-port : (identifier port : ℕ) (rest : List ℕ) → Identifies identifier port → port < 65536 → IsReadBack identifier port
+    rest
 IsReadBack-port identifier port rest p h = elim p [
   | inl out ↦ rw out (IsReadBack-spelled port rest h)
   | inr q ↦ elim q [
@@ -170,7 +184,8 @@ record IsReadAs (octets : List ℕ) (group : Bool) (c : Contents) : Type 0 where
   is_form : IsForm octets group
   contents : read_contents octets ≡ c
 
-IsReadAs-form : (s t : ℕ) (group : Bool) (c : Contents) → FitsDatagram c → Identifies s c.source_port → Identifies t c.destination_port → IsReadAs (form s t group c) group c
+IsReadAs-form : (s t : ℕ) (group : Bool) (c : Contents) → FitsDatagram c → Identifies s c.source_port → Identifies t
+    c.destination_port → IsReadAs (form s t group c) group c
 IsReadAs-form s t group c fits p q =
     let second = IsReadBack-port t c.destination_port c.payload q fits.destination_port in
     let first = IsReadBack-port s c.source_port (port_octets t c.destination_port ++ c.payload) p fits.source_port in
@@ -178,7 +193,10 @@ IsReadAs-form s t group c fits p q =
     let t_known : t ≤ 2 = second.known in
     let s_plain : s % 128 ≡ s = omega arith in
     let t_plain : t % 128 ≡ t = omega arith in
-    let identification : 256 * (c.identification / 256 % 256) + c.identification % 256 ≡ c.identification = omega (arith, fits.identification) in
+    let identification : 256 * (c.identification / 256 % 256) + c.identification % 256 ≡ c.identification = omega (
+      arith,
+      fits.identification,
+    ) in
     record {
       is_form = record {
         at_least = omega arith;
@@ -194,18 +212,23 @@ IsReadAs-form s t group c fits p q =
     }
 
 -- The octets give the datagram exactly where they spell it.
-pub expand-Spells : (octets : List ℕ) (source destination : ℕ) (group : Bool) (datagram : List ℕ) → Spells octets source destination group datagram → expand octets source destination group ≡ Ok datagram
+pub expand-Spells : (octets : List ℕ) (source destination : ℕ) (group : Bool) (datagram : List ℕ) → Spells octets source
+    destination group datagram → expand octets source destination group ≡ Ok datagram
 expand-Spells octets source destination group datagram h =
     let r = IsReadAs-form h.source_identifier h.destination_identifier group h.contents h.fits h.source_port h.destination_port in
     let read = rw (sym h.spelled) at r in
     let e = none-from_IsForm octets group read.is_form in
     rw (e, read.contents, h.stands_for) refl
 
-Spells-unless : (octets : List ℕ) (source destination : ℕ) (group : Bool) (datagram : List ℕ) (found : Option ExpandFault) → AreOctets octets → form_fault octets group ≡ found → unless found (datagram_of source destination group (read_contents octets)) ≡ Ok datagram → Spells octets source destination group datagram
+Spells-unless : (octets : List ℕ) (source destination : ℕ) (group : Bool) (datagram : List ℕ) (found : Option ExpandFault) →
+    AreOctets octets → form_fault octets group ≡ found → unless found (datagram_of source destination group (read_contents octets))
+    ≡ Ok datagram → Spells octets source destination group datagram
 Spells-unless octets source destination group datagram None h e p =
     let d : datagram_of source destination group (read_contents octets) ≡ datagram = cc in
     rw d at (Spells-read octets source destination group h (IsForm-from_none octets group e))
 Spells-unless octets source destination group datagram (Some found) h e p = cc
 
-pub Spells-from_expand : (octets : List ℕ) (source destination : ℕ) (group : Bool) (datagram : List ℕ) → AreOctets octets → expand octets source destination group ≡ Ok datagram → Spells octets source destination group datagram
-Spells-from_expand octets source destination group datagram h e = Spells-unless octets source destination group datagram (form_fault octets group) h refl e
+pub Spells-from_expand : (octets : List ℕ) (source destination : ℕ) (group : Bool) (datagram : List ℕ) → AreOctets octets → expand
+    octets source destination group ≡ Ok datagram → Spells octets source destination group datagram
+Spells-from_expand octets source destination group datagram h e = Spells-unless octets source destination group datagram
+    (form_fault octets group) h refl e

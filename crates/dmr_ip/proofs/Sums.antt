@@ -10,7 +10,8 @@ AreWords [] = Unit {0}
 AreWords (w ∷ ws) = (w ≤ 65535) × AreWords ws
 
 -- the sum with no carry, or with the carry brought round
-plus_cases : (a b : ℕ) → a ≤ 65535 → b ≤ 65535 → ((a + b ≤ 65535) × (plus a b ≡ a + b)) ⊎ ((65536 ≤ a + b) × (plus a b + 65535 ≡ a + b))
+plus_cases : (a b : ℕ) → a ≤ 65535 → b ≤ 65535 → ((a + b ≤ 65535) × (plus a b ≡ a + b)) ⊎ ((65536 ≤ a + b) × (plus a b + 65535 ≡ a
+    + b))
 unfolding plus
 plus_cases a b h k = grind arith
 
@@ -50,13 +51,15 @@ fold_first a b (w ∷ ws) h k l =
     ap (λ n. fold plus n ws) (plus_assoc a b w h k l.0) ∙ fold_first a (plus b w) ws h (plus-le b w k l.0) l.1
 
 -- With the complement of their sum among them, words add up to FFFF.
-pub sum_is_right : (before behind : List ℕ) → AreWords before → AreWords behind → fold plus 0 (before ++ (65535 - fold plus 0 (before ++ 0 ∷ behind)) ∷ behind) ≡ 65535
+pub sum_is_right : (before behind : List ℕ) → AreWords before → AreWords behind → fold plus 0 (before ++ (65535 - fold plus 0
+    (before ++ 0 ∷ behind)) ∷ behind) ≡ 65535
 sum_is_right before behind h k =
     let front : ℕ = fold plus 0 before in
     let low : front ≤ 65535 = fold-le 0 before (omega arith) h in
     let sum : ℕ = fold plus front behind in
     let small : sum ≤ 65535 = fold-le front behind low k in
-    let blank : fold plus 0 (before ++ 0 ∷ behind) ≡ sum = fold-append plus 0 before (0 ∷ behind) ∙ ap (λ n. fold plus n behind) (plus_zero front low) in
+    let blank : fold plus 0 (before ++ 0 ∷ behind) ≡ sum = fold-append plus 0 before (0 ∷ behind) ∙ ap (λ n. fold plus n behind)
+    (plus_zero front low) in
     fold-append plus 0 before ((65535 - fold plus 0 (before ++ 0 ∷ behind)) ∷ behind)
     ∙ ap (λ n. fold plus (plus front (65535 - n)) behind) blank
     ∙ ap (λ n. fold plus n behind) (plus_comm front (65535 - sum))
@@ -68,13 +71,15 @@ unfolding plus
 complement_zero = refl
 
 -- So do they with FFFF in place of a complement of 0.
-pub sum_is_right_sent : (before behind : List ℕ) → AreWords before → AreWords behind → 65535 - fold plus 0 (before ++ 0 ∷ behind) ≡ 0 → fold plus 0 (before ++ 65535 ∷ behind) ≡ 65535
+pub sum_is_right_sent : (before behind : List ℕ) → AreWords before → AreWords behind → 65535 - fold plus 0 (before ++ 0 ∷ behind) ≡
+    0 → fold plus 0 (before ++ 65535 ∷ behind) ≡ 65535
 sum_is_right_sent before behind h k zero =
     let front : ℕ = fold plus 0 before in
     let low : front ≤ 65535 = fold-le 0 before (omega arith) h in
     let sum : ℕ = fold plus front behind in
     let small : sum ≤ 65535 = fold-le front behind low k in
-    let blank : fold plus 0 (before ++ 0 ∷ behind) ≡ sum = fold-append plus 0 before (0 ∷ behind) ∙ ap (λ n. fold plus n behind) (plus_zero front low) in
+    let blank : fold plus 0 (before ++ 0 ∷ behind) ≡ sum = fold-append plus 0 before (0 ∷ behind) ∙ ap (λ n. fold plus n behind)
+    (plus_zero front low) in
     let full : sum ≡ 65535 = omega arith in
     fold-append plus 0 before (65535 ∷ behind)
     ∙ ap (λ n. fold plus n behind) (plus_comm front 65535)

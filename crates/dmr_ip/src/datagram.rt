@@ -1,6 +1,7 @@
 //! UDP datagrams over IPv4, RFC 791 and RFC 768.
 ghost use Rattle.std.specs.Prelude.{◌≡◌, ◌↔◌, ◌≤◌, IsOk, length};
-ghost use Rattle.dmr_ip.specs.Datagram.{IsDatagram, datagram_fault, has_header_sum, has_length, has_udp_length, has_udp_sum, is_whole, parse};
+ghost use Rattle.dmr_ip.specs.Datagram.{IsDatagram, datagram_fault, has_header_sum, has_length};
+ghost use Rattle.dmr_ip.specs.Datagram.{has_udp_length, has_udp_sum, is_whole, parse};
 
 use crate::checksum::add_words;
 use crate::fault::IpFault;

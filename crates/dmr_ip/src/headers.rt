@@ -1,6 +1,7 @@
 //! The headers of the datagrams that have a compressed form.
 ghost use Rattle.std.specs.Prelude.{◌≡◌, ◌+◌, ◌^◌, ◌<◌, ◌≤◌, length};
-ghost use Rattle.dmr_ip.specs.Contents.{address, ip_checksum, ip_header, pseudo_header, radio_address, sent_checksum, udp_checksum, udp_header};
+ghost use Rattle.dmr_ip.specs.Contents.{address, ip_checksum, ip_header, pseudo_header};
+ghost use Rattle.dmr_ip.specs.Contents.{radio_address, sent_checksum, udp_checksum, udp_header};
 
 use crate::checksum::add_words;
 use crate::fields::{

@@ -1,10 +1,12 @@
 -- The mask on the last three of twelve octets.
-use Rattle.std.proofs.Common.{◌≡◌, ℕ, ◌+◌, ◌-◌, ◌≤◌, ◌<◌, ◌^◌, ◌==◌, Bool, true, false, List, [], ◌∷◌, ◌++◌, length, take, drop, map, get_or, bit_xor, if◌then◌else◌, refl, sym, ap, ◌∙◌, arith}
+use Rattle.std.proofs.Common.{◌≡◌, ℕ, ◌+◌, ◌-◌, ◌≤◌, ◌<◌, ◌^◌, ◌==◌, Bool, true, false, List, []}
+use Rattle.std.proofs.Common.{◌∷◌, ◌++◌, length, take, drop, map, get_or, bit_xor, if◌then◌else◌, refl, sym, ap, ◌∙◌, arith}
 use Rattle.std.specs.List.{All}
 use Rattle.std.specs.Int.Bits.{xor_assoc, xor_self, xor_zero_l}
 use Rattle.std.proofs.lemmas.Nat.{xor_comm, xor_lt}
 use Rattle.std.proofs.lemmas.Bool.{eqb-true, eq-eqb}
-use Rattle.std.proofs.lemmas.List.{take_at, drop_at, take-append-drop, length-take-le, length-drop, length-append, length-map, get_or-map, get_or-take, get_or-drop, get_or_append_left, get_or-append_right}
+use Rattle.std.proofs.lemmas.List.{take_at, drop_at, take-append-drop, length-take-le, length-drop, length-append}
+use Rattle.std.proofs.lemmas.List.{length-map, get_or-map, get_or-take, get_or-drop, get_or_append_left, get_or-append_right}
 use Rattle.std.proofs.lemmas.List.Elements.{All-take, All-drop, All-append, All-map}
 use Rattle.dmr_rs.specs.Word.{octet_distance}
 use Rattle.dmr_link.specs.Sealed.{mask_of, masked}
@@ -54,11 +56,13 @@ map_twice lc_use (o ∷ octets) = let head = twice o (mask_of lc_use) in let tai
 pub masked_twice : (lc_use : LcUse) (octets : List ℕ) → length octets ≡ 12 → masked lc_use (masked lc_use octets) ≡ octets
 masked_twice lc_use octets long =
     ap (λ l. l ++ map (veiled lc_use) (drop 9 (masked lc_use octets))) (take-masked lc_use octets long)
-    ∙ ap (λ l. take 9 octets ++ map (veiled lc_use) l) (drop_at (take 9 octets) (map (veiled lc_use) (drop 9 octets)) 9 (length_front octets long))
+    ∙ ap (λ l. take 9 octets ++ map (veiled lc_use) l) (drop_at (take 9 octets) (map (veiled lc_use) (drop 9 octets)) 9
+    (length_front octets long))
     ∙ ap (λ l. take 9 octets ++ l) (map_twice lc_use (drop 9 octets))
     ∙ take-append-drop 9 octets
 
-pub small-masked : (lc_use : LcUse) (octets : List ℕ) → All (λ octet. octet < 256) octets → All (λ octet. octet < 256) (masked lc_use octets)
+pub small-masked : (lc_use : LcUse) (octets : List ℕ) → All (λ octet. octet < 256) octets → All (λ octet. octet < 256) (masked
+    lc_use octets)
 small-masked lc_use octets small =
     let Small : ℕ → Type 0 = λ octet. octet < 256 in
     All-append Small (take 9 octets) (map (veiled lc_use) (drop 9 octets)) (All-take Small 9 octets small)
@@ -66,12 +70,14 @@ small-masked lc_use octets small =
     (λ k d h. xor_lt 8 (get_or (drop 9 octets) k d) (mask_of lc_use) (All-drop Small 9 octets small k d h) (mask_of-lt lc_use)))
 
 -- by index
-pub get_or-masked_front : (lc_use : LcUse) (octets : List ℕ) (k : ℕ) → length octets ≡ 12 → k < 9 → get_or (masked lc_use octets) k 0 ≡ get_or octets k 0
+pub get_or-masked_front : (lc_use : LcUse) (octets : List ℕ) (k : ℕ) → length octets ≡ 12 → k < 9 → get_or (masked lc_use octets) k
+    0 ≡ get_or octets k 0
 get_or-masked_front lc_use octets k long h =
     get_or_append_left (take 9 octets) (map (veiled lc_use) (drop 9 octets)) 0 k (omega (arith, length_front octets long))
     ∙ get_or-take 9 octets k 0 h
 
-pub get_or-masked_back : (lc_use : LcUse) (octets : List ℕ) (k : ℕ) → length octets ≡ 12 → 9 ≤ k → k < 12 → get_or (masked lc_use octets) k 0 ≡ bit_xor (get_or octets k 0) (mask_of lc_use)
+pub get_or-masked_back : (lc_use : LcUse) (octets : List ℕ) (k : ℕ) → length octets ≡ 12 → 9 ≤ k → k < 12 → get_or (masked lc_use
+    octets) k 0 ≡ bit_xor (get_or octets k 0) (mask_of lc_use)
 get_or-masked_back lc_use octets k long from to =
     let place : 9 + (k - 9) ≡ k = omega arith in
     get_or-append_right (take 9 octets) (map (veiled lc_use) (drop 9 octets)) 9 k 0 (length_front octets long) from
@@ -79,7 +85,8 @@ get_or-masked_back lc_use octets k long from to =
     ∙ ap (veiled lc_use) (get_or-drop 9 octets (k - 9) 0 ∙ ap (λ n. get_or octets n 0) place)
 
 -- ---- distances
-pub distance-append : (a b x y : List ℕ) → length a ≡ length b → octet_distance (a ++ x) (b ++ y) ≡ octet_distance a b + octet_distance x y
+pub distance-append : (a b x y : List ℕ) → length a ≡ length b → octet_distance (a ++ x) (b ++ y) ≡ octet_distance a b +
+    octet_distance x y
 distance-append [] [] x y e = omega arith
 distance-append [] (q ∷ b) x y e = absurd (omega arith)
 distance-append (p ∷ a) [] x y e = absurd (omega arith)
@@ -95,7 +102,8 @@ distance-map lc_use (p ∷ x) (q ∷ y) =
     ∙ ap (λ n. (if p == q then 0 else 1) + n) (distance-map lc_use x y)
 
 -- a mask on both changes no distance
-pub distance-masked : (lc_use : LcUse) (a b : List ℕ) → length a ≡ 12 → length b ≡ 12 → octet_distance (masked lc_use a) (masked lc_use b) ≡ octet_distance a b
+pub distance-masked : (lc_use : LcUse) (a b : List ℕ) → length a ≡ 12 → length b ≡ 12 → octet_distance (masked lc_use a) (masked
+    lc_use b) ≡ octet_distance a b
 distance-masked lc_use a b long other =
     let fronts : length (take 9 a) ≡ length (take 9 b) = length_front a long ∙ sym (length_front b other) in
     distance-append (take 9 a) (take 9 b) (map (veiled lc_use) (drop 9 a)) (map (veiled lc_use) (drop 9 b)) fronts

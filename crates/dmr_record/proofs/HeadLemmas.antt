@@ -6,9 +6,14 @@ use Rattle.dmr_record.specs.declared.fault.RecordFault.TheVariants.{Magic, Versi
 use Rattle.dmr_record.specs.Faults.{is_of_end, is_device_fault, HasFault}
 use Rattle.dmr_record.specs.Head.{version, head_octets, ShowsHeadFault}
 
-front_is : (magic taken rest more : List ℕ) → length magic ≡ 4 → length taken ≡ 8 → taken ++ rest ≡ head_octets magic ++ more → taken ≡ head_octets magic
+front_is : (magic taken rest more : List ℕ) → length magic ≡ 4 → length taken ≡ 8 → taken ++ rest ≡ head_octets magic ++ more →
+    taken ≡ head_octets magic
 front_is magic taken rest more four eight same =
-    sym (take_at taken rest 8 eight) ∙ ap (take 8) same ∙ take_at (head_octets magic) more 8 (omega (arith, length-append magic version))
+    sym (take_at taken rest 8 eight) ∙ ap (take 8) same ∙ take_at (head_octets magic) more 8 (omega (
+      arith,
+      length-append magic
+          version,
+    ))
 
 pub head_no_fault : (magic : List ℕ) (e : RecordFault) (taken rest more : List ℕ) → length magic ≡ 4 → ShowsHeadFault magic e taken
     → (is_of_end e ≡ true → rest ≡ []) → taken ++ rest ≡ head_octets magic ++ more → is_device_fault e ≡ true
@@ -16,7 +21,14 @@ head_no_fault magic Read taken rest more four shows end same = refl
 head_no_fault magic CutRecord taken rest more four shows end same =
     let none = ap length (end refl) in
     let lengths = ap length same in
-    absurd (omega (arith, length-append taken rest, length-append (head_octets magic) more, length-append magic version, none, lengths))
+    absurd (omega (
+      arith,
+      length-append taken rest,
+      length-append (head_octets magic) more,
+      length-append magic version,
+      none,
+      lengths,
+    ))
 head_no_fault magic Magic taken rest more four shows end same =
     absurd (shows.1 (ap (take 4) (front_is magic taken rest more four shows.0 same) ∙ take_at magic version 4 four))
 head_no_fault magic Version taken rest more four shows end same =
@@ -24,18 +36,21 @@ head_no_fault magic Version taken rest more four shows end same =
 head_no_fault magic e taken rest more four shows end same = absurd shows
 
 -- eight octets are there or not
-cut_apart : (text taken rest other more : List ℕ) → taken ++ rest ≡ text → other ++ more ≡ text → length taken < 8 → rest ≡ [] → length other ≡ 8 → ⊥
+cut_apart : (text taken rest other more : List ℕ) → taken ++ rest ≡ text → other ++ more ≡ text → length taken < 8 → rest ≡ [] →
+    length other ≡ 8 → ⊥
 cut_apart text taken rest other more split also few none eight =
     let nothing = ap length none in
     let lengths = ap length split in
     let others = ap length also in
     omega (arith, length-append taken rest, length-append other more, nothing, lengths, others)
 
-eight_same : (text taken rest other more : List ℕ) → taken ++ rest ≡ text → other ++ more ≡ text → length taken ≡ 8 → length other ≡ 8 → taken ≡ other
+eight_same : (text taken rest other more : List ℕ) → taken ++ rest ≡ text → other ++ more ≡ text → length taken ≡ 8 → length other
+    ≡ 8 → taken ≡ other
 eight_same text taken rest other more split also eight as_many =
     sym (take_at taken rest 8 eight) ∙ ap (take 8) (split ∙ sym also) ∙ take_at other more 8 as_many
 
-pub head_one_fault : (magic text : List ℕ) (e f : RecordFault) → HasFault (ShowsHeadFault magic) text e → HasFault (ShowsHeadFault magic) text f
+pub head_one_fault : (magic text : List ℕ) (e f : RecordFault) → HasFault (ShowsHeadFault magic) text e → HasFault (ShowsHeadFault
+    magic) text f
     → e ≢ Read → f ≢ Read → e ≡ f
 head_one_fault magic text Read f has also other more = absurd (other refl)
 head_one_fault magic text e Read has also other more = absurd (more refl)
@@ -51,9 +66,11 @@ head_one_fault magic text Magic CutRecord has also other more =
 head_one_fault magic text Version CutRecord has also other more =
     absurd (cut_apart text also.taken also.rest has.taken has.rest also.split has.split also.shown (also.end refl) has.shown.0)
 head_one_fault magic text Magic Version has also other more =
-    absurd (has.shown.1 (ap (take 4) (eight_same text has.taken has.rest also.taken also.rest has.split also.split has.shown.0 also.shown.0) ∙ also.shown.1))
+    absurd (has.shown.1 (ap (take 4) (eight_same text has.taken has.rest also.taken also.rest has.split also.split has.shown.0
+    also.shown.0) ∙ also.shown.1))
 head_one_fault magic text Version Magic has also other more =
-    absurd (also.shown.1 (ap (take 4) (eight_same text also.taken also.rest has.taken has.rest also.split has.split also.shown.0 has.shown.0) ∙ has.shown.1))
+    absurd (also.shown.1 (ap (take 4) (eight_same text also.taken also.rest has.taken has.rest also.split has.split also.shown.0
+    has.shown.0) ∙ has.shown.1))
 head_one_fault magic text e CutRecord has also other more = absurd has.shown
 head_one_fault magic text e Magic has also other more = absurd has.shown
 head_one_fault magic text e Version has also other more = absurd has.shown

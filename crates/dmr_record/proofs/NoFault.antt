@@ -13,28 +13,50 @@ use Rattle.dmr_record.proofs.UplinkReading.{frame_at, frame_at-spelled, frame_at
 pub frames_no_fault : (limit before : ℕ) (frames : List (List (Option (List ℕ)))) (e : RecordFault) → AllByRecursion IsFrame frames
     → before + length frames ≤ limit → HasFault (ShowsFault limit before) (frames_octets frames) e → e ≡ Read
 frames_no_fault limit before [] e p few has =
-    no_fault_read (ShowsFault limit before) (frame_at limit before) (frame_at-shown limit before) [] None e (frame_at-end limit before) has
+    no_fault_read (ShowsFault limit before) (frame_at limit before) (frame_at-shown limit before) [] None e (frame_at-end limit
+    before) has
 frames_no_fault limit before (f ∷ fs) e p few has =
-    no_fault_read (ShowsFault limit before) (frame_at limit before) (frame_at-shown limit before) (frames_octets (f ∷ fs)) (Some (f, frames_octets fs)) e
+    no_fault_read (ShowsFault limit before) (frame_at limit before) (frame_at-shown limit before) (frames_octets (f ∷ fs)) (Some
+    (f, frames_octets fs)) e
     (frame_at-spelled limit before f (frames_octets fs) (omega arith) p.0) has
 
-pub sendings_no_fault : (limit before last : ℕ) (sendings : List Sending) (e : RecordFault) → AllByRecursion IsSending sendings → AreInOrder last sendings
+pub sendings_no_fault : (limit before last : ℕ) (sendings : List Sending) (e : RecordFault) → AllByRecursion IsSending sendings →
+    AreInOrder last sendings
     → before + length sendings ≤ limit → HasFault (ShowsOutgoingFault limit before last) (sendings_octets sendings) e → e ≡ Read
 sendings_no_fault limit before last [] e p order few has =
-    no_fault_read (ShowsOutgoingFault limit before last) (sending_at limit before last) (sending_at-shown limit before last) [] None e (sending_at-end limit before last) has
+    no_fault_read (ShowsOutgoingFault limit before last) (sending_at limit before last) (sending_at-shown limit before last) []
+    None e (sending_at-end limit before last) has
 sendings_no_fault limit before last (s ∷ ss) e p order few has =
-    no_fault_read (ShowsOutgoingFault limit before last) (sending_at limit before last) (sending_at-shown limit before last) (sendings_octets (s ∷ ss))
+    no_fault_read (ShowsOutgoingFault limit before last) (sending_at limit before last) (sending_at-shown limit before last)
+    (sendings_octets (s ∷ ss))
     (Some (s, sendings_octets ss)) e (sending_at-spelled limit before last s (sendings_octets ss) (omega arith) order.0 p.0) has
 
 -- the same of what was taken and of what is left
-pub no_fault : (limit before : ℕ) (e : RecordFault) (taken rest : List ℕ) (frames : List (List (Option (List ℕ)))) → AllByRecursion IsFrame frames
+pub no_fault : (limit before : ℕ) (e : RecordFault) (taken rest : List ℕ) (frames : List (List (Option (List ℕ)))) → AllByRecursion
+    IsFrame frames
     → before + length frames ≤ limit → ShowsFault limit before e taken → (is_of_end e ≡ true → rest ≡ [])
     → taken ++ rest ≡ frames_octets frames → is_device_fault e ≡ true
 no_fault limit before e taken rest frames p few shows end same =
-    ap is_device_fault (frames_no_fault limit before frames e p few (record { taken = taken; rest = rest; split = same; shown = shows; end = end }))
+    ap is_device_fault (frames_no_fault limit before frames e p few (record {
+      taken = taken;
+      rest = rest;
+      split = same;
+      shown =
+          shows;
+      end = end;
+    }))
 
-pub no_outgoing_fault : (limit before last : ℕ) (e : RecordFault) (taken rest : List ℕ) (sendings : List Sending) → AllByRecursion IsSending sendings
-    → AreInOrder last sendings → before + length sendings ≤ limit → ShowsOutgoingFault limit before last e taken → (is_of_end e ≡ true → rest ≡ [])
+pub no_outgoing_fault : (limit before last : ℕ) (e : RecordFault) (taken rest : List ℕ) (sendings : List Sending) → AllByRecursion
+    IsSending sendings
+    → AreInOrder last sendings → before + length sendings ≤ limit → ShowsOutgoingFault limit before last e taken → (is_of_end e ≡
+    true → rest ≡ [])
     → taken ++ rest ≡ sendings_octets sendings → is_device_fault e ≡ true
 no_outgoing_fault limit before last e taken rest sendings p order few shows end same =
-    ap is_device_fault (sendings_no_fault limit before last sendings e p order few (record { taken = taken; rest = rest; split = same; shown = shows; end = end }))
+    ap is_device_fault (sendings_no_fault limit before last sendings e p order few (record {
+      taken = taken;
+      rest = rest;
+      split =
+          same;
+      shown = shows;
+      end = end;
+    }))

@@ -1,5 +1,6 @@
 -- An outgoing file has one reading: a record, the end, or the one fault that it has.
-use Rattle.std.proofs.Common.{◌≡◌, ℕ, ◌<◌, ◌≤◌, inl, inr, leb, ltb, eqb, cond, Bool, true, false, ◌&&◌, ◌||◌, List, [], ◌∷◌, ◌++◌, length, get_or, take, drop, Option, Some, None, refl, ap, ◌∙◌, arith}
+use Rattle.std.proofs.Common.{◌≡◌, ℕ, ◌<◌, ◌≤◌, inl, inr, leb, ltb, eqb, cond, Bool, true, false, ◌&&◌, ◌||◌}
+use Rattle.std.proofs.Common.{List, [], ◌∷◌, ◌++◌, length, get_or, take, drop, Option, Some, None, refl, ap, ◌∙◌, arith}
 use Rattle.std.specs.Prelude.{Result, Ok, Err}
 use Rattle.std.proofs.lemmas.Bool.{le-leb, lt-leb, lt-ltb, le-ltb, ne_eqb, true≢false, cases_lt, and_left, and_right}
 use Rattle.std.proofs.lemmas.List.{take_at, drop_at, length-append}
@@ -8,7 +9,8 @@ use Rattle.byteorder.specs.Numbers.{big_number-reads_back}
 use Rattle.dmr_record.specs.declared.fault.RecordFault.{RecordFault}
 use Rattle.dmr_record.specs.declared.fault.RecordFault.TheVariants.{CutRecord, BadTag, FrameOrder, TooLong, Read}
 use Rattle.dmr_record.specs.Faults.{is_of_end, is_device_fault}
-use Rattle.dmr_record.specs.Outgoing.{Fields, field_octets, Fit, IsPlace, Sending, IsSending, mode_of, fields_of, sending_octets, ShowsOutgoingFault}
+use Rattle.dmr_record.specs.Outgoing.{Fields, field_octets, Fit, IsPlace, Sending}
+use Rattle.dmr_record.specs.Outgoing.{IsSending, mode_of, fields_of, sending_octets, ShowsOutgoingFault}
 use Rattle.dmr_record.specs.Spelling.{IsPrefixCode}
 use Rattle.dmr_record.proofs.Readings.{same_answer}
 
@@ -19,7 +21,14 @@ abbrev fields : ℕ → ℕ → ℕ → ℕ → Fields
 fields frame slot mode count = record { frame = frame; slot = slot; mode = mode; count = count }
 
 abbrev sending : ℕ → ℕ → Bool → Bool → List ℕ → Sending
-sending frame slot confirmed full datagram = record { frame = frame; slot = slot; confirmed = confirmed; full = full; datagram = datagram }
+sending frame slot confirmed full datagram = record {
+  frame = frame;
+  slot = slot;
+  confirmed = confirmed;
+  full = full;
+  datagram =
+      datagram;
+}
 
 sending_from : Fields → List ℕ → Sending
 sending_from f datagram = sending f.frame f.slot (eqb f.mode 1 || eqb f.mode 3) (leb 2 f.mode) datagram
@@ -41,7 +50,8 @@ fields_behind last text = cond (leb 8 (length text)) (sending_behind last (field
 -- what a text is read as, with so many records before it, the last of which has this frame
 pub sending_at : ℕ → ℕ → ℕ → List ℕ → Result (Option (Sending × List ℕ)) RecordFault
 sending_at limit before last [] = Ok None
-sending_at limit before last (tag ∷ text) = cond (leb limit before) (Err TooLong) (cond (eqb tag 2) (fields_behind last text) (Err BadTag))
+sending_at limit before last (tag ∷ text) = cond (leb limit before) (Err TooLong) (cond (eqb tag 2) (fields_behind last text) (Err
+    BadTag))
 
 pub sending_at-end : (limit before last : ℕ) → sending_at limit before last [] ≡ Ok None
 unfolding sending_at
@@ -56,7 +66,11 @@ is_place-false : (slot mode : ℕ) → (IsPlace slot mode → ⊥) → is_place 
 unfolding is_place
 is_place-false slot mode misses =
     elim (cases_lt mode 4) [
-      | inl low ↦ and_left (eqb slot 1 || eqb slot 2) (ltb mode 4) (rw (ne_eqb slot 1 (λ e. misses (inl e, low)), ne_eqb slot 2 (λ e. misses (inr e, low))) refl)
+      | inl low ↦ and_left (eqb slot 1 || eqb slot 2) (ltb mode 4) (rw (
+        ne_eqb slot 1 (λ e. misses (inl e, low)),
+        ne_eqb slot 2
+            (λ e. misses (inr e, low)),
+      ) refl)
       | inr high ↦ and_right (eqb slot 1 || eqb slot 2) (ltb mode 4) (le-ltb mode 4 high)
     ]
 
@@ -65,7 +79,8 @@ unfolding fields_at
 fields_at-spelled f rest fit =
     let frame = big_number-reads_back 4 f.frame (f.slot ∷ f.mode ∷ (big_bytes 2 f.count ++ rest)) fit.frame in
     let count = big_number-reads_back 2 f.count rest fit.count in
-    ap (λ n. fields n f.slot f.mode (big_number 2 (big_bytes 2 f.count ++ rest))) frame ∙ ap (λ n. fields f.frame f.slot f.mode n) count
+    ap (λ n. fields n f.slot f.mode (big_number 2 (big_bytes 2 f.count ++ rest))) frame ∙ ap (λ n. fields f.frame f.slot f.mode n)
+    count
 
 mode_back : (confirmed full : Bool) → ((eqb (mode_of confirmed full) 1 || eqb (mode_of confirmed full) 3) ≡ confirmed)
     × (leb 2 (mode_of confirmed full) ≡ full) × (mode_of confirmed full < 4)
@@ -78,14 +93,18 @@ sending_back : (s : Sending) → sending_from (fields_of s) s.datagram ≡ s
 unfolding sending_from
 sending_back s =
     let (confirmed, full, low) = mode_back s.confirmed s.full in
-    ap (λ c. sending s.frame s.slot c (leb 2 (mode_of s.confirmed s.full)) s.datagram) confirmed ∙ ap (λ f. sending s.frame s.slot s.confirmed f s.datagram) full
+    ap (λ c. sending s.frame s.slot c (leb 2 (mode_of s.confirmed s.full)) s.datagram) confirmed ∙ ap (λ f. sending s.frame s.slot
+    s.confirmed f s.datagram) full
 
 -- where fields come behind a tag
 sending_at-fields : (limit before last : ℕ) (f : Fields) (text : List ℕ) → before < limit → Fit f
     → sending_at limit before last (2 ∷ (field_octets f ++ text)) ≡ sending_behind last f text
 unfolding sending_at fields_behind
 sending_at-fields limit before last f text below fit =
-    let long : leb 8 (length (field_octets f ++ text)) ≡ true = le-leb 8 (length (field_octets f ++ text)) (omega (arith, length-append (field_octets f) text)) in
+    let long : leb 8 (length (field_octets f ++ text)) ≡ true = le-leb 8 (length (field_octets f ++ text)) (omega (
+      arith,
+      length-append (field_octets f) text,
+    )) in
     rw (lt-leb limit before below, long) (ap (λ g. sending_behind last g text) (fields_at-spelled f text fit))
 
 -- a record that a text begins with is read
@@ -95,7 +114,11 @@ unfolding sending_behind
 sending_at-spelled limit before last s rest below order is =
     let (confirmed, full, low) = mode_back s.confirmed s.full in
     let fit : Fit (fields_of s) = record { frame = is.frame; count = is.datagram } in
-    let long : leb (length s.datagram) (length (s.datagram ++ rest)) ≡ true = le-leb _ _ (omega (arith, length-append s.datagram rest)) in
+    let long : leb (length s.datagram) (length (s.datagram ++ rest)) ≡ true = le-leb _ _ (omega (
+      arith,
+      length-append s.datagram
+          rest,
+    )) in
     sending_at-fields limit before last (fields_of s) (s.datagram ++ rest) below fit
     ∙ rw (
       is_place-true s.slot (mode_of s.confirmed s.full) (is.slot, low),
@@ -107,13 +130,18 @@ sending_at-spelled limit before last s rest below order is =
     ) refl
 
 -- a fault that a text has is told
-pub sending_at-shown : (limit before last : ℕ) (e : RecordFault) (taken rest : List ℕ) → ShowsOutgoingFault limit before last e taken → is_device_fault e ≡ false
+pub sending_at-shown : (limit before last : ℕ) (e : RecordFault) (taken rest : List ℕ) → ShowsOutgoingFault limit before last e
+    taken → is_device_fault e ≡ false
     → (is_of_end e ≡ true → rest ≡ []) → sending_at limit before last (taken ++ rest) ≡ Err e
 unfolding sending_at fields_behind sending_behind
 sending_at-shown limit before last Read taken rest shows own end = absurd (true≢false own)
 sending_at-shown limit before last TooLong [] rest (past, one) own end = absurd (omega arith)
 sending_at-shown limit before last TooLong (t ∷ ts) rest (past, one) own end = rw (le-leb limit before past) refl
-sending_at-shown limit before last BadTag taken rest (below, inl (tag, other, s)) own end = rw (s, lt-leb limit before below, ne_eqb tag 2 other) refl
+sending_at-shown limit before last BadTag taken rest (below, inl (tag, other, s)) own end = rw (
+  s,
+  lt-leb limit before below,
+  ne_eqb tag 2 other,
+) refl
 sending_at-shown limit before last BadTag taken rest (below, inr (f, fit, misses, s)) own end =
     ap (λ l. sending_at limit before last (l ++ rest)) s ∙ sending_at-fields limit before last f rest below fit
     ∙ rw (is_place-false f.slot f.mode misses) refl
@@ -125,8 +153,13 @@ sending_at-shown limit before last CutRecord taken rest (below, some, inr (inl (
     let short : leb 8 (length (part ++ [])) ≡ false = lt-leb 8 (length (part ++ [])) (omega (arith, length-append part [])) in
     rw (s, end refl, lt-leb limit before below, short) refl
 sending_at-shown limit before last CutRecord taken rest (below, some, inr (inr (f, part, fit, place, order, few, s))) own end =
-    let short : leb f.count (length (part ++ [])) ≡ false = lt-leb f.count (length (part ++ [])) (omega (arith, length-append part [])) in
-    ap (λ l. sending_at limit before last (l ++ rest)) s ∙ ap (λ r. sending_at limit before last (2 ∷ (field_octets f ++ (part ++ r)))) (end refl)
+    let short : leb f.count (length (part ++ [])) ≡ false = lt-leb f.count (length (part ++ [])) (omega (
+      arith,
+      length-append part
+          [],
+    )) in
+    ap (λ l. sending_at limit before last (l ++ rest)) s ∙ ap (λ r. sending_at limit before last (2 ∷ (field_octets f ++ (part ++
+    r)))) (end refl)
     ∙ sending_at-fields limit before last f (part ++ []) below fit
     ∙ rw (is_place-true f.slot f.mode place, le-ltb f.frame last order, short) refl
 sending_at-shown limit before last e taken rest shows own end = absurd shows

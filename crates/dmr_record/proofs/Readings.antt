@@ -26,16 +26,19 @@ is_device_fault-told Read told = refl
 is_device_fault-told e told = absurd (told refl)
 
 module _ {X : Type 0} (Shows : RecordFault → List ℕ → Type 0) (answer : List ℕ → Result X RecordFault)
-    (shown : (e : RecordFault) (taken rest : List ℕ) → Shows e taken → is_device_fault e ≡ false → (is_of_end e ≡ true → rest ≡ []) → answer (taken ++ rest) ≡ Err e) where
+    (shown : (e : RecordFault) (taken rest : List ℕ) → Shows e taken → is_device_fault e ≡ false → (is_of_end e ≡ true → rest ≡ [])
+    → answer (taken ++ rest) ≡ Err e) where
   answer-fault : (text : List ℕ) (e : RecordFault) → HasFault Shows text e → is_device_fault e ≡ false → answer text ≡ Err e
   answer-fault text e has own = sym (ap answer has.split) ∙ shown e has.taken has.rest has.shown own has.end
 
   -- where something else is read, there is no fault
   pub no_fault_read : (text : List ℕ) (x : X) (e : RecordFault) → answer text ≡ Ok x → HasFault Shows text e → e ≡ Read
-  no_fault_read text x e read has = is_device_fault-told e (λ own. let both : Ok x ≡ Err e = sym read ∙ answer-fault text e has own in cc)
+  no_fault_read text x e read has = is_device_fault-told e (λ own. let both : Ok x ≡ Err e = sym read ∙ answer-fault text e has own
+      in cc)
 
   -- there is one fault
-  pub one_fault_read : (text : List ℕ) (e f : RecordFault) → HasFault Shows text e → HasFault Shows text f → e ≢ Read → f ≢ Read → e ≡ f
+  pub one_fault_read : (text : List ℕ) (e f : RecordFault) → HasFault Shows text e → HasFault Shows text f → e ≢ Read → f ≢ Read →
+      e ≡ f
   one_fault_read text e f has also other more =
       let first = answer-fault text e has (is_device_fault-other e other) in
       let second = answer-fault text f also (is_device_fault-other f more) in

@@ -17,7 +17,8 @@ same_pieces xs xs' ys ys' a b l l' e =
     let (second, rest) = same_fronts xs' ys' a b l' behind in
     (first, second, rest)
 
-one_sent : (x y : Option (List ℕ × List ℕ)) (a b : List ℕ) → IsSent x → IsSent y → sent_octets x ++ a ≡ sent_octets y ++ b → (x ≡ y) × (a ≡ b)
+one_sent : (x y : Option (List ℕ × List ℕ)) (a b : List ℕ) → IsSent x → IsSent y → sent_octets x ++ a ≡ sent_octets y ++ b → (x ≡
+    y) × (a ≡ b)
 one_sent None None a b p q e = (refl, (cc))
 one_sent None (Some y) a b p q e = absurd (cc)
 one_sent (Some x) None a b p q e = absurd (cc)
@@ -54,7 +55,8 @@ source_in x rest is = big_number-reads_back 3 x.source (drop 10 (receipt_octets 
 count_in : (x : Receipt) (rest : List ℕ) → IsReceipt x → big_number 2 (drop 10 (receipt_octets x ++ rest)) ≡ length x.octets
 count_in x rest is = big_number-reads_back 2 (length x.octets) (x.octets ++ rest) is.octets
 
-one_receipt : (x y : Receipt) (a b : List ℕ) → IsReceipt x → IsReceipt y → receipt_octets x ++ a ≡ receipt_octets y ++ b → (x ≡ y) × (a ≡ b)
+one_receipt : (x y : Receipt) (a b : List ℕ) → IsReceipt x → IsReceipt y → receipt_octets x ++ a ≡ receipt_octets y ++ b → (x ≡ y)
+    × (a ≡ b)
 one_receipt x y a b p q e =
     let frame = sym (frame_in x a p) ∙ ap (λ l. big_number 4 (drop 1 l)) e ∙ frame_in y b q in
     let slot : x.slot ≡ y.slot = ap (λ l. get_or l 5 0) e in

@@ -229,8 +229,8 @@ fn received_record(rt: HostRuntime) -> std::io::Result<()> {
     let datagram = write_received(&mut sink, 0, 1, ReceivedKind::Datagram, 1, &[0xff; 258]);
     assert!(rt; datagram.is_ok());
     let written = sink.into_inner();
-    let want =
-        b"\x03\0\0\0\x06\x01\x02\0\0\x03\0\x04\x01\x02\0\x05\x03\x01\x02\x03\x04\x02\x01\xab\xcd\xef\0\0\x03\0\0\0\0\x01\0\0\0\x01\x01\x02\xff";
+    let want = b"\x03\0\0\0\x06\x01\x02\0\0\x03\0\x04\x01\x02\0\x05\x03\x01\x02\x03\x04\x02\x01\
+            \xab\xcd\xef\0\0\x03\0\0\0\0\x01\0\0\0\x01\x01\x02\xff";
     assert_eq!(rt; written.get(..41), Some(&want[..]));
     assert_eq!(rt; written.len(), 40 + 258);
     Ok(())

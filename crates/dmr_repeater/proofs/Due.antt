@@ -43,7 +43,8 @@ one_ahead : (frame : ℕ) (now : Progress) (back : List Sending) (left : Option 
     → (ahead : Option Sending) × (back ≡ option_to_list ahead)
     × (IsSomeAnd ahead (λ s. frame < s.frame) ⊎ ((ahead ≡ None) × IsAtEnd left))
 one_ahead frame now back left (inl (o, is, last, late, small)) read met =
-    let (s, same, frames) = one_read o back (subst (λ (x : Option Outgoing). Pairwise IsReadFrom (option_to_list x) back) is read) in
+    let (s, same, frames) = one_read o back (subst (λ (x : Option Outgoing). Pairwise IsReadFrom (option_to_list x) back) is read)
+    in
     let later : frame < s.frame = omega (arith, frames, late) in
     (Some s, same, inl later)
 one_ahead frame now back left (inr (none, end)) read met = (

@@ -214,7 +214,8 @@ module _ (s : Settings) (m : State) (new : m ≡ fresh s) (output : Stream) (a z
   -- past its end
   pub fails_past_uplink : (frames : List (List (Option (List ℕ)))) (count : ℕ) → count < 5 → Reads frames [] b z.uplink
       → IsAtEnd z.uplink
-      → Tears output (moment m unread p h t) ((silence ∷ frames) ++ replicate count silence) silence z.outgoing z.downlink z.received
+      → Tears output (moment m unread p h t) ((silence ∷ frames) ++ replicate count silence) silence z.outgoing z.downlink
+      z.received
       → FailsInFrame output s a z
   fails_past_uplink frames count few reads end u =
       let xs : List (List (Option (List ℕ))) = (silence ∷ frames) ++ replicate count silence in

@@ -70,7 +70,8 @@ fn longest_summary_line(rt: HostRuntime) {
         unoffered: 4294967288,
     };
     let line =
-        "frames 4294967295 repeated 4294967294 received 4294967293 delivered 4294967292 sent 4294967291 given-up 4294967290 refused 4294967289 unoffered 4294967288\n";
+        "frames 4294967295 repeated 4294967294 received 4294967293 delivered 4294967292 sent 4294967291 \
+            given-up 4294967290 refused 4294967289 unoffered 4294967288\n";
     expect_end(&rt, RunEnd::Done(summary), 0, line, "");
 }
 

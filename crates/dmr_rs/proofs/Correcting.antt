@@ -1,5 +1,6 @@
 -- The search for the one wrong octet among twelve, from the last place to the first.
-use Rattle.std.proofs.Common.{◌≡◌, ℕ, zero, suc, ◌+◌, ◌-◌, ◌*◌, ◌<◌, ◌≤◌, List, [], ◌∷◌, length, sym, ◌∙◌, ap, arith, set, get_or, inl, inr}
+use Rattle.std.proofs.Common.{◌≡◌, ℕ, zero, suc, ◌+◌, ◌-◌, ◌*◌, ◌<◌, ◌≤◌, List}
+use Rattle.std.proofs.Common.{[], ◌∷◌, length, sym, ◌∙◌, ap, arith, set, get_or, inl, inr}
 use Rattle.std.specs.Prelude.{bit_xor}
 use Rattle.std.specs.Int.Bits.{xor_assoc, xor_self}
 use Rattle.std.specs.List.{All}
@@ -18,16 +19,19 @@ horner-lt : (m s : ℕ) (w : List ℕ) → s < 256 → All (λ octet. octet < 25
 horner-lt m s [] h small = h
 horner-lt m s (c ∷ w) h small =
     let Small : ℕ → Type 0 = λ octet. octet < 256 in
-    horner-lt m (bit_xor (shifted m s) c) w (xor_lt 8 (shifted m s) c (shifted-lt m s h) (All-head Small c w small)) (All-tail Small c w small)
+    horner-lt m (bit_xor (shifted m s) c) w (xor_lt 8 (shifted m s) c (shifted-lt m s h) (All-head Small c w small)) (All-tail
+    Small c w small)
 
 -- octets with the same power of x are equal
 same_octet : (n a b : ℕ) → a < 256 → b < 256 → shifted n a ≡ shifted n b → a ≡ b
 same_octet n a b h k e =
     let N = shifted_linear n in
-    xor_none a b (shifted_none n (bit_xor a b) (xor_lt 8 a b h k) (N.sum a b ∙ ap (λ c. bit_xor c (shifted n b)) e ∙ xor_self (shifted n b)))
+    xor_none a b (shifted_none n (bit_xor a b) (xor_lt 8 a b h k) (N.sum a b ∙ ap (λ c. bit_xor c (shifted n b)) e ∙ xor_self
+    (shifted n b)))
 
 -- an octet added in one place is seen in the values
-at_power-set : (m i e : ℕ) (es : List ℕ) → i < length es → at_power m (set es i (bit_xor (get_or es i 0) e)) ≡ bit_xor (at_power m es) (shifted ((length es - 1 - i) * m) e)
+at_power-set : (m i e : ℕ) (es : List ℕ) → i < length es → at_power m (set es i (bit_xor (get_or es i 0) e)) ≡ bit_xor (at_power m
+    es) (shifted ((length es - 1 - i) * m) e)
 at_power-set m i e [] h = absurd (omega arith)
 at_power-set m zero e (c ∷ es) h =
     let L = shifted_linear (length es * m) in
@@ -64,7 +68,8 @@ pub record IsSearched (octets : List ℕ) (place first second third : ℕ) : Typ
   pub third_fits : third < 256
   pub elsewhere : (i e : ℕ) → place ≤ i → i < 12 → e < 256 → IsErrorAt octets i e → ⊥
 
-pub searched_none : (octets : List ℕ) (first second third : ℕ) → All (λ octet. octet < 256) octets → first ≡ at_power 1 octets → second ≡ at_power 2 octets → third ≡ at_power 3 octets → IsSearched octets 12 first second third
+pub searched_none : (octets : List ℕ) (first second third : ℕ) → All (λ octet. octet < 256) octets → first ≡ at_power 1 octets →
+    second ≡ at_power 2 octets → third ≡ at_power 3 octets → IsSearched octets 12 first second third
 searched_none octets first second third small p q r = record {
   first_is = p;
   second_is = q;
@@ -75,7 +80,8 @@ searched_none octets first second third small p q r = record {
   elsewhere = λ i e h k fits error. omega arith;
 }
 
-pub searched_more : (octets : List ℕ) (place first second third next_first next_second next_third : ℕ) → 0 < place → place ≤ 12 → IsSearched octets place first second third
+pub searched_more : (octets : List ℕ) (place first second third next_first next_second next_third : ℕ) → 0 < place → place ≤ 12 →
+    IsSearched octets place first second third
     → (first ≡ second → second ≡ third → ⊥)
     → times_x next_first ≡ first → times_x (times_x next_second) ≡ second → times_x (times_x (times_x next_third)) ≡ third
     → next_first < 256 → next_second < 256 → next_third < 256
@@ -96,16 +102,20 @@ searched_more octets place first second third next_first next_second next_third 
           elim (cases_eq i (place - 1)) [
             | inl same ↦
                 let here : 11 - i ≡ n = omega arith in
-                let a : first ≡ e = same_octet (n * 1) first e is.first_fits fits (is.first_is ∙ error 1 (omega arith) (omega arith) ∙ ap (λ j. shifted (j * 1) e) here) in
-                let b : second ≡ e = same_octet (n * 2) second e is.second_fits fits (is.second_is ∙ error 2 (omega arith) (omega arith) ∙ ap (λ j. shifted (j * 2) e) here) in
-                let c : third ≡ e = same_octet (n * 3) third e is.third_fits fits (is.third_is ∙ error 3 (omega arith) (omega arith) ∙ ap (λ j. shifted (j * 3) e) here) in
+                let a : first ≡ e = same_octet (n * 1) first e is.first_fits fits (is.first_is ∙ error 1 (omega arith) (omega
+                arith) ∙ ap (λ j. shifted (j * 1) e) here) in
+                let b : second ≡ e = same_octet (n * 2) second e is.second_fits fits (is.second_is ∙ error 2 (omega arith) (omega
+                arith) ∙ ap (λ j. shifted (j * 2) e) here) in
+                let c : third ≡ e = same_octet (n * 3) third e is.third_fits fits (is.third_is ∙ error 3 (omega arith) (omega
+                arith) ∙ ap (λ j. shifted (j * 3) e) here) in
                 differ (a ∙ sym b) (b ∙ sym c)
             | inr other ↦ is.elsewhere i e (omega arith) k fits error
           ];
     }
 
 -- where the three are equal, the octet in the place before is wrong by them
-pub found : (octets : List ℕ) (place first second third : ℕ) → length octets ≡ 12 → All (λ octet. octet < 256) octets → 0 < place → place ≤ 12 → IsSearched octets place first second third
+pub found : (octets : List ℕ) (place first second third : ℕ) → length octets ≡ 12 → All (λ octet. octet < 256) octets → 0 < place →
+    place ≤ 12 → IsSearched octets place first second third
     → first ≡ second → second ≡ third → IsRsWord (set octets (place - 1) (bit_xor (get_or octets (place - 1) 0) first))
 found octets place first second third long small some few is p q =
     let i : ℕ = place - 1 in
@@ -115,21 +125,25 @@ found octets place first second third long small some few is p q =
     let right : ℕ = bit_xor octet first in
     let fits : right < 256 = xor_lt 8 octet first (All-get_or Small octets i 0 inside small) is.first_fits in
     let here : length octets - 1 - i ≡ 12 - place = omega arith in
-    let error : (k : ℕ) → 0 < k → k ≤ 3 → shifted ((12 - place) * k) first ≡ at_power k octets = error_is octets place first second third is p q in
+    let error : (k : ℕ) → 0 < k → k ≤ 3 → shifted ((12 - place) * k) first ≡ at_power k octets = error_is octets place first second
+    third is p q in
     word_from_powers (set octets i right) (length-set octets i right ∙ long) (All-set Small octets i right fits small)
     (λ k a b. at_power-set k i first octets inside
     ∙ ap (λ n. bit_xor (at_power k octets) (shifted (n * k) first)) here
     ∙ ap (bit_xor (at_power k octets)) (error k a b) ∙ xor_self (at_power k octets))
   where
-    error_is : (octets : List ℕ) (place first second third : ℕ) → IsSearched octets place first second third → first ≡ second → second ≡ third → (k : ℕ) → 0 < k → k ≤ 3 → shifted ((12 - place) * k) first ≡ at_power k octets
+    error_is : (octets : List ℕ) (place first second third : ℕ) → IsSearched octets place first second third → first ≡ second →
+        second ≡ third → (k : ℕ) → 0 < k → k ≤ 3 → shifted ((12 - place) * k) first ≡ at_power k octets
     error_is octets place first second third is p q zero a b = absurd (omega arith)
     error_is octets place first second third is p q (suc zero) a b = is.first_is
     error_is octets place first second third is p q (suc (suc zero)) a b = ap (shifted ((12 - place) * 2)) p ∙ is.second_is
-    error_is octets place first second third is p q (suc (suc (suc zero))) a b = ap (shifted ((12 - place) * 3)) (p ∙ q) ∙ is.third_is
+    error_is octets place first second third is p q (suc (suc (suc zero))) a b = ap (shifted ((12 - place) * 3)) (p ∙ q) ∙
+        is.third_is
     error_is octets place first second third is p q (suc (suc (suc (suc k)))) a b = absurd (omega arith)
 
 -- where no place is left, no word is near
-pub none_near : (octets : List ℕ) (place first second third : ℕ) → length octets ≡ 12 → All (λ octet. octet < 256) octets → place ≡ 0 → IsSearched octets place first second third
+pub none_near : (octets : List ℕ) (place first second third : ℕ) → length octets ≡ 12 → All (λ octet. octet < 256) octets → place ≡
+    0 → IsSearched octets place first second third
     → (word : List ℕ) → length word ≡ 12 → IsRsWord word → octet_distance word octets ≤ 1 → ⊥
 none_near octets place first second third long small none is word count word_is near =
     let Small : ℕ → Type 0 = λ octet. octet < 256 in
@@ -141,9 +155,11 @@ none_near octets place first second third long small none is word count word_is 
     let e : ℕ = bit_xor octet right in
     let same : word ≡ set octets i (bit_xor octet e) = one.2 ∙ ap (set octets i) (sym (xor_twice octet right)) in
     let below : i < length word = omega arith in
-    let fits : e < 256 = xor_lt 8 octet right (All-get_or Small octets i 0 inside small) (All-get_or Small word i 0 below (words_are_octets word word_is)) in
+    let fits : e < 256 = xor_lt 8 octet right (All-get_or Small octets i 0 inside small) (All-get_or Small word i 0 below
+    (words_are_octets word word_is)) in
     let here : length octets - 1 - i ≡ 11 - i = omega arith in
     is.elsewhere i e (omega arith) (omega arith) fits
     (λ k a b. xor_none (at_power k octets) (shifted ((11 - i) * k) e)
-    (ap (λ n. bit_xor (at_power k octets) (shifted (n * k) e)) (sym here) ∙ sym (at_power-set k i e octets inside) ∙ ap (at_power k) (sym same)
+    (ap (λ n. bit_xor (at_power k octets) (shifted (n * k) e)) (sym here) ∙ sym (at_power-set k i e octets inside) ∙ ap (at_power
+    k) (sym same)
     ∙ zero_at_powers word count word_is k a b))

@@ -1,5 +1,6 @@
 -- Sums and products of octets.
-use Rattle.std.proofs.Common.{◌≡◌, ◌≢◌, ℕ, ◌-◌, ◌*◌, ◌/◌, ◌%◌, ◌^◌, ◌<◌, ◌==◌, Bool, true, false, List, [], ◌∷◌, ◌++◌, length, refl, sym, ◌∙◌, ap, arith, cond, lit<, eqb, eqb-true}
+use Rattle.std.proofs.Common.{◌≡◌, ◌≢◌, ℕ, ◌-◌, ◌*◌, ◌/◌, ◌%◌, ◌^◌, ◌<◌, ◌==◌, Bool, true, false}
+use Rattle.std.proofs.Common.{List, [], ◌∷◌, ◌++◌, length, refl, sym, ◌∙◌, ap, arith, cond, lit<, eqb, eqb-true}
 use Rattle.std.specs.Prelude.{bit_xor}
 use Rattle.std.specs.Int.Bits.{xor_assoc, xor_self, xor_zero_l, xor_zero_r}
 use Rattle.std.proofs.Math.Nat.{mod-lt, mod-eq_of_lt}
@@ -25,7 +26,8 @@ pub xor_none : (a b : ℕ) → bit_xor a b ≡ 0 → a ≡ b
 xor_none a b e = sym (xor_zero_r a) ∙ ap (bit_xor a) (sym e) ∙ xor_twice a b
 
 -- ---- times x
-xor_bits_push : (xs ys : List Bool) → length xs ≡ length ys → xor_bits (xs ++ false ∷ []) (ys ++ false ∷ []) ≡ xor_bits xs ys ++ false ∷ []
+xor_bits_push : (xs ys : List Bool) → length xs ≡ length ys → xor_bits (xs ++ false ∷ []) (ys ++ false ∷ []) ≡ xor_bits xs ys ++
+    false ∷ []
 xor_bits_push [] [] e = refl
 xor_bits_push [] (y ∷ ys) e = absurd (omega arith)
 xor_bits_push (x ∷ xs) [] e = absurd (omega arith)
@@ -40,7 +42,8 @@ double_xor a b =
     let left : 2 * a % 256 < 256 = omega arith in
     let right : 2 * b % 256 < 256 = omega arith in
     let sum : 2 * bit_xor a b % 256 < 256 = mod-lt (2 * bit_xor a b) (lit< tt) in
-    bits_of_same 8 (2 * bit_xor a b % 256) (bit_xor (2 * a % 256) (2 * b % 256)) sum (xor_lt 8 (2 * a % 256) (2 * b % 256) left right)
+    bits_of_same 8 (2 * bit_xor a b % 256) (bit_xor (2 * a % 256) (2 * b % 256)) sum (xor_lt 8 (2 * a % 256) (2 * b % 256) left
+    right)
     (low_bits (bit_xor a b) ∙ ap (λ l. l ++ false ∷ []) (bits_of_xor 7 a b)
     ∙ sym (bits_of_xor 8 (2 * a % 256) (2 * b % 256)
     ∙ ap (λ l. xor_bits l (bits_of 8 (2 * b % 256))) (low_bits a) ∙ ap (xor_bits (bits_of 7 a ++ false ∷ [])) (low_bits b)
@@ -78,7 +81,8 @@ times_x-mod a =
     ap (λ n. bit_xor n (cond (a % 256 / 128 % 2 == 1) 0x1D 0)) low ∙ ap (λ n. bit_xor (2 * a % 256) (cond (n == 1) 0x1D 0)) high
 
 -- ---- products are linear in their second factor
-sum_over-xor : (bits : List Bool) (b c s t : ℕ) → sum_over bits (bit_xor b c) (bit_xor s t) ≡ bit_xor (sum_over bits b s) (sum_over bits c t)
+sum_over-xor : (bits : List Bool) (b c s t : ℕ) → sum_over bits (bit_xor b c) (bit_xor s t) ≡ bit_xor (sum_over bits b s) (sum_over
+    bits c t)
 sum_over-xor [] b c s t = refl
 sum_over-xor (true ∷ bits) b c s t =
     ap (sum_over bits (bit_xor b c))
@@ -108,7 +112,8 @@ pub times-octet : (a b : ℕ) → b < 256 → sum_over (bits_of 8 a) b 0 ≡ tim
 unfolding times
 times-octet a b h = ap (λ n. sum_over (bits_of 8 a) n 0) (sym (mod-eq_of_lt h))
 
-pub sum_over-next : (k a b s : ℕ) → 0 < k → sum_over (bits_of (k - 1) a) b (bit_xor (times_x s) (cond (a / 2 ^ (k - 1) % 2 == 1) b 0)) ≡ sum_over (bits_of k a) b s
+pub sum_over-next : (k a b s : ℕ) → 0 < k → sum_over (bits_of (k - 1) a) b (bit_xor (times_x s) (cond (a / 2 ^ (k - 1) % 2 == 1) b
+    0)) ≡ sum_over (bits_of k a) b s
 sum_over-next k a b s h = ap (λ bits. sum_over bits b s) (sym (bits_of_next k a h))
 
 pub sum_over-none : (k a b s : ℕ) → k ≡ 0 → s ≡ sum_over (bits_of k a) b s

@@ -1,5 +1,6 @@
 -- Lists of octets that differ in few places.
-use Rattle.std.proofs.Common.{◌≡◌, ◌≢◌, ℕ, zero, suc, ◌+◌, ◌≤◌, ◌<◌, ◌==◌, List, [], ◌∷◌, length, refl, sym, ◌∙◌, ap, arith, get_or, set, inl, inr, eq-eqb, cond, true, false}
+use Rattle.std.proofs.Common.{◌≡◌, ◌≢◌, ℕ, zero, suc, ◌+◌, ◌≤◌, ◌<◌, ◌==◌, List, [], ◌∷◌, length}
+use Rattle.std.proofs.Common.{refl, sym, ◌∙◌, ap, arith, get_or, set, inl, inr, eq-eqb, cond, true, false}
 use Rattle.std.proofs.lemmas.Bool.{cases_eq, cases_lt, ne_eqb}
 use Rattle.dmr_rs.specs.Word.{IsRsWord, octet_distance}
 use Rattle.dmr_rs.proofs.Roots.{four_apart}
@@ -10,7 +11,11 @@ no_distance (a ∷ x) = rw (eq-eqb a a refl, no_distance x) refl
 
 pub set_distance : (x : List ℕ) (i v : ℕ) → octet_distance (set x i v) x ≤ 1
 set_distance [] i v = omega arith
-set_distance (a ∷ x) zero v = rw (no_distance x) (elim (v == a) as (λ b. cond b 0 1 + 0 ≤ 1) [ true ↦ omega arith | false ↦ omega arith ])
+set_distance (a ∷ x) zero v = rw (no_distance x) (elim (v == a) as (λ b. cond b 0 1 + 0 ≤ 1) [
+  | true ↦ omega arith
+  | false ↦ omega
+      arith
+])
 set_distance (a ∷ x) (suc i) v = rw (eq-eqb a a refl) (let h = set_distance x i v in omega arith)
 
 none_apart : (x y : List ℕ) → length x ≡ length y → octet_distance x y ≤ 0 → x ≡ y
@@ -26,7 +31,8 @@ none_apart (x ∷ xs) (y ∷ ys) e h =
     ]
 
 -- a list that differs from another in at most one place is that one with an octet written there
-pub one_apart : (x y : List ℕ) → length x ≡ length y → octet_distance x y ≤ 1 → 0 < length y → (i : ℕ) × (i < length y) × (x ≡ set y i (get_or x i 0))
+pub one_apart : (x y : List ℕ) → length x ≡ length y → octet_distance x y ≤ 1 → 0 < length y → (i : ℕ) × (i < length y) × (x ≡ set
+    y i (get_or x i 0))
 one_apart [] [] e h some = absurd (omega arith)
 one_apart [] (y ∷ ys) e h some = absurd (omega arith)
 one_apart (x ∷ xs) [] e h some = absurd (omega arith)
@@ -55,21 +61,24 @@ place_triangle x y z =
       ])
     ]
 
-triangle : (x y z : List ℕ) → length x ≡ length z → length y ≡ length z → octet_distance x y ≤ octet_distance x z + octet_distance y z
+triangle : (x y z : List ℕ) → length x ≡ length z → length y ≡ length z → octet_distance x y ≤ octet_distance x z + octet_distance
+    y z
 triangle [] y z e f = omega arith
 triangle (a ∷ x) [] z e f = omega arith
 triangle (a ∷ x) (b ∷ y) [] e f = absurd (omega arith)
 triangle (a ∷ x) (b ∷ y) (c ∷ z) e f =
     let here = place_triangle a b c in let rest = triangle x y z (omega arith) (omega arith) in omega arith
 
-pub four_apart_or_equal : (word other : List ℕ) → length word ≡ 12 → length other ≡ 12 → IsRsWord word → IsRsWord other → word ≢ other → 4 ≤ octet_distance word other
+pub four_apart_or_equal : (word other : List ℕ) → length word ≡ 12 → length other ≡ 12 → IsRsWord word → IsRsWord other → word ≢
+    other → 4 ≤ octet_distance word other
 four_apart_or_equal word other long also is too differ =
     elim (cases_lt (octet_distance word other) 4) [
       | inl near ↦ absurd (differ (four_apart word other long also is too near))
       | inr far ↦ omega arith
     ]
 
-pub one_within : (octets word other : List ℕ) → length octets ≡ 12 → length word ≡ 12 → length other ≡ 12 → IsRsWord word → IsRsWord other → octet_distance word octets ≤ 1 → octet_distance other octets ≤ 1 → word ≡ other
+pub one_within : (octets word other : List ℕ) → length octets ≡ 12 → length word ≡ 12 → length other ≡ 12 → IsRsWord word →
+    IsRsWord other → octet_distance word octets ≤ 1 → octet_distance other octets ≤ 1 → word ≡ other
 one_within octets word other count long also is too near close =
     let wide = triangle word other octets (long ∙ sym count) (also ∙ sym count) in
     four_apart word other long also is too (omega arith)

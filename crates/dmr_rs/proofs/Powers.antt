@@ -1,5 +1,6 @@
 -- Powers of x, and lists of octets that are zero at the first of them.
-use Rattle.std.proofs.Common.{◌≡◌, ℕ, zero, suc, ◌+◌, ◌-◌, ◌*◌, ◌<◌, ◌≤◌, ◌==◌, Bool, true, false, List, [], ◌∷◌, ◌++◌, length, replicate, refl, sym, ◌∙◌, ap, arith, cond, eqb, eqb-true, eq-eqb, inl, inr}
+use Rattle.std.proofs.Common.{◌≡◌, ℕ, zero, suc, ◌+◌, ◌-◌, ◌*◌, ◌<◌, ◌≤◌, ◌==◌, Bool, true, false, List, []}
+use Rattle.std.proofs.Common.{◌∷◌, ◌++◌, length, replicate, refl, sym, ◌∙◌, ap, arith, cond, eqb, eqb-true, eq-eqb, inl, inr}
 use Rattle.std.specs.Prelude.{bit_xor}
 use Rattle.std.specs.Int.Bits.{xor_assoc, xor_self, xor_zero_l, xor_zero_r}
 use Rattle.std.specs.List.{All}
@@ -61,7 +62,8 @@ apart n j a h k small e =
     let more : n ≡ j + suc r = omega arith in
     let fits : bit_xor (shifted (suc r) a) a < 256 = xor_lt 8 (shifted (suc r) a) a (shifted-lt (suc r) a small) small in
     let sum : shifted j (bit_xor (shifted (suc r) a) a) ≡ 0 =
-    L.sum (shifted (suc r) a) a ∙ ap (λ b. bit_xor b (shifted j a)) (sym (ap (λ m. shifted m a) more ∙ shifted-add j (suc r) a)) ∙ e in
+    L.sum (shifted (suc r) a) a ∙ ap (λ b. bit_xor b (shifted j a)) (sym (ap (λ m. shifted m a) more ∙ shifted-add j (suc r) a)) ∙
+    e in
     kept_none r a (omega arith) small (xor_none (shifted (suc r) a) a (shifted_none j (bit_xor (shifted (suc r) a) a) fits sum))
 
 -- ---- the value of a polynomial, where multiplying by what x stands for is the map f
@@ -73,7 +75,8 @@ pub horner-append : (f : ℕ → ℕ) (s : ℕ) (v w : List ℕ) → horner f s 
 horner-append f s [] w = refl
 horner-append f s (c ∷ v) w = horner-append f (bit_xor (f s) c) v w
 
-pub horner-xor : (f : ℕ → ℕ) → IsLinear f → (s t : ℕ) (v w : List ℕ) → length v ≡ length w → horner f (bit_xor s t) (add_front octet_field v w) ≡ bit_xor (horner f s v) (horner f t w)
+pub horner-xor : (f : ℕ → ℕ) → IsLinear f → (s t : ℕ) (v w : List ℕ) → length v ≡ length w → horner f (bit_xor s t) (add_front
+    octet_field v w) ≡ bit_xor (horner f s v) (horner f t w)
 horner-xor f F s t [] [] e = refl
 horner-xor f F s t [] (d ∷ w) e = absurd (omega arith)
 horner-xor f F s t (c ∷ v) [] e = absurd (omega arith)
@@ -109,7 +112,8 @@ horner-start m s (c ∷ w) =
 
 pub at_power-cons : (m c : ℕ) (w : List ℕ) → at_power m (c ∷ w) ≡ bit_xor (shifted (length w * m) c) (at_power m w)
 at_power-cons m c w =
-    ap (λ n. horner (shifted m) n w) (ap (λ n. bit_xor n c) (none_is (shifted m) (shifted_linear m)) ∙ xor_zero_l c) ∙ horner-start m c w
+    ap (λ n. horner (shifted m) n w) (ap (λ n. bit_xor n c) (none_is (shifted m) (shifted_linear m)) ∙ xor_zero_l c) ∙ horner-start
+    m c w
 
 -- ---- how many octets are not zero
 abbrev pub wrong : List ℕ → ℕ
@@ -150,7 +154,11 @@ wrong-killed n (e ∷ es) =
           ∙ ap (bit_xor 0) (none_is (shifted (length es)) (shifted_linear (length es))) in
           rw (none, same) (omega arith)
       | inr other_than ↦
-          let least : cond (other == 0) 0 1 ≤ 1 = elim (other == 0) as (λ b. cond b 0 1 ≤ 1) [ true ↦ omega arith | false ↦ omega arith ] in
+          let least : cond (other == 0) 0 1 ≤ 1 = elim (other == 0) as (λ b. cond b 0 1 ≤ 1) [
+            | true ↦ omega arith
+            | false ↦ omega
+                arith
+          ] in
           rw (ne_eqb e 0 other_than) (omega arith)
     ]
 
@@ -163,10 +171,12 @@ at_power-killed n m (e ∷ es) =
     let J = shifted_linear (j * m) in
     let swap : j * m + n ≡ n + j * m = omega arith in
     let next : j * m + j ≡ j * suc m = grind arith in
-    let head : shifted (length (killed n es) * m) (bit_xor (shifted n e) (shifted j e)) ≡ bit_xor (shifted n (shifted (j * m) e)) (shifted (j * suc m) e) =
+    let head : shifted (length (killed n es) * m) (bit_xor (shifted n e) (shifted j e)) ≡ bit_xor (shifted n (shifted (j * m) e))
+    (shifted (j * suc m) e) =
     ap (λ k. shifted (k * m) (bit_xor (shifted n e) (shifted j e))) (length-killed n es)
     ∙ J.sum (shifted n e) (shifted j e)
-    ∙ ap (λ a. bit_xor a (shifted (j * m) (shifted j e))) (sym (shifted-add (j * m) n e) ∙ ap (λ k. shifted k e) swap ∙ shifted-add n (j * m) e)
+    ∙ ap (λ a. bit_xor a (shifted (j * m) (shifted j e))) (sym (shifted-add (j * m) n e) ∙ ap (λ k. shifted k e) swap ∙ shifted-add
+    n (j * m) e)
     ∙ ap (bit_xor (shifted n (shifted (j * m) e))) (sym (shifted-add (j * m) j e) ∙ ap (λ k. shifted k e) next) in
     at_power-cons m (bit_xor (shifted n e) (shifted j e)) (killed n es)
     ∙ ap (λ a. bit_xor a (at_power m (killed n es))) head
@@ -177,7 +187,8 @@ at_power-killed n m (e ∷ es) =
     ∙ ap (bit_xor (shifted n (at_power m (e ∷ es)))) (sym (at_power-cons (suc m) e es))
 
 -- what is zero then was zero before
-unkilled : (n : ℕ) (es : List ℕ) → length es ≤ n → n < 12 → All (λ octet. octet < 256) es → killed n es ≡ replicate (length es) 0 → es ≡ replicate (length es) 0
+unkilled : (n : ℕ) (es : List ℕ) → length es ≤ n → n < 12 → All (λ octet. octet < 256) es → killed n es ≡ replicate (length es) 0 →
+    es ≡ replicate (length es) 0
 unfolding killed
 unkilled n [] h k small z = refl
 unkilled n (e ∷ es) h k small z =
@@ -188,7 +199,8 @@ unkilled n (e ∷ es) h k small z =
     let tail = unkilled n es (omega arith) k (All-tail Small e es small) rest in cc
 
 -- octets that are not zero in at most d places, and zero at the first d powers of x, are all zero
-pub all_zero : (k d : ℕ) (es : List ℕ) → length es ≡ k → k ≤ 12 → All (λ octet. octet < 256) es → wrong es ≤ d → ((m : ℕ) → 0 < m → m ≤ d → at_power m es ≡ 0) → es ≡ replicate k 0
+pub all_zero : (k d : ℕ) (es : List ℕ) → length es ≡ k → k ≤ 12 → All (λ octet. octet < 256) es → wrong es ≤ d → ((m : ℕ) → 0 < m →
+    m ≤ d → at_power m es ≡ 0) → es ≡ replicate k 0
 all_zero zero d [] e h small few roots = refl
 all_zero zero d (c ∷ es) e h small few roots = absurd (omega arith)
 all_zero (suc k) d [] e h small few roots = absurd (omega arith)
@@ -201,7 +213,8 @@ all_zero (suc k) d (c ∷ es) e h small few roots =
           let fewer : wrong es ≤ d = let w = rw same at few in omega arith in
           let rest_roots : (m : ℕ) → 0 < m → m ≤ d → at_power m es ≡ 0 =
           (λ m p q. sym (at_power-cons m c es
-          ∙ ap (λ a. bit_xor a (at_power m es)) (ap (shifted (length es * m)) same ∙ none_is (shifted (length es * m)) (shifted_linear (length es * m)))
+          ∙ ap (λ a. bit_xor a (at_power m es)) (ap (shifted (length es * m)) same ∙ none_is (shifted (length es * m))
+          (shifted_linear (length es * m)))
           ∙ xor_zero_l (at_power m es)) ∙ roots m p q) in
           let rest = all_zero k d es long (omega arith) rest_small fewer rest_roots in cc
       | inr other ↦
@@ -220,10 +233,12 @@ all_zero (suc k) d (c ∷ es) e h small few roots =
           ∙ ap (λ a. bit_xor (shifted k a) (at_power (suc m) es)) (sym here)
           ∙ ap (λ a. bit_xor a (at_power (suc m) es)) (sym (shifted-add k (k * m) c) ∙ ap (λ n. shifted n c) place ∙ next)
           ∙ xor_self (at_power (suc m) es)) in
-          let killed_zero = all_zero k (d - 1) (killed k es) (length-killed k es ∙ long) (omega arith) small_killed few_killed roots_killed in
+          let killed_zero = all_zero k (d - 1) (killed k es) (length-killed k es ∙ long) (omega arith) small_killed few_killed
+          roots_killed in
           let rest_zero : es ≡ replicate (length es) 0 =
           unkilled k es (omega arith) (omega arith) rest_small (killed_zero ∙ ap (λ n. replicate n 0) (sym long)) in
           let first : shifted (k * 1) c ≡ 0 =
-          known 1 (omega arith) (omega arith) ∙ ap (at_power 1) rest_zero ∙ horner-none (shifted 1) (shifted_linear 1) (length es) in
+          known 1 (omega arith) (omega arith) ∙ ap (at_power 1) rest_zero ∙ horner-none (shifted 1) (shifted_linear 1) (length es)
+          in
           absurd (other (shifted_none (k * 1) c (All-head Small c es small) first))
     ]

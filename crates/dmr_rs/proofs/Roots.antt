@@ -1,5 +1,6 @@
 -- Words are the lists of twelve octets that are zero at the roots of the generator, and lie four octets apart.
-use Rattle.std.proofs.Common.{◌≡◌, ◌↔◌, ℕ, zero, suc, ◌%◌, ◌<◌, ◌≤◌, ◌==◌, true, false, List, [], ◌∷◌, ◌++◌, length, replicate, take, drop, get_or, refl, sym, ◌∙◌, ap, arith, cond, lit<, eq-eqb, inl, inr}
+use Rattle.std.proofs.Common.{◌≡◌, ◌↔◌, ℕ, zero, suc, ◌%◌, ◌<◌, ◌≤◌, ◌==◌, true, false, List, [], ◌∷◌, ◌++◌}
+use Rattle.std.proofs.Common.{length, replicate, take, drop, get_or, refl, sym, ◌∙◌, ap, arith, cond, lit<, eq-eqb, inl, inr}
 use Rattle.std.specs.Prelude.{bit_xor, fold}
 use Rattle.std.specs.Int.Bits.{xor_assoc, xor_self, xor_zero_l, xor_zero_r}
 use Rattle.std.specs.List.{All}
@@ -13,7 +14,8 @@ use Rattle.dmr_bits.proofs.Dividing.{completes, only_completion, length-run, len
 use Rattle.dmr_rs.specs.Field.{times_x, times, octet_field}
 use Rattle.dmr_rs.specs.Word.{generator, generator_low, IsRsWord, value_at, power, IsZeroAtRoots, octet_distance}
 use Rattle.dmr_rs.proofs.Field.{IsLinear, none_is, times_x-mod, times-xor, times-lt, xor_swap, xor_none, octet_laws}
-use Rattle.dmr_rs.proofs.Powers.{shifted, shifted_linear, shifted-times, horner, horner-append, horner-xor, horner-none, at_power, wrong, all_zero}
+use Rattle.dmr_rs.proofs.Powers.{shifted, shifted_linear, shifted-times, horner, horner-append}
+use Rattle.dmr_rs.proofs.Powers.{horner-xor, horner-none, at_power, wrong, all_zero}
 
 -- ---- a word by its register
 pub check : List ℕ → List ℕ
@@ -35,7 +37,8 @@ pub check_is : (message : List ℕ) → run octet_field generator_low (0 ∷ 0 �
 unfolding check
 check_is message = refl
 
-pub three_octets : (octets : List ℕ) (a b c p q r : ℕ) → length octets ≡ 3 → a ≡ get_or octets 0 p → b ≡ get_or octets 1 q → c ≡ get_or octets 2 r → octets ≡ a ∷ b ∷ c ∷ []
+pub three_octets : (octets : List ℕ) (a b c p q r : ℕ) → length octets ≡ 3 → a ≡ get_or octets 0 p → b ≡ get_or octets 1 q → c ≡
+    get_or octets 2 r → octets ≡ a ∷ b ∷ c ∷ []
 three_octets [] a b c p q r e x y z = absurd (omega arith)
 three_octets (k ∷ []) a b c p q r e x y z = absurd (omega arith)
 three_octets (k ∷ l ∷ []) a b c p q r e x y z = absurd (omega arith)
@@ -59,7 +62,8 @@ pub record IsRoot (f : ℕ → ℕ) : Type 0 where
   pub times_is : (k a : ℕ) → times k (f a) ≡ f (times k a)
   pub root : bit_xor (bit_xor (f (f 0x0E)) (f 0x38)) 0x40 ≡ f (f (f 1))
 
-root_at : (m : ℕ) → bit_xor (bit_xor (shifted m (shifted m 0x0E)) (shifted m 0x38)) 0x40 ≡ shifted m (shifted m (shifted m 1)) → IsRoot (shifted m)
+root_at : (m : ℕ) → bit_xor (bit_xor (shifted m (shifted m 0x0E)) (shifted m 0x38)) 0x40 ≡ shifted m (shifted m (shifted m 1)) →
+    IsRoot (shifted m)
 root_at m e = record { linear = shifted_linear m; times_is = shifted-times m; root = e }
 
 -- the value of three octets
@@ -69,7 +73,8 @@ three f a b c = bit_xor (f (bit_xor (f a) b)) c
 three_is : (f : ℕ → ℕ) → IsLinear f → (a b c : ℕ) → horner f 0 (a ∷ b ∷ c ∷ []) ≡ three f a b c
 three_is f F a b c = ap (λ n. three f n b c) (ap (λ n. bit_xor n a) (none_is f F) ∙ xor_zero_l a)
 
-three-xor : (f : ℕ → ℕ) → IsLinear f → (a b c p q r : ℕ) → three f (bit_xor p a) (bit_xor q b) (bit_xor r c) ≡ bit_xor (three f p q r) (three f a b c)
+three-xor : (f : ℕ → ℕ) → IsLinear f → (a b c p q r : ℕ) → three f (bit_xor p a) (bit_xor q b) (bit_xor r c) ≡ bit_xor (three f p q
+    r) (three f a b c)
 three-xor f F a b c p q r =
     ap (λ n. bit_xor n (bit_xor r c))
     (ap f (ap (λ n. bit_xor n (bit_xor q b)) (F.sum p a) ∙ xor_swap (f p) (f a) q b) ∙ F.sum (bit_xor (f p) q) (bit_xor (f a) b))
@@ -99,7 +104,8 @@ moved_value f F h a b =
 
 step_value : (f : ℕ → ℕ) → IsRoot f → (h a b new : ℕ) → h < 256 → new < 256 →
     let k : ℕ = bit_xor h new in
-    three f (bit_xor (times k 0x0E) a) (bit_xor (times k 0x38) b) (bit_xor (times k 0x40) 0) ≡ bit_xor (f (three f h a b)) (f (f (f new)))
+    three f (bit_xor (times k 0x0E) a) (bit_xor (times k 0x38) b) (bit_xor (times k 0x40) 0) ≡ bit_xor (f (three f h a b)) (f (f (f
+    new)))
 step_value f R h a b new small little =
     let F = R.linear in
     let k : ℕ = bit_xor h new in
@@ -113,8 +119,10 @@ step_value f R h a b new small little =
     ∙ ap (λ n. bit_xor n (fff new)) (sym (moved_value f F h a b))
 
 -- the register's value is that of the message, three places on
-run_value : (f : ℕ → ℕ) → IsRoot f → (message : List ℕ) (h a b s : ℕ) → h < 256 → a < 256 → b < 256 → All (λ octet. octet < 256) message
-    → three f h a b ≡ f (f (f s)) → horner f 0 (run octet_field generator_low (h ∷ a ∷ b ∷ []) message) ≡ f (f (f (horner f s message)))
+run_value : (f : ℕ → ℕ) → IsRoot f → (message : List ℕ) (h a b s : ℕ) → h < 256 → a < 256 → b < 256 → All (λ octet. octet < 256)
+    message
+    → three f h a b ≡ f (f (f s)) → horner f 0 (run octet_field generator_low (h ∷ a ∷ b ∷ []) message) ≡ f (f (f (horner f s
+    message)))
 run_value f R [] h a b s small little least all e = three_is f R.linear h a b ∙ e
 run_value f R (new ∷ message) h a b s small little least all e =
     let Small : ℕ → Type 0 = λ octet. octet < 256 in
@@ -122,12 +130,14 @@ run_value f R (new ∷ message) h a b s small little least all e =
     let k : ℕ = bit_xor h new in
     let first = All-head Small new message all in
     run_value f R message (bit_xor (times k 0x0E) a) (bit_xor (times k 0x38) b) (bit_xor (times k 0x40) 0) (bit_xor (f s) new)
-    (xor_lt 8 (times k 0x0E) a (times-lt k 0x0E) little) (xor_lt 8 (times k 0x38) b (times-lt k 0x38) least) (xor_lt 8 (times k 0x40) 0 (times-lt k 0x40) (lit< tt))
+    (xor_lt 8 (times k 0x0E) a (times-lt k 0x0E) little) (xor_lt 8 (times k 0x38) b (times-lt k 0x38) least) (xor_lt 8 (times k
+    0x40) 0 (times-lt k 0x40) (lit< tt))
     (All-tail Small new message all)
     (step_value f R h a b new small first ∙ ap (λ n. bit_xor (f n) (f (f (f new)))) e
     ∙ sym (ap (λ n. f (f n)) (F.sum (f s) new) ∙ ap f (F.sum (f (f s)) (f new)) ∙ F.sum (f (f (f s))) (f (f new))))
 
-check_value : (f : ℕ → ℕ) → IsRoot f → (message : List ℕ) → All (λ octet. octet < 256) message → horner f 0 (check message) ≡ f (f (f (horner f 0 message)))
+check_value : (f : ℕ → ℕ) → IsRoot f → (message : List ℕ) → All (λ octet. octet < 256) message → horner f 0 (check message) ≡ f (f
+    (f (horner f 0 message)))
 unfolding check
 check_value f R message all =
     let F = R.linear in
@@ -136,15 +146,18 @@ check_value f R message all =
     (sym (three_is f F 0 0 0) ∙ horner-none f F 3 ∙ sym (ap (λ n. f (f n)) none ∙ ap f none ∙ none))
 
 -- behind a message, three octets
-behind_value : (f : ℕ → ℕ) → IsLinear f → (s : ℕ) (parity : List ℕ) → length parity ≡ 3 → horner f s parity ≡ bit_xor (f (f (f s))) (horner f 0 parity)
+behind_value : (f : ℕ → ℕ) → IsLinear f → (s : ℕ) (parity : List ℕ) → length parity ≡ 3 → horner f s parity ≡ bit_xor (f (f (f s)))
+    (horner f 0 parity)
 behind_value f F s [] e = absurd (omega arith)
 behind_value f F s (a ∷ []) e = absurd (omega arith)
 behind_value f F s (a ∷ b ∷ []) e = absurd (omega arith)
 behind_value f F s (a ∷ b ∷ c ∷ []) e =
-    let put : horner f (bit_xor s 0) (add_front octet_field (0 ∷ 0 ∷ 0 ∷ []) (a ∷ b ∷ c ∷ [])) ≡ bit_xor (horner f s (0 ∷ 0 ∷ 0 ∷ [])) (horner f 0 (a ∷ b ∷ c ∷ [])) =
+    let put : horner f (bit_xor s 0) (add_front octet_field (0 ∷ 0 ∷ 0 ∷ []) (a ∷ b ∷ c ∷ [])) ≡ bit_xor (horner f s (0 ∷ 0 ∷ 0 ∷
+    [])) (horner f 0 (a ∷ b ∷ c ∷ [])) =
     horner-xor f F s 0 (0 ∷ 0 ∷ 0 ∷ []) (a ∷ b ∷ c ∷ []) refl in
     let clear : horner f s (0 ∷ 0 ∷ 0 ∷ []) ≡ f (f (f s)) =
-    xor_zero_r (f (bit_xor (f (bit_xor (f s) 0)) 0)) ∙ ap f (xor_zero_r (f (bit_xor (f s) 0))) ∙ ap (λ n. f (f n)) (xor_zero_r (f s)) in
+    xor_zero_r (f (bit_xor (f (bit_xor (f s) 0)) 0)) ∙ ap f (xor_zero_r (f (bit_xor (f s) 0))) ∙ ap (λ n. f (f n)) (xor_zero_r (f
+    s)) in
     ap (λ n. horner f n (a ∷ b ∷ c ∷ [])) (sym (xor_zero_r s))
     ∙ ap (λ n. horner f (bit_xor s 0) (n ∷ b ∷ c ∷ [])) (sym (xor_zero_l a))
     ∙ ap (λ n. horner f (bit_xor s 0) (bit_xor 0 a ∷ n ∷ c ∷ [])) (sym (xor_zero_l b))
@@ -178,7 +191,8 @@ times_third s =
     xor_zero_r (times_x (bit_xor twice 0))
     ∙ ap times_x (xor_zero_r twice ∙ ap times_x (xor_zero_r once ∙ ap times_x (xor_zero_l (s % 256)) ∙ times_x-mod s))
 
-horner_is : (x : ℕ) (f : ℕ → ℕ) → ((s : ℕ) → times x s ≡ f s) → (s : ℕ) (w : List ℕ) → fold (λ sum octet. bit_xor (times x sum) octet) s w ≡ horner f s w
+horner_is : (x : ℕ) (f : ℕ → ℕ) → ((s : ℕ) → times x s ≡ f s) → (s : ℕ) (w : List ℕ) → fold (λ sum octet. bit_xor (times x sum)
+    octet) s w ≡ horner f s w
 horner_is x f same s [] = refl
 horner_is x f same s (c ∷ w) = ap (λ n. horner' (bit_xor n c)) (same s) ∙ horner_is x f same (bit_xor (f s) c) w
   where
@@ -196,7 +210,12 @@ value_at_power (suc (suc (suc (suc k)))) w p q = absurd (omega arith)
 -- the powers as the code has them
 pub values : (w : List ℕ) → (value_at 2 w ≡ at_power 1 w) × (value_at 4 w ≡ at_power 2 w) × (value_at 8 w ≡ at_power 3 w)
 unfolding times
-values w = (value_at_power 1 w (omega arith) (omega arith), value_at_power 2 w (omega arith) (omega arith), value_at_power 3 w (omega arith) (omega arith))
+values w = (
+  value_at_power 1 w (omega arith) (omega arith),
+  value_at_power 2 w (omega arith) (omega arith),
+  value_at_power 3 w
+      (omega arith) (omega arith),
+)
 
 roots_of_generator : (k : ℕ) → 0 < k → k ≤ 3 → IsRoot (shifted k)
 roots_of_generator zero p q = absurd (omega arith)
@@ -206,7 +225,8 @@ roots_of_generator (suc (suc (suc zero))) p q = root_at 3 refl
 roots_of_generator (suc (suc (suc (suc k)))) p q = absurd (omega arith)
 
 -- ---- lists that are zero at the roots
-sum-lt : (a b : List ℕ) → All (λ octet. octet < 256) a → All (λ octet. octet < 256) b → All (λ octet. octet < 256) (add_front octet_field a b)
+sum-lt : (a b : List ℕ) → All (λ octet. octet < 256) a → All (λ octet. octet < 256) b → All (λ octet. octet < 256) (add_front
+    octet_field a b)
 sum-lt a b h k = All-add_front octet_laws a b h k
 
 -- equal where their sum is zero
@@ -238,17 +258,20 @@ wrong-le : (a : List ℕ) → wrong a ≤ length a
 wrong-le [] = omega arith
 wrong-le (x ∷ a) =
     let rest = wrong-le a in
-    let least : cond (x == 0) 0 1 ≤ 1 = elim (x == 0) as (λ b. cond b 0 1 ≤ 1) [ true ↦ omega arith | false ↦ omega arith ] in omega arith
+    let least : cond (x == 0) 0 1 ≤ 1 = elim (x == 0) as (λ b. cond b 0 1 ≤ 1) [ true ↦ omega arith | false ↦ omega arith ] in
+    omega arith
 
 -- two lists with the same values at the first d powers that differ in at most d places
-same_values : (d : ℕ) (a b : List ℕ) → length a ≡ length b → length a ≤ 12 → All (λ octet. octet < 256) a → All (λ octet. octet < 256) b → octet_distance a b ≤ d
+same_values : (d : ℕ) (a b : List ℕ) → length a ≡ length b → length a ≤ 12 → All (λ octet. octet < 256) a → All (λ octet. octet <
+    256) b → octet_distance a b ≤ d
     → ((k : ℕ) → 0 < k → k ≤ d → at_power k a ≡ at_power k b) → a ≡ b
 same_values d a b e short small little few values =
     let sum : List ℕ = add_front octet_field a b in
     let long : length sum ≡ length a = length-add_front octet_field a b ∙ sym e in
     let few_wrong : wrong sum ≤ d = let w = wrong-sum a b e in omega arith in
     let roots : (k : ℕ) → 0 < k → k ≤ d → at_power k sum ≡ 0 =
-    (λ k p q. horner-xor (shifted k) (shifted_linear k) 0 0 a b e ∙ ap (λ n. bit_xor n (at_power k b)) (values k p q) ∙ xor_self (at_power k b)) in
+    (λ k p q. horner-xor (shifted k) (shifted_linear k) 0 0 a b e ∙ ap (λ n. bit_xor n (at_power k b)) (values k p q) ∙ xor_self
+    (at_power k b)) in
     same_from_sum a b e (all_zero (length a) d sum long short (sum-lt a b small little) few_wrong roots)
 
 -- ---- the two laws
@@ -263,7 +286,8 @@ zero_at_powers word long is k p q =
     ∙ ap (λ l. bit_xor (at_power k (check (take 9 word))) (at_power k l)) parity
     ∙ xor_self (at_power k (check (take 9 word)))
 
-pub word_from_powers : (word : List ℕ) → length word ≡ 12 → All (λ octet. octet < 256) word → ((k : ℕ) → 0 < k → k ≤ 3 → at_power k word ≡ 0) → IsRsWord word
+pub word_from_powers : (word : List ℕ) → length word ≡ 12 → All (λ octet. octet < 256) word → ((k : ℕ) → 0 < k → k ≤ 3 → at_power k
+    word ≡ 0) → IsRsWord word
 word_from_powers word long small zeros =
     let Small : ℕ → Type 0 = λ octet. octet < 256 in
     let message : List ℕ = take 9 word in
@@ -273,7 +297,8 @@ word_from_powers word long small zeros =
     let front_small = All-take Small 9 word small in
     let values : (k : ℕ) → 0 < k → k ≤ 3 → at_power k (check message) ≡ at_power k (drop 9 word) =
     (λ k p q. xor_none (at_power k (check message)) (at_power k (drop 9 word))
-    (sym (whole_value (shifted k) (roots_of_generator k p q) message (drop 9 word) front_small end) ∙ ap (at_power k) whole ∙ zeros k p q)) in
+    (sym (whole_value (shifted k) (roots_of_generator k p q) message (drop 9 word) front_small end) ∙ ap (at_power k) whole ∙ zeros
+    k p q)) in
     let level : length (check message) ≡ length (drop 9 word) = three_long ∙ sym end in
     let few : octet_distance (check message) (drop 9 word) ≤ 3 =
     (let s = wrong-sum (check message) (drop 9 word) level in
@@ -290,7 +315,8 @@ roots octets long small = (
   λ zeros. word_from_powers octets long small (λ k p q. sym (value_at_power k octets p q) ∙ zeros k p q),
 )
 
-pub four_apart : (word other : List ℕ) → length word ≡ 12 → length other ≡ 12 → IsRsWord word → IsRsWord other → octet_distance word other < 4 → word ≡ other
+pub four_apart : (word other : List ℕ) → length word ≡ 12 → length other ≡ 12 → IsRsWord word → IsRsWord other → octet_distance
+    word other < 4 → word ≡ other
 four_apart word other long also is too near =
     same_values 3 word other (long ∙ sym also) (omega arith) (words_are_octets word is) (words_are_octets other too) (omega arith)
     (λ k p q. zero_at_powers word long is k p q ∙ sym (zero_at_powers other also too k p q))

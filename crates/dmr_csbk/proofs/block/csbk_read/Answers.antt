@@ -17,7 +17,8 @@ returns-then-not-opens-clause-fault c =
     let message = c.in-Some.message in (
       message,
       c.in-Some.ensures.decoded,
-      λ sealed. not_both c.opens.result (c.opens.ensures.sealed.1 (subst (IsSealed mask.Csbk) (sym c.octets.ensures.value) sealed)) c.if-not-opens.true,
+      λ sealed. not_both c.opens.result (c.opens.ensures.sealed.1 (subst (IsSealed mask.Csbk) (sym c.octets.ensures.value) sealed))
+          c.if-not-opens.true,
     )
 
 pub returns-then-not-opens-clause-undone : goal.returns-then-not-opens-clause-undone

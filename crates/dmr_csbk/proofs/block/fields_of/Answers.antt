@@ -18,7 +18,8 @@ returns-clause-fields c =
     ∙ ap (λ l. bits_of 6 code.result ++ l) (fid.ensures.read
     ∙ ap (λ l. bits_of 8 fid.result ++ l) body.ensures.read))) in
     ap (take 80) whole
-    ∙ fields_first last.result protect.result (bits_of 6 code.result) (bits_of 8 fid.result) (bits_of_octets body.result) body.new.self
+    ∙ fields_first last.result protect.result (bits_of 6 code.result) (bits_of 8 fid.result) (bits_of_octets body.result)
+    body.new.self
     (length-bits_of 6 code.result) (length-bits_of 8 fid.result) (length-bits_of_octets body.result ∙ omega arith)
 
 pub returns-clause-fits : goal.returns-clause-fits

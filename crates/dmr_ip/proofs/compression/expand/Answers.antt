@@ -22,7 +22,8 @@ pub returns-in-Some-clause-spelled : goal.returns-in-Some-clause-spelled
 returns-in-Some-clause-spelled c =
     let octets : AreOctets c.args.octets.now = λ k. omega (arith, c.type_inv.octets k) in
     let value : expand c.args.octets.now c.args.source c.args.destination c.args.group ≡ Err c.in-Some.fault =
-    ap (λ found. unless found (datagram_of c.args.source c.args.destination c.args.group (read_contents c.args.octets.now))) (sym c.in-Some.ensures.value) in
+    ap (λ found. unless found (datagram_of c.args.source c.args.destination c.args.group (read_contents c.args.octets.now))) (sym
+    c.in-Some.ensures.value) in
     λ datagram. (λ e. Spells-from_expand _ _ _ _ datagram octets (value ∙ e), λ h. sym value ∙ expand-Spells _ _ _ _ datagram h)
 
 pub returns-in-None-clause-spelled : goal.returns-in-None-clause-spelled
@@ -30,6 +31,7 @@ returns-in-None-clause-spelled c =
     let octets : AreOctets c.args.octets.now = λ k. omega (arith, c.type_inv.octets k) in
     let built = c.datagram.ensures.value ∙ ap (datagram_of c.args.source c.args.destination c.args.group) c.said_by.ensures.value in
     let value : expand c.args.octets.now c.args.source c.args.destination c.args.group ≡ Ok c.datagram.result =
-    ap (λ found. unless found (datagram_of c.args.source c.args.destination c.args.group (read_contents c.args.octets.now))) (sym c.in-None.ensures.value)
+    ap (λ found. unless found (datagram_of c.args.source c.args.destination c.args.group (read_contents c.args.octets.now))) (sym
+    c.in-None.ensures.value)
     ∙ ap Ok (sym built) in
     λ datagram. (λ e. Spells-from_expand _ _ _ _ datagram octets (value ∙ e), λ h. sym value ∙ expand-Spells _ _ _ _ datagram h)

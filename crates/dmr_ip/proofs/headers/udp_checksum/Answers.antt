@@ -3,5 +3,12 @@ use Rattle.dmr_ip.proofs.headers.udp_checksum.Goals as goal
 
 pub returns : goal.returns
 returns c = record {
-  value = rw (c.sent_checksum.ensures.value, c.add_words.ensures.value, c.add_words-header.ensures.value, c.add_words-pseudo_header.ensures.value, c.pseudo_header.ensures.value, c.udp_header_with-blank.ensures.value) refl;
+  value = rw (
+    c.sent_checksum.ensures.value,
+    c.add_words.ensures.value,
+    c.add_words-header.ensures.value,
+    c.add_words-pseudo_header.ensures.value,
+    c.pseudo_header.ensures.value,
+    c.udp_header_with-blank.ensures.value,
+  ) refl;
 }

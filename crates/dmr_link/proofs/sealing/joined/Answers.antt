@@ -16,5 +16,6 @@ returns c =
     ∙ ap (λ l. front ++ (back ++ drop 3 l)) (drop_at front zeros 9 nine)
     ∙ ap (λ l. front ++ l) (append-nil back)
     ∙ ap (λ l. l ++ back) c.copy_from_slice.ensures.after ∙ ap (λ l. octets ++ l) c.copy_from_slice-2.ensures.after in
-    let small = All-append Small octets parity (All-from_get_or Small octets 0 (λ i h. c.fits-octets i)) (All-from_get_or Small parity 0 (λ i h. c.fits-parity i)) in
+    let small = All-append Small octets parity (All-from_get_or Small octets 0 (λ i h. c.fits-octets i)) (All-from_get_or Small
+    parity 0 (λ i h. c.fits-parity i)) in
     record { value = value; octets = All-same Small _ (octets ++ parity) value small }

@@ -12,9 +12,11 @@ returns c =
     let word : List ℕ = c.joined-word.result in
     let nine : length octets ≡ 9 = search rules in
     let long : length word ≡ 12 = search rules in
-    let spelled = ap (λ l. bits_of_octets (take 9 l)) c.joined-word.ensures.value ∙ ap bits_of_octets (take_at octets parity 9 nine) ∙ c.octets-octets.ensures.spelled in
+    let spelled = ap (λ l. bits_of_octets (take 9 l)) c.joined-word.ensures.value ∙ ap bits_of_octets (take_at octets parity 9
+    nine) ∙ c.octets-octets.ensures.spelled in
     let written = c.from_octets.ensures.value ∙ ap bits_of_octets c.masked.ensures.value in
     record {
-      lc = sealed_word c.args.lc_use c.args.lc.now word c.from_octets.result c.octets-octets.ensures.fit long c.joined-word.ensures.octets
+      lc = sealed_word c.args.lc_use c.args.lc.now word c.from_octets.result c.octets-octets.ensures.fit long
+          c.joined-word.ensures.octets
           (subst IsRsWord (sym c.joined-word.ensures.value) c.rs_parity.ensures.word) spelled written;
     }

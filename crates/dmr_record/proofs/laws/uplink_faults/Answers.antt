@@ -8,7 +8,8 @@ use Rattle.dmr_record.proofs.laws.uplink_faults.Goals as goal
 pub returns : goal.returns
 returns c = record {
   none = λ limit before frame rest e is below has.
-      no_fault_read (ShowsFault limit before) (frame_at limit before) (frame_at-shown limit before) (frame_octets frame ++ rest) (Some (frame, rest)) e
+      no_fault_read (ShowsFault limit before) (frame_at limit before) (frame_at-shown limit before) (frame_octets frame ++ rest)
+      (Some (frame, rest)) e
       (frame_at-spelled limit before frame rest below is) has;
   one = λ limit before. one_fault_read (ShowsFault limit before) (frame_at limit before) (frame_at-shown limit before);
   all = frames_no_fault;

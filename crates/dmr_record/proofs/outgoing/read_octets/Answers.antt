@@ -28,7 +28,8 @@ loop-left-preserved g c =
     let most = c.min-most.result in
     let taken = take most c.fill_front.new.buffer in
     let same : c.in_ok-came.came ≡ most = omega (arith, c.in_ok-came.ensures.count) in
-    let took = subst (λ (n : ℕ). Consumes (g.S.Source.left c.loop-left.source) (g.S.Source.left c.fill_front.new.source) (take n c.fill_front.new.buffer)) same c.in_ok-came.ensures.octets in
+    let took = subst (λ (n : ℕ). Consumes (g.S.Source.left c.loop-left.source) (g.S.Source.left c.fill_front.new.source) (take n
+    c.fill_front.new.buffer)) same c.in_ok-came.ensures.octets in
     let long : length taken ≡ most = length-take-le most c.fill_front.new.buffer (omega arith) in
     record {
       well = search rules;

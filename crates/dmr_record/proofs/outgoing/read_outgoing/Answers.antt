@@ -52,6 +52,7 @@ returns-in_err-octets-clause-fault g c =
     rw (p.1, p.2) (
       2 ∷ (field_octets f ++ part),
       Consumes-trans _ _ _ (2 ∷ field_octets f) part fields took,
-      ShowsOutgoingFault-part _ _ _ _ (2 ∷ (field_octets f ++ part)) c.if-before-ge-RECORD_LIMIT.false (λ e. (cc)) c.in_err-octets.ensures.cause
+      ShowsOutgoingFault-part _ _ _ _ (2 ∷ (field_octets f ++ part)) c.if-before-ge-RECORD_LIMIT.false (λ e. (cc))
+          c.in_err-octets.ensures.cause
           (inr (inr (f, part, fit, c.in-Some-mode_named.ensures.place, c.if-fields-last.false, fewer, refl))),
     )

@@ -23,7 +23,8 @@ returns-in_default-received_of-clause-fault g c =
     let octet = rw c.in-Some.is at c.in_ok-tag.ensures.octet in
     let eleven : length c.fill_whole.new.buffer ≡ 11 = search rules in
     let (f, fit, misses, spelled) = c.in_default-received_of.ensures.none in
-    let took = Consumes-spelled _ _ 11 c.fill_whole.new.buffer (field_octets f) eleven spelled c.in_ok-fill_whole.ensures.octets in (
+    let octets = c.in_ok-fill_whole.ensures.octets in
+    let took = Consumes-spelled _ _ 11 c.fill_whole.new.buffer (field_octets f) eleven spelled octets in (
       3 ∷ field_octets f,
       tagged _ _ _ _ 3 (field_octets f) c.if-tag-ne-RECEIVED.false octet took,
       (c.if-before-ge-RECEIVED_LIMIT.false, inr (f, fit, misses, refl)),

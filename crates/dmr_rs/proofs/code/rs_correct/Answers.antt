@@ -25,14 +25,17 @@ pub loop-place-preserved : goal.loop-place-preserved
 loop-place-preserved c =
     let differ : c.loop-place.first ≡ c.loop-place.second → c.loop-place.second ≡ c.loop-place.third → ⊥ =
     (λ p q. elim c.else-eq.branch [
-      | else-eq-via-then-eq+else-eq-2 w ↦ (let e = w.eq-then-eq.ensures in let f = w.if-eq-2.false in let t = eq-eqb c.loop-place.second c.loop-place.third q in cc)
-      | else-eq-via-else-eq w ↦ (let e = c.eq.ensures in let f = w.if-eq.false in let t = eq-eqb c.loop-place.first c.loop-place.second p in cc)
+      | else-eq-via-then-eq+else-eq-2 w ↦ (let e = w.eq-then-eq.ensures in let f = w.if-eq-2.false in let t = eq-eqb
+          c.loop-place.second c.loop-place.third q in cc)
+      | else-eq-via-else-eq w ↦ (let e = c.eq.ensures in let f = w.if-eq.false in let t = eq-eqb c.loop-place.first
+          c.loop-place.second p in cc)
     ]) in
     searched_more c.args.octets.now c.loop-place.place c.loop-place.first c.loop-place.second c.loop-place.third
     c.over_x-first.result c.over_x-second.result c.over_x-third.result (omega arith) (omega arith) c.loop-place.invariant differ
     c.over_x-first.ensures.value
     (ap times_x c.over_x-second.ensures.value ∙ c.over_x.ensures.value)
-    (ap (λ n. times_x (times_x n)) c.over_x-third.ensures.value ∙ ap times_x c.over_x-in-loop-place-2.ensures.value ∙ c.over_x-in-loop-place.ensures.value)
+    (ap (λ n. times_x (times_x n)) c.over_x-third.ensures.value ∙ ap times_x c.over_x-in-loop-place-2.ensures.value ∙
+    c.over_x-in-loop-place.ensures.value)
     c.over_x-first.ensures.bound c.over_x-second.ensures.bound c.over_x-third.ensures.bound
 
 pub returns-then-eq-2 : goal.returns-then-eq-2
@@ -40,10 +43,14 @@ returns-then-eq-2 c =
     let octets : List ℕ = c.args.octets.now in
     let place : ℕ = c.loop-place.place in
     let small : All (λ octet. octet < 256) octets = All-from_get_or (λ octet. octet < 256) octets 0 (λ i h. c.fits-octets i) in
-    let p : c.loop-place.first ≡ c.loop-place.second = eqb-true c.loop-place.first c.loop-place.second (sym c.eq.ensures ∙ c.if-eq.true) in
-    let q : c.loop-place.second ≡ c.loop-place.third = eqb-true c.loop-place.second c.loop-place.third (sym c.eq-then-eq.ensures ∙ c.if-eq-2.true) in
-    let word = found octets place c.loop-place.first c.loop-place.second c.loop-place.third c.told-octets small (omega arith) (omega arith) c.loop-place.invariant p q in
-    let same : set octets (place - 1) (bit_xor (get_or octets (place - 1) 0) c.loop-place.first) ≡ set octets (place - 1) (bit_xor (get_or octets (place - 1) 0) c.from-then-eq-2.result) =
+    let p : c.loop-place.first ≡ c.loop-place.second = eqb-true c.loop-place.first c.loop-place.second (sym c.eq.ensures ∙
+    c.if-eq.true) in
+    let q : c.loop-place.second ≡ c.loop-place.third = eqb-true c.loop-place.second c.loop-place.third (sym c.eq-then-eq.ensures ∙
+    c.if-eq-2.true) in
+    let word = found octets place c.loop-place.first c.loop-place.second c.loop-place.third c.told-octets small (omega arith)
+    (omega arith) c.loop-place.invariant p q in
+    let same : set octets (place - 1) (bit_xor (get_or octets (place - 1) 0) c.loop-place.first) ≡ set octets (place - 1) (bit_xor
+    (get_or octets (place - 1) 0) c.from-then-eq-2.result) =
     ap (λ n. set octets (place - 1) (bit_xor (get_or octets (place - 1) 0) n)) (sym c.from-then-eq-2.ensures) in
     let right : ℕ = bit_xor (get_or octets (place - 1) 0) c.from-then-eq-2.result in
     let is : IsRsWord (set octets (place - 1) right) = (word.0, word.1 ∙ same) in
@@ -59,4 +66,5 @@ pub returns-clause-only : goal.returns-clause-only
 returns-clause-only c word count is near =
     let octets : List ℕ = c.args.octets.now in
     let small : All (λ octet. octet < 256) octets = All-from_get_or (λ octet. octet < 256) octets 0 (λ i h. c.fits-octets i) in
-    absurd (none_near octets c.loop-place.place c.loop-place.first c.loop-place.second c.loop-place.third c.told-octets small (omega arith) c.loop-place.invariant word count is near)
+    absurd (none_near octets c.loop-place.place c.loop-place.first c.loop-place.second c.loop-place.third c.told-octets small
+    (omega arith) c.loop-place.invariant word count is near)

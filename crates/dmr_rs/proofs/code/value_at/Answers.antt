@@ -13,7 +13,8 @@ loop-octet-preserved c =
     let rest : List ℕ = drop (i + 1) octets in
     let step : ℕ → ℕ → ℕ = λ sum octet. bit_xor (times x sum) octet in
     ap (λ n. fold step n rest)
-    (c.add-sum.ensures.value ∙ ap (λ n. bit_xor n c.from.result) c.mul.ensures.value ∙ ap (bit_xor (times x c.loop-octet.sum)) c.from.ensures)
+    (c.add-sum.ensures.value ∙ ap (λ n. bit_xor n c.from.result) c.mul.ensures.value ∙ ap (bit_xor (times x c.loop-octet.sum))
+    c.from.ensures)
     ∙ ap (fold step c.loop-octet.sum) (sym (drop_more octets i 0 (omega arith)))
     ∙ c.loop-octet.invariant
 

@@ -18,8 +18,10 @@ loop-place-preserved c =
     let some : 0 < place = omega arith in
     let term : c.if-left-place-eq1.term ≡ cond (left / 2 ^ (place - 1) % 2 == 1) right 0 =
     elim c.if-left-place-eq1.branch [
-      | then-left-place-eq1 w ↦ w.term-is ∙ sym (ap (λ t. cond t right 0) (eq-eqb (left / 2 ^ (place - 1) % 2) 1 w.if-left-place-eq1.true))
-      | else-left-place-eq1 w ↦ w.term-is ∙ sym (ap (λ t. cond t right 0) (ne_eqb (left / 2 ^ (place - 1) % 2) 1 w.if-left-place-eq1.false))
+      | then-left-place-eq1 w ↦ w.term-is ∙ sym (ap (λ t. cond t right 0) (eq-eqb (left / 2 ^ (place - 1) % 2) 1
+          w.if-left-place-eq1.true))
+      | else-left-place-eq1 w ↦ w.term-is ∙ sym (ap (λ t. cond t right 0) (ne_eqb (left / 2 ^ (place - 1) % 2) 1
+          w.if-left-place-eq1.false))
     ] in
     ap (λ s. sum_over (bits_of (place - 1) left) right (bit_xor s c.if-left-place-eq1.term)) c.next_power.ensures.value
     ∙ ap (λ t. sum_over (bits_of (place - 1) left) right (bit_xor (times_x c.loop-place.sum) t)) term

@@ -5,7 +5,13 @@ use Rattle.dmr_ip.proofs.message.Message.octets_between.Goals as goal
 pub returns-clause-fits : goal.returns-clause-fits
 returns-clause-fits c =
     let inside = c.self.inside in
-    let contents : Contents = record { identification = inside.identification; source_port = inside.source_port; destination_port = inside.destination_port; payload = inside.payload.now } in
+    let contents : Contents = record {
+      identification = inside.identification;
+      source_port = inside.source_port;
+      destination_port =
+          inside.destination_port;
+      payload = inside.payload.now;
+    } in
     let fits : FitsDatagram contents = record {
       identification = omega arith;
       source_port = omega arith;

@@ -1,4 +1,5 @@
-use Rattle.std.proofs.Common.{ℕ, ◌<◌, ◌≢◌, length, get_or, bit_xor, refl, sym, ap, ◌∙◌, arith, below_more, List, get_or-set_same, get_or-set_other, ext_get_or, length-set}
+use Rattle.std.proofs.Common.{ℕ, ◌<◌, ◌≢◌, length, get_or, bit_xor, refl, sym}
+use Rattle.std.proofs.Common.{ap, ◌∙◌, arith, below_more, List, get_or-set_same, get_or-set_other, ext_get_or, length-set}
 use Rattle.dmr_link.specs.Sealed.{masked}
 use Rattle.dmr_link.proofs.Masks.{length-masked, get_or-masked_front, get_or-masked_back}
 use Rattle.dmr_link.proofs.sealing.LcUse.masked.Goals as goal
@@ -20,10 +21,14 @@ loop-place-preserved c =
     record {
       long = length-set old place value ∙ c.loop-place.invariant.long;
       before = below_more _ _
-          (λ k h. let other : k ≢ place = omega arith in get_or-set_other old place k value 0 other ∙ c.loop-place.invariant.before k h)
-          (get_or-set_same old place value 0 inside ∙ ap (λ octet. bit_xor octet c.mask.result) (c.loop-place.invariant.behind place (omega arith))
-          ∙ ap (bit_xor (get_or octets place 0)) c.mask.ensures.value ∙ sym (get_or-masked_back c.args.self octets place c.told-octets (omega arith) (omega arith)));
-      behind = λ k h. let other : k ≢ place = omega arith in get_or-set_other old place k value 0 other ∙ c.loop-place.invariant.behind k (omega arith);
+          (λ k h. let other : k ≢ place = omega arith in get_or-set_other old place k value 0 other ∙ c.loop-place.invariant.before
+          k h)
+          (get_or-set_same old place value 0 inside ∙ ap (λ octet. bit_xor octet c.mask.result) (c.loop-place.invariant.behind
+          place (omega arith))
+          ∙ ap (bit_xor (get_or octets place 0)) c.mask.ensures.value ∙ sym (get_or-masked_back c.args.self octets place
+          c.told-octets (omega arith) (omega arith)));
+      behind = λ k h. let other : k ≢ place = omega arith in get_or-set_other old place k value 0 other ∙
+          c.loop-place.invariant.behind k (omega arith);
     }
 
 pub returns : goal.returns

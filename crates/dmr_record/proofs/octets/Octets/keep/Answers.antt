@@ -8,6 +8,10 @@ returns c =
     let old = c.self.inside.kept.items in
     let within : length old ≤ 1400 = c.self.invariant in
     record {
-      value = put ∙ kept_front 1400 c.min-count.result old c.args.octets.now within (omega (arith, c.remaining_capacity-room.ensures, c.min-count.ensures))
+      value = put ∙ kept_front 1400 c.min-count.result old c.args.octets.now within (omega (
+        arith,
+        c.remaining_capacity-room.ensures,
+        c.min-count.ensures,
+      ))
           ∙ ap (λ (l : List ℕ). take 1400 (l ++ c.args.octets.now)) c.self.view_is;
     }

@@ -14,5 +14,6 @@ pub returns-clause-only : goal.returns-clause-only
 returns-clause-only c octet small is =
     let value : c.product.result ≡ times c.args.self c.args.other =
     c.product.ensures.value ∙ ap (λ n. times n c.other.inside.value) c.self.view_is ∙ ap (times c.args.self) c.other.view_is in
-    only_product c.args.self c.args.other octet (times c.args.self c.args.other) small (times-lt c.args.self c.args.other) is (product_is c.args.self c.args.other)
+    only_product c.args.self c.args.other octet (times c.args.self c.args.other) small (times-lt c.args.self c.args.other) is
+    (product_is c.args.self c.args.other)
     ∙ sym value
