@@ -25,6 +25,11 @@ const FIELDS: [u32; 4] = [0x0000_0000, 0x0009_0000, 0x0300_060A, 0x030F_060C];
 /// What its terminator says.
 const TERMINATOR_OCTETS: [u8; 12] = [0, 0, 0, 0, 0, 1, 0, 0, 2, 0x8D, 0x6A, 0x62];
 
+/// What an idle burst says.
+const IDLE_OCTETS: [u8; 12] = [
+    0xFF, 0x83, 0xDF, 0x17, 0x32, 0x09, 0x4E, 0xD1, 0xE7, 0xCD, 0x8A, 0x91,
+];
+
 /// The idle burst, as a base station sends it.
 const IDLE_BURST: [u8; 33] = [
     0x53, 0xC2, 0x5E, 0xAB, 0xA8, 0x67, 0x1D, 0xC7, 0x38, 0x3B, 0xD9, 0x36, 0x06, 0x5D, 0xFF, 0x57,
@@ -108,9 +113,7 @@ fn letter_of(burst: &Option<Burst>) -> u8 {
             return *letter;
         }
     }
-    let idle = Bits::<96>::from_octets(&[
-        0xFF, 0x83, 0xDF, 0x17, 0x32, 0x09, 0x4E, 0xD1, 0xE7, 0xCD, 0x8A, 0x91,
-    ]);
+    let idle = Bits::<96>::from_octets(&IDLE_OCTETS);
     if *burst == data(1, 2, &Bits::<96>::from_octets(&TERMINATOR_OCTETS)) {
         b'T'
     } else if *burst == data(1, 9, &idle) {
@@ -313,10 +316,11 @@ fn gateway_burst(rt: HostRuntime) {
 
 #[test]
 fn idle(rt: HostRuntime) {
+    // The other tests tell it by the letter I.
+    let idle = data(1, 9, &Bits::<96>::from_octets(&IDLE_OCTETS));
+    assert!(rt; encode_burst(&idle, Side::Bs) == IDLE_BURST);
     let mut channel = Channel::new(1, 2);
-    let [_, second] = channel.frame(&[held(b'.'), held(b'.')], &[burst_of(b'K', 1), None]);
-    let octets = second.map(|burst| encode_burst(&burst, Side::Bs));
-    assert!(rt; octets == Some(IDLE_BURST));
+    assert_eq!(rt; channel_frame(&mut channel, b"..", b"K."), *b"KI");
 }
 
 /// A call to radio 1 from radio 2.
