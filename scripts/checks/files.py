@@ -125,7 +125,7 @@ def check_closed_streams(report):
         for closed in ([0], [1], [2], [0, 1], [0, 2], [1, 2], [0, 1, 2]):
             with Room(report, uplink, it.OUTGOING_HEAD) as room:
                 streams = {name: None for at, name in enumerate(("stdin", "stdout", "stderr")) if at in closed}
-                ran = room.run(streams={**streams, "preexec_fn": lambda: [os.close(at) for at in closed]})
+                ran = room.run(streams={**streams, "preexec_fn": lambda: [os.closerange(at, at + 1) for at in closed]})
                 name = f"streams {closed} are closed, {len(uplink)} octets"
                 report.expect(f"{name}: the outputs", room.outputs() == [downlink, it.RECEIVED_HEAD], room.outputs())
                 is_printed = uplink == it.ONE_CSBK and 1 not in closed

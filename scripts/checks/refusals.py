@@ -110,7 +110,7 @@ def check_devices(report):
         with os.fdopen(write, "wb") as broken:
             ran = room.run(streams={"stdout": broken})
             report.expect("nobody reads standard output", (ran.status, ran.err) == (1, b""), ran)
-        ran = room.run(streams={"stdout": None, "preexec_fn": lambda: os.close(1)})
+        ran = room.run(streams={"stdout": None, "preexec_fn": lambda: os.closerange(1, 2)})
         report.expect("standard output is closed", ran.status == 1, ran)
         with open("/dev/full", "wb") as full:
             ran = room.run(uplink=room.path / "nowhere", streams={"stderr": full})
