@@ -92,7 +92,7 @@ fn config_of(run: &ArgMatches<'_>) -> Result<Config, ConfigFault>
 }
 
 /// What a command with its options asks for.
-pub fn request_by<'a>(command: Option<(&'a str, &ArgMatches<'a>)>) -> Request<'a>
+pub(crate) fn request_by<'a>(command: Option<(&'a str, &ArgMatches<'a>)>) -> Request<'a>
     ensures asked { IsAskedBy (option_map (λ c. (c.0.now, found_of c.1.now)) command.entry) result }
 {
     match command {
@@ -108,7 +108,7 @@ pub fn request_by<'a>(command: Option<(&'a str, &ArgMatches<'a>)>) -> Request<'a
 
 /// What the words of a command line ask for, of which the first is the program's name. The error has the text for whoever wrote
 /// them, which is help or the version where these are asked for.
-pub fn request_of<'a, T: AsStr>(alloc: Global, words: &'a [T]) -> Result<Request<'a>, Error> {
+pub(crate) fn request_of<'a, T: AsStr>(alloc: Global, words: &'a [T]) -> Result<Request<'a>, Error> {
     let matches = command(alloc)?.try_get_matches_from(words)?;
     Ok(request_by(matches.subcommand()))
 }

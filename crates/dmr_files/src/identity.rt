@@ -23,14 +23,14 @@ pub struct Identity {
 
 impl Identity {
     /// Whether both are one file.
-    pub fn is_one_file(&self, other: &Identity) -> bool
+    pub(crate) fn is_one_file(&self, other: &Identity) -> bool
         ensures one { result ≡ is_one_file self.now other.now }
     {
         self.device == other.device && self.number == other.number
     }
 
     /// Whether an output that is this file would get into another file of the run. Any number may write to a device.
-    pub fn clashes(&self, other: &Identity) -> bool
+    pub(crate) fn clashes(&self, other: &Identity) -> bool
         ensures clash { result ≡ clashes self.now other.now }
     {
         self.kind != FileKind::Device && self.is_one_file(other)

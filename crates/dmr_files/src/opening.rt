@@ -87,7 +87,7 @@ fn empty_outputs<S: System>(
 
 /// Opens the files in their order, and empties the outputs once it is known that they are apart. Answers the first that can't be
 /// opened, or may not be written.
-pub fn open_files<S: System>(
+pub(crate) fn open_files<S: System>(
     system: &S,
     places: &Places<'_>,
 ) -> Result<Opened<S::Input, S::Output>, Stream> {

@@ -19,7 +19,7 @@ fn mask_of(rate: Rate) -> u16
 
 /// The confirmed block that all octets of a burst are, if they are one: its serial in seven bits, its CRC-9 and its octets
 /// (ETSI TS 102 361-1, clause 8.2.2).
-pub fn confirmed_of(octets: &[u8], rate: Rate) -> Option<Block>
+pub(crate) fn confirmed_of(octets: &[u8], rate: Rate) -> Option<Block>
     requires whole { length octets.now ≡ burst_octets rate }
     ensures tells { Tells result (IsConfirmedOf rate octets.now) }
 {

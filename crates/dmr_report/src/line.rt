@@ -13,7 +13,7 @@ use std::fmt::{Display, Write};
 pub type Text = ArrayString<256>;
 
 /// The text that a value prints.
-pub fn text_of<T: Display>(value: &T) -> Text {
+pub(crate) fn text_of<T: Display>(value: &T) -> Text {
     let mut text = Text::new();
     // There is room for every text of this crate, and nothing else makes this fail.
     let _ = write!(text, "{value}");
@@ -54,7 +54,7 @@ fn status_after(printed: Result<(), RecordFault>, status: u8) -> u8
 }
 
 /// Prints a line, and answers the status that is to follow it.
-pub fn print_line<K: Sink>(sink: &mut K, text: &str, status: u8) -> u8
+pub(crate) fn print_line<K: Sink>(sink: &mut K, text: &str, status: u8) -> u8
     requires well { K.has_failed sink.old ≡ false }
     ensures octets { K.has_failed sink.new ≡ false → Appends (K.held sink.old) (K.held sink.new) (line_octets text.now) }
     ensures status { K.has_failed sink.new ≡ false → result ≡ status }

@@ -82,7 +82,7 @@ fn call_activity(link_control: &FullLc) -> Activity
 }
 
 /// The message for the known link controls of the calls in both slots.
-pub fn message_of(slot1: Option<&FullLc>, slot2: Option<&FullLc>) -> (u8, u32)
+pub(crate) fn message_of(slot1: Option<&FullLc>, slot2: Option<&FullLc>) -> (u8, u32)
     ensures message { IsMessage (option_copied slot1.entry) (option_copied slot2.entry) result.0 result.1 }
     ensures opcode { result.0 < 2 ^ 4 }
     ensures body { result.1 < 2 ^ 24 }

@@ -31,14 +31,14 @@ fn message_for(outs: &[SlotOut; 2]) -> Message
 
 impl Announcer {
     /// Nothing was announced.
-    pub fn new() -> Self
+    pub(crate) fn new() -> Self
         ensures kept { result.kept ≡ None }
     {
         Announcer { kept: None }
     }
 
     /// The message of the next frame, in which the lines of both slots give this.
-    pub fn next(&mut self, outs: &[SlotOut; 2]) -> Message
+    pub(crate) fn next(&mut self, outs: &[SlotOut; 2]) -> Message
         requires kept { IfSome self.old.kept IsFitMessage }
         ensures announced { IsAnnounced self.old.kept outs.now result self.new.kept }
         ensures fit { IsFitMessage result }

@@ -32,7 +32,7 @@ impl Fragments {
     ghost use Rattle.dmr_station.specs.Sent.{IsCachOf};
 
     /// Those of the null message.
-    pub fn new() -> Self
+    pub(crate) fn new() -> Self
         ensures message { result ≡ record { slco = 0; body = 0 } }
     {
         Fragments::of(Message { slco: 0, body: 0 })
@@ -50,7 +50,7 @@ impl Fragments {
     }
 
     /// Has those of a message from now on.
-    pub fn take(&mut self, message: Message)
+    pub(crate) fn take(&mut self, message: Message)
         requires message { IsFitMessage message }
         ensures message { self.new ≡ message }
     {
@@ -60,7 +60,7 @@ impl Fragments {
     }
 
     /// The CACH of a record.
-    pub fn cach(&self, busy: bool, place: u32) -> [u8; 3]
+    pub(crate) fn cach(&self, busy: bool, place: u32) -> [u8; 3]
         ensures cach { IsCachOf busy self.now place result }
     {
         let fragments = &self.four[..];

@@ -55,7 +55,7 @@ impl Lines {
 
     /// Lines and a gateway that have heard nothing. They take memory here alone, once for each slot, and then once for the
     /// gateway.
-    pub fn new(alloc: Global, config: &Config) -> Result<Lines, AllocError>
+    pub(crate) fn new(alloc: Global, config: &Config) -> Result<Lines, AllocError>
         ensures start { IfOk result (λ lines. lines ≡ start (settings_of config.now)) }
     {
         let first = SlotLine::new(alloc, config.colour, config.call_hang)?;
@@ -73,7 +73,7 @@ impl Lines {
     }
 
     /// Offers a datagram to the gateway.
-    pub fn offer(&mut self, outgoing: &Outgoing) -> Result<(), GatewayFault>
+    pub(crate) fn offer(&mut self, outgoing: &Outgoing) -> Result<(), GatewayFault>
         requires slot { IsSlot outgoing.now.slot }
         ensures offer { IsOffer (fault_of outgoing.now) outgoing.now result self.old.gate self.new.gate }
         ensures others { self.new ≡ record self.old { gate = self.new.gate } }
@@ -82,7 +82,7 @@ impl Lines {
     }
 
     /// Takes a frame of the uplink, and gives what goes out in the frame of the downlink that is decided then.
-    pub fn pass(&mut self, frame: &[Option<[u8; 33]>; 2]) -> [Option<DownlinkBurst>; 2]
+    pub(crate) fn pass(&mut self, frame: &[Option<[u8; 33]>; 2]) -> [Option<DownlinkBurst>; 2]
         ensures asked { IsAsked self.old frame.now result self.new }
         ensures fit { All FitsItsFields result }
     {
@@ -95,14 +95,14 @@ impl Lines {
     }
 
     /// Whether the gateway received nothing that isn't taken yet.
-    pub fn has_nothing_received(&self) -> bool
+    pub(crate) fn has_nothing_received(&self) -> bool
         ensures value { IsTrue result ↔ HasNothingReceived self.now.gate }
     {
         self.gateway.has_nothing_received()
     }
 
     /// What the gateway received, one after the other, slot 1's first and of a slot its status first.
-    pub fn take_received(&mut self) -> Option<Received>
+    pub(crate) fn take_received(&mut self) -> Option<Received>
         ensures received { result ≡ next_received self.old.gate }
         ensures taken { self.new ≡ record self.old { gate = after_received self.old.gate } }
         ensures fit { IfSome result IsFitReceived }
@@ -111,7 +111,7 @@ impl Lines {
     }
 
     /// What became of the gateway's packets, one in each slot at most, slot 1's first.
-    pub fn take_outcomes(&mut self) -> [Option<Outcome>; 2]
+    pub(crate) fn take_outcomes(&mut self) -> [Option<Outcome>; 2]
         ensures outcomes { flat_map option_to_list result ≡ outcomes_of self.old.gate }
         ensures told { self.new ≡ record self.old { gate = outcomes_told self.old.gate } }
     {

@@ -49,7 +49,7 @@ fn encode_slot(
 
 /// The octets of both slots of a frame, the first of which is the record at this place. The fragments are those of the message
 /// that went out last.
-pub fn encode_frame(
+pub(crate) fn encode_frame(
     place: u32,
     slots: &[Option<DownlinkBurst>; 2],
     fragments: &mut Fragments,
