@@ -72,7 +72,7 @@ fn read_voice(burst: &[u8; 33]) -> Reading
 }
 
 /// What a burst is read as. Its sync goes first: embedded signalling is looked for where no sync word is near.
-pub(crate) fn read_burst(burst: &[u8; 33]) -> Reading
+pub fn read_burst(burst: &[u8; 33]) -> Reading
     ensures read { IsReadAs (bits_of_octets burst.now) result }
 {
     match read_sync(burst) {
