@@ -23,7 +23,7 @@ fn word_of(octets: &[u8; 40], from: usize) -> u64
 
 /// The words that octets spell.
 #[inline(always)]
-pub fn words_of(octets: &[u8; 40]) -> [u64; 5]
+pub(crate) fn words_of(octets: &[u8; 40]) -> [u64; 5]
     ensures value { bits_of_words result ≡ bits_of_octets octets.now }
     ensures long { length result ≡ 5 }
     ensures small { All (λ word. word < 2 ^ 64) result }
@@ -39,7 +39,7 @@ pub fn words_of(octets: &[u8; 40]) -> [u64; 5]
 
 /// The octets that words spell.
 #[inline(always)]
-pub fn octets_of(words: &[u64; 5]) -> [u8; 40]
+pub(crate) fn octets_of(words: &[u64; 5]) -> [u8; 40]
     requires small { All (λ word. word < 2 ^ 64) words.now }
     ensures value { bits_of_octets result ≡ bits_of_words words.now }
     ensures long { length result ≡ 40 }

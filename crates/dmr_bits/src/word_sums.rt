@@ -5,7 +5,7 @@ ghost use Rattle.dmr_bits.specs.Words.{bits_of_words};
 
 /// The words of the sum, bit by bit.
 #[inline(always)]
-pub fn sum(words: &[u64; 5], other: &[u64; 5]) -> [u64; 5]
+pub(crate) fn sum(words: &[u64; 5], other: &[u64; 5]) -> [u64; 5]
     requires words { All (λ word. word < 2 ^ 64) words.now }
     requires other { All (λ word. word < 2 ^ 64) other.now }
     ensures value { bits_of_words result ≡ xor_bits (bits_of_words words.now) (bits_of_words other.now) }
@@ -23,7 +23,7 @@ pub fn sum(words: &[u64; 5], other: &[u64; 5]) -> [u64; 5]
 
 /// How many bits are set.
 #[inline(always)]
-pub fn ones(words: &[u64; 5]) -> u32
+pub(crate) fn ones(words: &[u64; 5]) -> u32
     requires small { All (λ word. word < 2 ^ 64) words.now }
     ensures value { result ≡ weight (bits_of_words words.now) }
     ensures bound { result ≤ 320 }

@@ -34,7 +34,7 @@ fn write_word(word: u64, at: usize, width: usize, value: u64) -> u64
 
 /// The number that `width` bits spell, from place `at` on.
 #[inline(always)]
-pub fn read(words: &[u64; 5], at: usize, width: usize) -> u64
+pub(crate) fn read(words: &[u64; 5], at: usize, width: usize) -> u64
     requires inside { at + width ≤ 320 }
     requires narrow { width ≤ 64 }
     ensures value { bits_of width result ≡ take width (drop at (bits_of_words words.now)) }
@@ -55,7 +55,7 @@ pub fn read(words: &[u64; 5], at: usize, width: usize) -> u64
 
 /// Writes a number into `width` bits, from place `at` on.
 #[inline(always)]
-pub fn write(words: &mut [u64; 5], at: usize, width: usize, value: u64)
+pub(crate) fn write(words: &mut [u64; 5], at: usize, width: usize, value: u64)
     requires inside { at + width ≤ 320 }
     requires narrow { width ≤ 64 }
     requires fits { value < 2 ^ width }
@@ -81,7 +81,7 @@ pub fn write(words: &mut [u64; 5], at: usize, width: usize, value: u64)
 
 /// Copies `width` bits of other words, from their place `from` on, to the place `at` on.
 #[inline(always)]
-pub fn copy(words: &mut [u64; 5], at: usize, other: &[u64; 5], from: usize, width: usize)
+pub(crate) fn copy(words: &mut [u64; 5], at: usize, other: &[u64; 5], from: usize, width: usize)
     requires inside { at + width ≤ 320 }
     requires other { from + width ≤ 320 }
     ensures value { bits_of_words words.new

@@ -29,7 +29,7 @@ fn print_answer<K: Sink, E: Sink>(alloc: Global, answer: &Error, out: &mut K, er
 }
 
 /// Does what the words of a command line ask for, of which the first is the program's name, and answers the exit status.
-pub(crate) fn obey<T: AsStr, S: System, K: Sink, E: Sink>(
+pub fn obey<T: AsStr, S: System, K: Sink, E: Sink>(
     alloc: Global,
     words: &[T],
     system: &S,

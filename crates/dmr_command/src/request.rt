@@ -108,7 +108,7 @@ pub(crate) fn request_by<'a>(command: Option<(&'a str, &ArgMatches<'a>)>) -> Req
 
 /// What the words of a command line ask for, of which the first is the program's name. The error has the text for whoever wrote
 /// them, which is help or the version where these are asked for.
-pub(crate) fn request_of<'a, T: AsStr>(alloc: Global, words: &'a [T]) -> Result<Request<'a>, Error> {
+pub fn request_of<'a, T: AsStr>(alloc: Global, words: &'a [T]) -> Result<Request<'a>, Error> {
     let matches = command(alloc)?.try_get_matches_from(words)?;
     Ok(request_by(matches.subcommand()))
 }

@@ -56,7 +56,7 @@ pub const HEADERS: usize = IP_HEADER + UDP_HEADER;
 pub const UDP: u8 = 17;
 
 /// The number that two octets spell, the high one first, at a place.
-pub fn number_at(octets: &[u8], place: usize) -> u16
+pub(crate) fn number_at(octets: &[u8], place: usize) -> u16
     requires inside { place + 2 ≤ length octets.now }
     ensures value { result ≡ number_at octets.now place }
 {

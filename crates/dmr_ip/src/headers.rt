@@ -18,7 +18,7 @@ const RADIOS: u32 = 12;
 const GROUPS: u32 = 225;
 
 /// The address of a radio.
-pub fn radio_address(llid: u32) -> u32
+pub(crate) fn radio_address(llid: u32) -> u32
     requires llid { llid < 2 ^ 24 }
     ensures value { result ≡ radio_address llid }
 {
@@ -26,7 +26,7 @@ pub fn radio_address(llid: u32) -> u32
 }
 
 /// The address of a radio or a group.
-pub fn address(group: bool, llid: u32) -> u32
+pub(crate) fn address(group: bool, llid: u32) -> u32
     requires llid { llid < 2 ^ 24 }
     ensures value { result ≡ address group llid }
 {
@@ -38,7 +38,7 @@ pub fn address(group: bool, llid: u32) -> u32
 }
 
 /// The IPv4 header of a datagram of `total` octets, with its checksum.
-pub fn ip_header(total: u16, identification: u16, source: u32, destination: u32) -> [u8; IP_HEADER]
+pub(crate) fn ip_header(total: u16, identification: u16, source: u32, destination: u32) -> [u8; IP_HEADER]
     ensures value { let sum = ip_checksum total identification source destination in
         result ≡ ip_header sum total identification source destination }
 {
@@ -70,7 +70,7 @@ fn ip_header_with(
 }
 
 /// The UDP header before a payload, with its checksum.
-pub fn udp_header(
+pub(crate) fn udp_header(
     source: u32,
     destination: u32,
     source_port: u16,

@@ -36,7 +36,7 @@ const SECOND_PORT: u16 = 5017;
 
 /// The first fault of octets as a compressed form.
 #[tactic(auto, unfolding(crate::specs::Spelling::form_fault))]
-pub fn form_fault(octets: &[u8], group: bool) -> Option<ExpandFault>
+pub(crate) fn form_fault(octets: &[u8], group: bool) -> Option<ExpandFault>
     ensures value { result ≡ form_fault octets.now group }
 {
     if octets.len() < IDENTIFIERS {
@@ -65,14 +65,14 @@ pub fn form_fault(octets: &[u8], group: bool) -> Option<ExpandFault>
 }
 
 /// The identifiers of the source and the destination address, four bits each.
-pub fn address_identifiers(group: bool) -> u8
+pub(crate) fn address_identifiers(group: bool) -> u8
     ensures value { result ≡ address_identifiers group }
 {
     if group { 2 } else { 0 }
 }
 
 /// The identifier by which a port is written.
-pub fn identifier_of(port: u16) -> u8
+pub(crate) fn identifier_of(port: u16) -> u8
     ensures value { result ≡ identifier_of port }
 {
     match port {
@@ -83,14 +83,14 @@ pub fn identifier_of(port: u16) -> u8
 }
 
 /// How many octets a port has behind the identifiers.
-pub fn port_length(identifier: u8) -> usize
+pub(crate) fn port_length(identifier: u8) -> usize
     ensures value { result ≡ port_length identifier }
 {
     if identifier == 0 { 2 } else { 0 }
 }
 
 /// The port that an identifier names, or that the octets begin with.
-pub fn port_from(identifier: u8, octets: &[u8]) -> u16
+pub(crate) fn port_from(identifier: u8, octets: &[u8]) -> u16
     requires room { port_length identifier ≤ length octets.now }
     ensures value { result ≡ port_from identifier octets.now }
 {
@@ -102,7 +102,7 @@ pub fn port_from(identifier: u8, octets: &[u8]) -> u16
 }
 
 /// Spells a port out where its identifier is 0.
-pub fn push_port(form: &mut ArrayVec<u8, FORM_LIMIT>, identifier: u8, port: u16)
+pub(crate) fn push_port(form: &mut ArrayVec<u8, FORM_LIMIT>, identifier: u8, port: u16)
     requires room { length form.old.items + 2 ≤ FORM_LIMIT }
     ensures value { form.new.items ≡ form.old.items ++ port_octets identifier port }
     ensures length { length form.new.items ≤ length form.old.items + 2 }

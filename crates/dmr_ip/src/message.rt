@@ -65,7 +65,7 @@ impl<'a> Message<'a> {
     }
 
     /// What a datagram has in the places of the contents.
-    pub fn shown_by(datagram: &'a Datagram) -> Message<'a>
+    pub(crate) fn shown_by(datagram: &'a Datagram) -> Message<'a>
         ensures value { result ≡ shown_contents datagram.now }
     {
         let octets = datagram.octets();
@@ -78,7 +78,7 @@ impl<'a> Message<'a> {
     }
 
     /// What a compressed form without a fault says.
-    pub fn said_by(form: &'a [u8]) -> Message<'a>
+    pub(crate) fn said_by(form: &'a [u8]) -> Message<'a>
         requires identifiers { 5 ≤ length form.now }
         requires ports { ports_length form.now ≤ length (behind_identifiers form.now) }
         requires room { 28 + length (behind_ports form.now) ≤ 1400 }
@@ -98,7 +98,7 @@ impl<'a> Message<'a> {
     }
 
     /// The compressed form that is written, in a packet to a group or to a radio.
-    pub fn form(&self, group: bool) -> ArrayVec<u8, FORM_LIMIT>
+    pub(crate) fn form(&self, group: bool) -> ArrayVec<u8, FORM_LIMIT>
         ensures value { result.items ≡ written_form group self.now }
     {
         let identification = self.identification.to_be_bytes();
@@ -121,7 +121,7 @@ impl<'a> Message<'a> {
     }
 
     /// The datagram from one LLID to another, or to a group.
-    pub fn datagram(&self, source: u32, destination: u32, group: bool) -> Datagram
+    pub(crate) fn datagram(&self, source: u32, destination: u32, group: bool) -> Datagram
         requires source_fits { source < 2 ^ 24 }
         requires destination_fits { destination < 2 ^ 24 }
         ensures value { result ≡ datagram_of source destination group self.now }

@@ -10,7 +10,7 @@ use crate::device::{Sink, Source};
 use crate::fault::RecordFault;
 
 /// Reads so many octets to the front of the buffer, or fewer where the source ends, and answers how many came.
-pub fn fill_front<S: Source>(
+pub(crate) fn fill_front<S: Source>(
     source: &mut S,
     buffer: &mut [u8],
     most: usize,
@@ -38,7 +38,7 @@ pub fn fill_front<S: Source>(
 }
 
 /// Reads until the buffer is full or the source is at its end, and answers how many octets came.
-pub fn fill<S: Source>(source: &mut S, buffer: &mut [u8]) -> Result<usize, RecordFault>
+pub(crate) fn fill<S: Source>(source: &mut S, buffer: &mut [u8]) -> Result<usize, RecordFault>
     requires well { S.has_failed source.old ≡ false }
     ensures count { IfOk result (λ n. n ≤ length buffer.new) }
     ensures octets { IfOk result (λ n. Consumes (S.left source.old) (S.left source.new) (take n buffer.new)) }
@@ -53,7 +53,7 @@ pub fn fill<S: Source>(source: &mut S, buffer: &mut [u8]) -> Result<usize, Recor
 }
 
 /// Reads so many octets to the front of the buffer. Where the source ends before, its record is cut.
-pub fn fill_whole<S: Source>(
+pub(crate) fn fill_whole<S: Source>(
     source: &mut S,
     buffer: &mut [u8],
     count: usize,
@@ -96,7 +96,7 @@ pub fn put<K: Sink>(sink: &mut K, piece: &[u8]) -> Result<(), RecordFault>
 
 /// Writes two pieces, or stops where the sink fails.
 #[tactic(auto, using(crate::proofs::Torn::Tears_after, crate::proofs::Torn::Tears_more))]
-pub fn put_both<K: Sink>(sink: &mut K, front: &[u8], rest: &[u8]) -> Result<(), RecordFault>
+pub(crate) fn put_both<K: Sink>(sink: &mut K, front: &[u8], rest: &[u8]) -> Result<(), RecordFault>
     requires well { K.has_failed sink.old ≡ false }
     ensures octets { OnOk result (Appends (K.held sink.old) (K.held sink.new) (front.now ++ rest.now)) }
     ensures well { OnOk result (K.has_failed sink.new ≡ false) }
@@ -109,7 +109,7 @@ pub fn put_both<K: Sink>(sink: &mut K, front: &[u8], rest: &[u8]) -> Result<(), 
 }
 
 /// The next octet, or none at the end of the source.
-pub fn read_octet<S: Source>(source: &mut S) -> Result<Option<u8>, RecordFault>
+pub(crate) fn read_octet<S: Source>(source: &mut S) -> Result<Option<u8>, RecordFault>
     requires well { S.has_failed source.old ≡ false }
     ensures octet { IfOk result (λ found. IfSome found (λ octet.
         Consumes (S.left source.old) (S.left source.new) (octet ∷ []))) }
