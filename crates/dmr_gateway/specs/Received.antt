@@ -3,6 +3,7 @@ use Rattle.std.specs.Prelude.{◌≡◌, ℕ, ◌^◌, ◌<◌, ◌==◌, ◌&&�
 use Rattle.std.specs.Prelude.{Option, Some, None, Result, Ok, Err, if◌then◌else◌}
 use Rattle.std.specs.Int.{to_be_bytes, w16}
 use Rattle.dmr_record.specs.declared.received.ReceivedKind.TheVariants.{Datagram, ShortData, Status}
+pub use Rattle.dmr_record.specs.Received.{IsSlot}
 use Rattle.dmr_data.specs.declared.header.Header.{Header}
 use Rattle.dmr_data.specs.declared.header.Header.TheVariants as header
 use Rattle.dmr_ip.specs.Spelling.{expand}
@@ -12,9 +13,6 @@ use Rattle.dmr_gateway.specs.declared.received.Received.{Received}
 use Rattle.dmr_gateway.specs.Packets.{compressed_service, ip_service}
 
 -- 1. What fits.
-
-abbrev pub IsSlot : ℕ → Type 0
-IsSlot slot = (slot ≡ 1) ⊎ (slot ≡ 2)
 
 -- What is received fits the record of it: the source is an address of 24 bits, and the length has 16.
 pub record IsFitReceived (r : Received) : Type 0 where

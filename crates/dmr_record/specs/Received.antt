@@ -69,6 +69,7 @@ pub record Fit (f : Fields) : Type 0 where
   pub source : f.source < 2 ^ 24
   pub count : f.count < 2 ^ 16
 
+-- Slot 1 or slot 2.
 abbrev pub IsSlot : ℕ → Type 0
 IsSlot slot = (slot ≡ 1) ⊎ (slot ≡ 2)
 

@@ -10,9 +10,9 @@ use Rattle.dmr_record.specs.Head.{head_octets}
 abbrev pub Slot : Type 0
 Slot = Option (List ℕ)
 
-abbrev pub IsSlot : Slot → Type 0
-IsSlot None = Unit {0}
-IsSlot (Some burst) = length burst ≡ 33
+abbrev pub IsSilenceOrBurst : Slot → Type 0
+IsSilenceOrBurst None = Unit {0}
+IsSilenceOrBurst (Some burst) = length burst ≡ 33
 
 -- 00 begins silence, and 01 a burst
 abbrev pub slot_tag : Slot → ℕ
@@ -31,7 +31,7 @@ abbrev pub Frame : Type 0
 Frame = List Slot
 
 abbrev pub IsFrame : Frame → Type 0
-IsFrame frame = (length frame ≡ 2) × AllByRecursion IsSlot frame
+IsFrame frame = (length frame ≡ 2) × AllByRecursion IsSilenceOrBurst frame
 
 abbrev pub frame_octets : Frame → List ℕ
 frame_octets frame = flat_map slot_octets frame
@@ -59,13 +59,13 @@ ShowsSlotFault e octets = ⊥
 -- fewer than two whole slots, and then octets of a slot that show the fault
 abbrev pub EndsInSlot : RecordFault → List ℕ → Type 0
 EndsInSlot fault octets = (slots : List Slot) × (part : List ℕ) × (length slots < 2)
-    × AllByRecursion IsSlot slots × ShowsSlotFault fault part × (octets ≡ flat_map slot_octets slots ++ part)
+    × AllByRecursion IsSilenceOrBurst slots × ShowsSlotFault fault part × (octets ≡ flat_map slot_octets slots ++ part)
 
 -- These octets, taken as the front of a frame with so many frames before it, show this fault. Past the limit one
 -- octet does, whatever it is.
 abbrev pub ShowsFault : ℕ → ℕ → RecordFault → List ℕ → Type 0
 ShowsFault limit before TooLong octets = (limit ≤ before) × (length octets ≡ 1)
 ShowsFault limit before HalfFrame octets = (before < limit)
-    × (slot : Slot) × IsSlot slot × (octets ≡ slot_octets slot)
+    × (slot : Slot) × IsSilenceOrBurst slot × (octets ≡ slot_octets slot)
 ShowsFault limit before Read octets = (limit ≤ before → octets ≡ []) × EndsInSlot Read octets
 ShowsFault limit before e octets = (before < limit) × EndsInSlot e octets

@@ -3,7 +3,7 @@
 ghost use Rattle.std.specs.Prelude.{◌≡◌, ◌<◌, [], ◌∷◌, List, ℕ, false, true, IfOk, IfErr, OnOk, IfSome, IfNone};
 ghost use Rattle.std.specs.Io.KnownBytes.{Consumes, IsAtEnd};
 ghost use Rattle.dmr_record.specs.Faults.{is_of_end, is_device_fault};
-ghost use Rattle.dmr_record.specs.Uplink.{IsSlot, IsFrame, ShowsSlotFault, ShowsFault, slot_tag, slot_body, frame_octets};
+ghost use Rattle.dmr_record.specs.Uplink.{IsSilenceOrBurst, IsFrame, ShowsSlotFault, ShowsFault, slot_tag, slot_body, frame_octets};
 
 use crate::device::Source;
 use crate::fault::RecordFault;
@@ -17,7 +17,7 @@ pub const FRAME_LIMIT: u32 = 1 << 20;
 fn read_slot<S: Source>(source: &mut S, tag: u8) -> Result<Option<[u8; 33]>, RecordFault>
     requires well { S.has_failed source.old ≡ false }
     ensures tag { IfOk result (λ slot. tag ≡ slot_tag slot) }
-    ensures slot { IfOk result IsSlot }
+    ensures slot { IfOk result IsSilenceOrBurst }
     ensures body { IfOk result (λ slot. Consumes (S.left source.old) (S.left source.new) (slot_body slot)) }
     ensures well { OnOk result (S.has_failed source.new ≡ false) }
     ensures fault { IfErr result (λ e. (rest : List ℕ) × Consumes (S.left source.old) (S.left source.new) rest
