@@ -45,7 +45,7 @@ fn place_of(row: usize, column: usize) -> usize
 }
 
 /// The table that 196 bits hold, the first of them left out.
-pub fn table_of(bits: &Bits<196>) -> Table
+pub(crate) fn table_of(bits: &Bits<196>) -> Table
     ensures cells { (r c : ℕ) → r < 13 → c < 15 → cell result r c ≡ cell bits.now r c }
 {
     let mut rows = [0; 13];
@@ -69,7 +69,7 @@ fn gather_row(bits: &Bits<196>, row_number: usize) -> u64
 }
 
 /// The 196 bits that a table is sent as.
-pub fn sent_bits(table: &Table) -> Bits<196>
+pub(crate) fn sent_bits(table: &Table) -> Bits<196>
     ensures value { result ≡ table.now }
 {
     // The proof learns here that there are 196 bits.
