@@ -11,11 +11,11 @@ use Rattle.dmr_bits.specs.Bits.{bits_of}
 use Rattle.dmr_bits.proofs.Lists.{length-bits_of, bits_of_push, pow_suc}
 use Rattle.dmr_bits.proofs.Widths.{bits_of-join}
 
-byte_is : (b : Bool) → bool_byte b ≡ cond b 1 0
+pub byte_is : (b : Bool) → bool_byte b ≡ cond b 1 0
 byte_is true = refl
 byte_is false = refl
 
-byte_small : (b : Bool) → cond b 1 0 < 2
+pub byte_small : (b : Bool) → cond b 1 0 < 2
 byte_small true = omega arith
 byte_small false = omega arith
 

@@ -1,0 +1,152 @@
+-- The lines of sent places, and the columns of cells, as they grow.
+use Rattle.std.proofs.Common.{◌≡◌, ℕ, ◌+◌, ◌-◌, ◌*◌, ◌/◌, ◌%◌, ◌^◌, ◌<◌, ◌≤◌, Bool, false, cond, List, length, get_or, refl, sym, ap, ◌∙◌, arith}
+use Rattle.dmr_bits.specs.Bits.{bits_of}
+use Rattle.dmr_bptc.specs.Spread.{four}
+use Rattle.dmr_bptc.specs.Table.{cell}
+use Rattle.dmr_bptc.specs.Rows.{laid}
+use Rattle.dmr_bptc.proofs.Numbered.{joined_more}
+use Rattle.dmr_bptc.proofs.RowNumbers.{numbered_at}
+use Rattle.dmr_bptc.proofs.Spelled.{spelled, spelled_more, spelled_at, spelled_below, four_at}
+
+-- the first places of the line that takes cell i of each column
+abbrev pub line : List Bool → ℕ → ℕ → ℕ
+line cells i m = spelled (λ b. get_or cells (13 * b + i) false) m
+
+-- four lines, the highest cell first
+abbrev pub lines : List Bool → ℕ → ℕ → ℕ
+lines cells i m = four 15 (line cells (i + 3) m) (line cells (i + 2) m) (line cells (i + 1) m) (line cells i m)
+
+pub lines_more : (cells : List Bool) (i m v n s : ℕ) → n ≡ lines cells i m → s ≡ four 15 (v % 2) (v / 2 % 2) (v / 4 % 2) (v / 8 % 2)
+    → v % 2 ≡ cond (get_or cells (13 * m + (i + 3)) false) 1 0 → v / 2 % 2 ≡ cond (get_or cells (13 * m + (i + 2)) false) 1 0
+    → v / 4 % 2 ≡ cond (get_or cells (13 * m + (i + 1)) false) 1 0 → v / 8 % 2 ≡ cond (get_or cells (13 * m + i) false) 1 0
+    → 2 * n + s ≡ lines cells i (m + 1)
+lines_more cells i m v n s is new p q r t =
+    let f : ℕ → ℕ → Bool = λ j b. get_or cells (13 * b + j) false in
+    omega (arith, spelled_more (f (i + 3)) m, spelled_more (f (i + 2)) m, spelled_more (f (i + 1)) m, spelled_more (f i) m)
+
+pub lines_fit : (cells : List Bool) (i m : ℕ) → m ≤ 15 → lines cells i m < 2 ^ 60
+lines_fit cells i m h =
+    let f : ℕ → ℕ → Bool = λ j b. get_or cells (13 * b + j) false in
+    omega (
+      arith,
+      spelled_below (f (i + 3)) m 15 h,
+      spelled_below (f (i + 2)) m 15 h,
+      spelled_below (f (i + 1)) m 15 h,
+      spelled_below (f i) m 15 h,
+    )
+
+-- the place of a cell
+pub sent_cell : (rows : List ℕ) (cells : List Bool)
+    → ((k : ℕ) → k < 195 → get_or cells k false ≡ cell (laid rows) (k / 15) (k % 15)) → (p i : ℕ) → p < 196 → 13 * p % 196 ≡ i + 1
+    → get_or cells i false ≡ get_or (laid rows) p false
+sent_cell rows cells is p i h e =
+    let back : i + 1 - 1 ≡ i = omega arith in
+    is i (omega (arith, e)) ∙ ap (λ k. cell (laid rows) (k / 15) (k % 15)) (sym back)
+    ∙ numbered_at rows p (i + 1) h (sym e) (omega arith)
+
+pub line_at : (rows : List ℕ) (cells : List Bool)
+    → ((k : ℕ) → k < 195 → get_or cells k false ≡ cell (laid rows) (k / 15) (k % 15)) → (a i m : ℕ) → a + i ≡ 12 → m ≡ 15 → (b : ℕ)
+    → b < 15 → get_or (bits_of 15 (line cells i m)) b false ≡ get_or (laid rows) (1 + 15 * a + b) false
+line_at rows cells is a i m e end b h =
+    spelled_at (λ b. get_or cells (13 * b + i) false) m 15 b end h
+    ∙ sent_cell rows cells is (1 + 15 * a + b) (13 * b + i) (omega arith) (omega (arith, e))
+
+-- the places of four lines
+pub lines_at : (rows : List ℕ) (cells : List Bool)
+    → ((k : ℕ) → k < 195 → get_or cells k false ≡ cell (laid rows) (k / 15) (k % 15)) → (a i m : ℕ) → a + i ≡ 9 → m ≡ 15 → (k : ℕ)
+    → k < 60 → get_or (bits_of 60 (lines cells i m)) k false ≡ get_or (laid rows) (1 + 15 * a + k) false
+lines_at rows cells is a i m e end =
+    let F : ℕ → Bool = λ p. get_or (laid rows) p false in
+    let f : ℕ → ℕ → Bool = λ j b. get_or cells (13 * b + j) false in
+    let low : m ≤ 15 = omega arith in
+    four_at (λ k. F (1 + 15 * a + k)) 15 (line cells (i + 3) m) (line cells (i + 2) m) (line cells (i + 1) m) (line cells i m)
+    (spelled_below (f (i + 2)) m 15 low) (spelled_below (f (i + 1)) m 15 low) (spelled_below (f i) m 15 low)
+    (line_at rows cells is a (i + 3) m (omega arith) end)
+    (λ b h. let p : 1 + 15 * (a + 1) + b ≡ 1 + 15 * a + (15 + b) = omega arith in
+    line_at rows cells is (a + 1) (i + 2) m (omega arith) end b h ∙ ap F p)
+    (λ b h. let p : 1 + 15 * (a + 2) + b ≡ 1 + 15 * a + (30 + b) = omega arith in
+    line_at rows cells is (a + 2) (i + 1) m (omega arith) end b h ∙ ap F p)
+    (λ b h. let p : 1 + 15 * (a + 3) + b ≡ 1 + 15 * a + (45 + b) = omega arith in
+    line_at rows cells is (a + 3) i m (omega arith) end b h ∙ ap F p)
+
+-- the first cells of a column, from the last line up
+abbrev pub column : List Bool → ℕ → ℕ → ℕ
+column bits b m = spelled (λ i. get_or bits (181 - 15 * i + b) false) m
+
+-- four columns
+abbrev pub columns : List Bool → ℕ → ℕ → ℕ
+columns bits b m = four 13 (column bits b m) (column bits (b + 1) m) (column bits (b + 2) m) (column bits (b + 3) m)
+
+pub columns_more : (bits : List Bool) (b m v n s : ℕ) → n ≡ columns bits b m
+    → s ≡ four 13 (v / 8 % 2) (v / 4 % 2) (v / 2 % 2) (v % 2)
+    → v / 8 % 2 ≡ cond (get_or bits (181 - 15 * m + b) false) 1 0 → v / 4 % 2 ≡ cond (get_or bits (181 - 15 * m + (b + 1)) false) 1 0
+    → v / 2 % 2 ≡ cond (get_or bits (181 - 15 * m + (b + 2)) false) 1 0 → v % 2 ≡ cond (get_or bits (181 - 15 * m + (b + 3)) false) 1 0
+    → 2 * n + s ≡ columns bits b (m + 1)
+columns_more bits b m v n s is new p q r t =
+    let f : ℕ → ℕ → Bool = λ j i. get_or bits (181 - 15 * i + j) false in
+    omega (arith, spelled_more (f b) m, spelled_more (f (b + 1)) m, spelled_more (f (b + 2)) m, spelled_more (f (b + 3)) m)
+
+pub columns_fit : (bits : List Bool) (b m : ℕ) → m ≤ 13 → columns bits b m < 2 ^ 52
+columns_fit bits b m h =
+    let f : ℕ → ℕ → Bool = λ j i. get_or bits (181 - 15 * i + j) false in
+    omega (
+      arith,
+      spelled_below (f b) m 13 h,
+      spelled_below (f (b + 1)) m 13 h,
+      spelled_below (f (b + 2)) m 13 h,
+      spelled_below (f (b + 3)) m 13 h,
+    )
+
+-- the first three columns
+abbrev pub three : List Bool → ℕ → ℕ
+three bits m = (column bits 0 m * 2 ^ 13 + column bits 1 m) * 2 ^ 13 + column bits 2 m
+
+pub three_more : (bits : List Bool) (m v n s : ℕ) → n ≡ three bits m → s ≡ four 13 (v / 8 % 2) (v / 4 % 2) (v / 2 % 2) (v % 2) → v < 8
+    → v / 4 % 2 ≡ cond (get_or bits (181 - 15 * m + 0) false) 1 0 → v / 2 % 2 ≡ cond (get_or bits (181 - 15 * m + 1) false) 1 0
+    → v % 2 ≡ cond (get_or bits (181 - 15 * m + 2) false) 1 0 → 2 * n + s ≡ three bits (m + 1)
+three_more bits m v n s is new small p q r =
+    let f : ℕ → ℕ → Bool = λ j i. get_or bits (181 - 15 * i + j) false in
+    omega (arith, spelled_more (f 0) m, spelled_more (f 1) m, spelled_more (f 2) m)
+
+pub three_fit : (bits : List Bool) (m : ℕ) → m ≤ 13 → three bits m < 2 ^ 39
+three_fit bits m h =
+    let f : ℕ → ℕ → Bool = λ j i. get_or bits (181 - 15 * i + j) false in
+    omega (arith, spelled_below (f 0) m 13 h, spelled_below (f 1) m 13 h, spelled_below (f 2) m 13 h)
+
+-- the cells of a column, by their number row by row
+pub column_at : (bits : List Bool) (b m i : ℕ) → b < 15 → m ≡ 13 → i < 13
+    → get_or (bits_of 13 (column bits b m)) i false ≡ cell bits ((13 * b + i) / 15) ((13 * b + i) % 15)
+column_at bits b m i low end h =
+    let k : ℕ = 13 * b + i in
+    let whole : 1 + 15 * (k / 15) + k % 15 ≡ 1 + k = omega arith in
+    let at : 181 - 15 * i + b ≡ 181 * (1 + (13 * b + i)) % 196 = omega arith in
+    spelled_at (λ i. get_or bits (181 - 15 * i + b) false) m 13 i end h
+    ∙ ap (λ p. get_or bits p false) (at ∙ ap (λ n. 181 * n % 196) (sym whole))
+
+pub columns_at : (bits : List Bool) (b m : ℕ) → b + 3 < 15 → m ≡ 13 → (k : ℕ) → k < 52
+    → get_or (bits_of 52 (columns bits b m)) k false ≡ cell bits ((13 * b + k) / 15) ((13 * b + k) % 15)
+columns_at bits b m low end =
+    let F : ℕ → Bool = λ k. cell bits (k / 15) (k % 15) in
+    let f : ℕ → ℕ → Bool = λ j i. get_or bits (181 - 15 * i + j) false in
+    let few : m ≤ 13 = omega arith in
+    four_at (λ k. F (13 * b + k)) 13 (column bits b m) (column bits (b + 1) m) (column bits (b + 2) m) (column bits (b + 3) m)
+    (spelled_below (f (b + 1)) m 13 few) (spelled_below (f (b + 2)) m 13 few) (spelled_below (f (b + 3)) m 13 few)
+    (λ i h. column_at bits b m i (omega arith) end h)
+    (λ i h. let p : 13 * (b + 1) + i ≡ 13 * b + (13 + i) = omega arith in
+    column_at bits (b + 1) m i (omega arith) end h ∙ ap F p)
+    (λ i h. let p : 13 * (b + 2) + i ≡ 13 * b + (26 + i) = omega arith in
+    column_at bits (b + 2) m i (omega arith) end h ∙ ap F p)
+    (λ i h. let p : 13 * (b + 3) + i ≡ 13 * b + (39 + i) = omega arith in
+    column_at bits (b + 3) m i (omega arith) end h ∙ ap F p)
+
+pub three_at : (bits : List Bool) (m : ℕ) → m ≡ 13 → (k : ℕ) → k < 39
+    → get_or (bits_of 39 (three bits m)) k false ≡ cell bits (k / 15) (k % 15)
+three_at bits m end =
+    let F : ℕ → Bool = λ k. cell bits (k / 15) (k % 15) in
+    let f : ℕ → ℕ → Bool = λ j i. get_or bits (181 - 15 * i + j) false in
+    let few : m ≤ 13 = omega arith in
+    joined_more F 26 13 (column bits 0 m * 2 ^ 13 + column bits 1 m) (column bits 2 m) (spelled_below (f 2) m 13 few)
+    (joined_more F 13 13 (column bits 0 m) (column bits 1 m) (spelled_below (f 1) m 13 few)
+    (λ i h. let p : 13 * 0 + i ≡ i = omega arith in column_at bits 0 m i (omega arith) end h ∙ ap F p)
+    (λ i h. column_at bits 1 m i (omega arith) end h))
+    (λ i h. column_at bits 2 m i (omega arith) end h)
