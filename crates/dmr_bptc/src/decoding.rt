@@ -8,7 +8,8 @@ ghost use Rattle.dmr_bptc.specs.ProductWord.{IsProductWord, information};
 ghost use Rattle.dmr_bptc.specs.Decoding.{IsCorrected, IsDecoded, IsDamaged};
 
 use crate::table::{
-    Table, first_cells, read_column, read_row, table_of, write_column, write_row, wrong_columns,
+    Table, first_cells, is_row_word, read_column, read_row, table_of, write_column, write_row,
+    wrong_columns,
 };
 use dmr_bits::Bits;
 use dmr_codes::{BlockCode, Hamming13, Hamming15};
@@ -89,15 +90,14 @@ fn correct_row(bits: &mut Table, row_number: usize) -> bool
     ensures corrected { IsCorrected IsHamming15 (row bits.old row_number) (row bits.new row_number) }
     ensures kept { (r c : ℕ) → r < 13 → c < 15 → r ≢ row_number → cell bits.new r c ≡ cell bits.old r c }
 {
-    let received = read_row(bits, row_number);
-    let Some(word) = Hamming15::decode(&received) else {
-        return false;
-    };
     // Most are words as they are received.
-    if word.distance(&received) == 0 {
+    if is_row_word(bits, row_number) {
         return true;
     }
-    write_row(bits, row_number, &word);
+    let received = read_row(bits, row_number);
+    if let Some(word) = Hamming15::decode(&received) {
+        write_row(bits, row_number, &word);
+    }
     false
 }
 

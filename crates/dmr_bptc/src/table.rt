@@ -5,10 +5,12 @@ ghost use Rattle.dmr_bptc.specs.Table.{cell, row, column};
 
 mod checks;
 mod places;
+mod row_checks;
 
 pub(crate) use checks::{fill_checks, wrong_columns};
 use dmr_bits::Bits;
 pub(crate) use places::{sent_bits, table_of};
+pub(crate) use row_checks::is_row_word;
 use std::marker::Model;
 
 /// The table, a number for each row, its first cell the highest.
