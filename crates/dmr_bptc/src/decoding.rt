@@ -39,9 +39,12 @@ fn correct_columns(bits: &mut Table) -> bool
     ensures corrected { (c : ℕ) → c < 15 → IsCorrected IsHamming13 (column bits.old c) (column bits.new c) }
 {
     let wrong = wrong_columns(bits);
+    // Most are words as they are received.
+    if wrong == 0 {
+        return true;
+    }
     let mut all = true;
     for column in 0..15 {
-        // Most are words as they are received.
         if (wrong >> (14 - column)) % 2 == 1 {
             let is_word = correct_column(bits, column);
             all = all & is_word;

@@ -2,7 +2,7 @@
 //!
 //! Behind the first place stand thirteen lines of fifteen places. The cells of the table, row by row, are the columns
 //! of these lines, each from the last line up.
-ghost use Rattle.std.specs.Prelude.{◌≡◌, ◌<◌, ◌+◌, ◌-◌, ◌*◌, ◌/◌, ◌%◌, ◌^◌, ℕ, false, slice_index_or};
+ghost use Rattle.std.specs.Prelude.{◌≡◌, ◌<◌, ◌≤◌, ◌+◌, ◌-◌, ◌*◌, ◌/◌, ◌%◌, ◌^◌, ℕ, false, slice_index_or};
 ghost use Rattle.dmr_bits.specs.Bits.{bits_of};
 ghost use Rattle.dmr_bptc.specs.Spread.{four};
 ghost use Rattle.dmr_bptc.specs.Table.{cell};
@@ -134,8 +134,22 @@ fn cells_of(table: &Table) -> Bits<195>
     ensures cells { (k : ℕ) → k < 195 → slice_index_or result k false ≡ cell table.now (k / 15) (k % 15) }
 {
     let mut cells = Bits::<195>::zero();
-    for row in 0..13 {
-        cells = cells.with_field(15 * row, 15, table.rows[row]);
+    for group in 0..3 {
+        cells = cells.with_field(60 * group, 60, four_rows(table, 4 * group));
     }
-    cells
+    cells.with_field(180, 15, table.rows[12])
+}
+
+/// The number that the cells of four rows spell.
+#[inline(always)]
+fn four_rows(table: &Table, from: usize) -> u64
+    requires inside { from ≤ 9 }
+    ensures fits { result < 2 ^ 60 }
+    ensures cells { (k : ℕ) → k < 60 → slice_index_or (bits_of 60 result) k false ≡ cell table.now (from + k / 15) (k % 15) }
+{
+    let mut number = 0;
+    for row in from..from + 4 {
+        number = number * 32768 + table.rows[row];
+    }
+    number
 }

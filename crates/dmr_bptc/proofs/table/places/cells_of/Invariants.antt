@@ -2,8 +2,8 @@ use Rattle.std.proofs.Common.{◌≡◌, ℕ, ◌*◌, ◌/◌, ◌%◌, ◌<◌
 use Rattle.dmr_bptc.specs.Table.{cell}
 use Rattle.dmr_bptc.proofs.table.places.cells_of.Given as goal
 
-abbrev pub invariant-loop-row : goal.invariant-loop-row
-invariant-loop-row l = record {
+abbrev pub invariant-loop-group : goal.invariant-loop-group
+invariant-loop-group l = record {
   long : length l.cells ≡ 195;
-  read : (k : ℕ) → k < 15 * l.row → get_or l.cells k false ≡ cell l.table (k / 15) (k % 15);
+  read : (k : ℕ) → k < 60 * l.group → get_or l.cells k false ≡ cell l.table (k / 15) (k % 15);
 }
