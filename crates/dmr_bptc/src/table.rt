@@ -115,6 +115,9 @@ pub(crate) fn write_column(bits: &mut Table, column_number: usize, word: &Bits<1
     ensures first { slice_index_or bits.new 0 false ≡ slice_index_or bits.old 0 false }
 {
     for row in 0..word.len() {
-        set_cell(bits, row, column_number, word.get(row));
+        let bit = word.get(row);
+        if cell_of(bits, row, column_number) != bit {
+            set_cell(bits, row, column_number, bit);
+        }
     }
 }
