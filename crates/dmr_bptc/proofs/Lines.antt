@@ -77,12 +77,11 @@ column bits b m = spelled (λ i. get_or bits (181 - 15 * i + b) false) m
 abbrev pub columns : List Bool → ℕ → ℕ → ℕ
 columns bits b m = four 13 (column bits b m) (column bits (b + 1) m) (column bits (b + 2) m) (column bits (b + 3) m)
 
-pub columns_more : (bits : List Bool) (b m v n s : ℕ) → n ≡ columns bits b m
-    → s ≡ four 13 (v / 8 % 2) (v / 4 % 2) (v / 2 % 2) (v % 2)
-    → v / 8 % 2 ≡ cond (get_or bits (181 - 15 * m + b) false) 1 0 → v / 4 % 2 ≡ cond (get_or bits (181 - 15 * m + (b + 1)) false) 1 0
-    → v / 2 % 2 ≡ cond (get_or bits (181 - 15 * m + (b + 2)) false) 1 0 → v % 2 ≡ cond (get_or bits (181 - 15 * m + (b + 3)) false) 1 0
-    → 2 * n + s ≡ columns bits b (m + 1)
-columns_more bits b m v n s is new p q r t =
+pub columns_more : (bits : List Bool) (b m n p q r s : ℕ) → n ≡ columns bits b m
+    → p ≡ cond (get_or bits (181 - 15 * m + b) false) 1 0 → q ≡ cond (get_or bits (181 - 15 * m + (b + 1)) false) 1 0
+    → r ≡ cond (get_or bits (181 - 15 * m + (b + 2)) false) 1 0 → s ≡ cond (get_or bits (181 - 15 * m + (b + 3)) false) 1 0
+    → 2 * n + four 13 p q r s ≡ columns bits b (m + 1)
+columns_more bits b m n p q r s is first second third fourth =
     let f : ℕ → ℕ → Bool = λ j i. get_or bits (181 - 15 * i + j) false in
     omega (arith, spelled_more (f b) m, spelled_more (f (b + 1)) m, spelled_more (f (b + 2)) m, spelled_more (f (b + 3)) m)
 
@@ -101,10 +100,10 @@ columns_fit bits b m h =
 abbrev pub three : List Bool → ℕ → ℕ
 three bits m = (column bits 0 m * 2 ^ 13 + column bits 1 m) * 2 ^ 13 + column bits 2 m
 
-pub three_more : (bits : List Bool) (m v n s : ℕ) → n ≡ three bits m → s ≡ four 13 (v / 8 % 2) (v / 4 % 2) (v / 2 % 2) (v % 2) → v < 8
-    → v / 4 % 2 ≡ cond (get_or bits (181 - 15 * m + 0) false) 1 0 → v / 2 % 2 ≡ cond (get_or bits (181 - 15 * m + 1) false) 1 0
-    → v % 2 ≡ cond (get_or bits (181 - 15 * m + 2) false) 1 0 → 2 * n + s ≡ three bits (m + 1)
-three_more bits m v n s is new small p q r =
+pub three_more : (bits : List Bool) (m n p q r : ℕ) → n ≡ three bits m → p ≡ cond (get_or bits (181 - 15 * m + 0) false) 1 0
+    → q ≡ cond (get_or bits (181 - 15 * m + 1) false) 1 0 → r ≡ cond (get_or bits (181 - 15 * m + 2) false) 1 0
+    → 2 * n + four 13 0 p q r ≡ three bits (m + 1)
+three_more bits m n p q r is first second third =
     let f : ℕ → ℕ → Bool = λ j i. get_or bits (181 - 15 * i + j) false in
     omega (arith, spelled_more (f 0) m, spelled_more (f 1) m, spelled_more (f 2) m)
 
@@ -150,3 +149,57 @@ three_at bits m end =
     (λ i h. let p : 13 * 0 + i ≡ i = omega arith in column_at bits 0 m i (omega arith) end h ∙ ap F p)
     (λ i h. column_at bits 1 m i (omega arith) end h))
     (λ i h. column_at bits 2 m i (omega arith) end h)
+
+-- the columns of so many lines, from the last line up
+pub record AreColumns (bits : List Bool) (m a b c d : ℕ) : Type 0 where
+  pub first : a ≡ three bits m
+  pub second : b ≡ columns bits 3 m
+  pub third : c ≡ columns bits 7 m
+  pub fourth : d ≡ columns bits 11 m
+  pub first_fits : a < 2 ^ 39
+  pub second_fits : b < 2 ^ 52
+  pub third_fits : c < 2 ^ 52
+  pub fourth_fits : d < 2 ^ 52
+
+pub no_columns : (bits : List Bool) → AreColumns bits 0 0 0 0 0
+no_columns bits = record {
+  first = refl;
+  second = refl;
+  third = refl;
+  fourth = refl;
+  first_fits = omega arith;
+  second_fits = omega arith;
+  third_fits = omega arith;
+  fourth_fits = omega arith;
+}
+
+-- one line more
+pub line_more : (bits : List Bool) (m next line a b c d a' b' c' d' : ℕ) → next ≡ m + 1 → next ≤ 13 → line < 2 ^ 15
+    → ((i : ℕ) → i < 15 → line / 2 ^ (14 - i) % 2 ≡ cond (get_or bits (181 - 15 * m + i) false) 1 0) → AreColumns bits m a b c d
+    → a' ≡ 2 * a + four 13 0 (line / 16384) (line / 8192 % 2) (line / 4096 % 2)
+    → b' ≡ 2 * b + four 13 (line / 2048 % 2) (line / 1024 % 2) (line / 512 % 2) (line / 256 % 2)
+    → c' ≡ 2 * c + four 13 (line / 128 % 2) (line / 64 % 2) (line / 32 % 2) (line / 16 % 2)
+    → d' ≡ 2 * d + four 13 (line / 8 % 2) (line / 4 % 2) (line / 2 % 2) (line % 2) → AreColumns bits next a' b' c' d'
+line_more bits m next line a b c d a' b' c' d' step few small bit are p q r s =
+    let first : a' ≡ three bits next = p ∙ three_more bits m a (line / 16384) (line / 8192 % 2) (line / 4096 % 2) are.first
+    (omega (arith, small, bit 0 (omega arith))) (bit 1 (omega arith)) (bit 2 (omega arith)) ∙ ap (three bits) (sym step) in
+    let second : b' ≡ columns bits 3 next =
+    q ∙ columns_more bits 3 m b (line / 2048 % 2) (line / 1024 % 2) (line / 512 % 2) (line / 256 % 2) are.second
+    (bit 3 (omega arith)) (bit 4 (omega arith)) (bit 5 (omega arith)) (bit 6 (omega arith)) ∙ ap (columns bits 3) (sym step) in
+    let third : c' ≡ columns bits 7 next =
+    r ∙ columns_more bits 7 m c (line / 128 % 2) (line / 64 % 2) (line / 32 % 2) (line / 16 % 2) are.third
+    (bit 7 (omega arith)) (bit 8 (omega arith)) (bit 9 (omega arith)) (bit 10 (omega arith)) ∙ ap (columns bits 7) (sym step) in
+    let fourth : d' ≡ columns bits 11 next =
+    s ∙ columns_more bits 11 m d (line / 8 % 2) (line / 4 % 2) (line / 2 % 2) (line % 2) are.fourth
+    (bit 11 (omega arith)) (bit 12 (omega arith)) (bit 13 (omega arith)) (omega (arith, bit 14 (omega arith)))
+    ∙ ap (columns bits 11) (sym step) in
+    record {
+      first = first;
+      second = second;
+      third = third;
+      fourth = fourth;
+      first_fits = omega (arith, first, three_fit bits next few);
+      second_fits = omega (arith, second, columns_fit bits 3 next few);
+      third_fits = omega (arith, third, columns_fit bits 7 next few);
+      fourth_fits = omega (arith, fourth, columns_fit bits 11 next few);
+    }

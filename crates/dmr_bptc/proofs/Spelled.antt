@@ -5,6 +5,7 @@ use Rattle.std.proofs.lemmas.List.{length-take-le, length-drop, get_or-take, get
 use Rattle.std.proofs.Math.Pow.{pow_mono}
 use Rattle.dmr_bits.specs.Bits.{bits_of, number_of}
 use Rattle.dmr_bits.proofs.Lists.{bits_of_spelled, get_or-bits_of, pow_suc}
+use Rattle.dmr_bits.proofs.Widths.{bits_of-mod, bits_of-middle}
 use Rattle.dmr_bptc.specs.Spread.{four}
 use Rattle.dmr_bptc.proofs.Numbered.{byte_is, byte_small, cells_more, joined_more}
 
@@ -67,3 +68,17 @@ pub field_bit : (bits : List Bool) (at width n i : ℕ) → at + width ≤ lengt
 field_bit bits at width n i room is h =
     let q : ℕ = n / 2 ^ (width - 1 - i) % 2 in
     sym (bit_value q (omega arith)) ∙ ap {B = ℕ} (λ b. cond b 1 0) (sym (get_or-bits_of width n i h) ∙ field_at bits at width n i room is h)
+
+-- a bit of a field of fifteen within one of sixty
+pub line_bit : (bits : List Bool) (at n below i : ℕ) → at + 60 ≤ length bits → n ≡ number_of (take 60 (drop at bits)) → below < 4
+    → i < 15 → n / 2 ^ (15 * below) % 2 ^ 15 / 2 ^ (14 - i) % 2 ≡ cond (get_or bits (at + (15 * (3 - below) + i)) false) 1 0
+line_bit bits at n below i room is low h =
+    let m : ℕ = n / 2 ^ (15 * below) in
+    let from : ℕ = 15 * (3 - below) in
+    let q : ℕ = m % 2 ^ 15 / 2 ^ (14 - i) % 2 in
+    let e : 60 ≡ from + (15 + 15 * below) = omega arith in
+    sym (bit_value q (omega arith))
+    ∙ ap {B = ℕ} (λ b. cond b 1 0) (sym (get_or-bits_of 15 (m % 2 ^ 15) i h)
+    ∙ ap (λ l. get_or l i false) (bits_of-mod 15 m ∙ sym (bits_of-middle from 15 (15 * below) 60 n e))
+    ∙ get_or-take 15 (drop from (bits_of 60 n)) i false h ∙ get_or-drop from (bits_of 60 n) i false
+    ∙ field_at bits at 60 n (from + i) room is (omega arith))

@@ -62,26 +62,63 @@ pub(crate) fn table_of(bits: &Bits<196>) -> Table
     Table { rows }
 }
 
+/// Columns of lines as they grow from the last line up, the first three of them in one number and then four in each.
+#[derive(Clone, Copy)]
+struct Columns {
+    first: u64,
+    second: u64,
+    third: u64,
+    fourth: u64,
+}
+
 /// The cells that 196 bits hold, row by row.
 #[inline(always)]
 fn received_cells(bits: &Bits<196>) -> Bits<195>
     ensures cells { (k : ℕ) → k < 195 → slice_index_or result k false ≡ cell bits.now (k / 15) (k % 15) }
 {
-    let mut first = 0;
-    let mut second = 0;
-    let mut third = 0;
-    let mut fourth = 0;
-    for above in 0..13 {
-        let line = bits.field(181 - 15 * above, 15);
-        first = 2 * first + in_columns(line >> 12);
-        second = 2 * second + in_columns((line >> 8) % 16);
-        third = 2 * third + in_columns((line >> 4) % 16);
-        fourth = 2 * fourth + in_columns(line % 16);
+    let none = Columns {
+        first: 0,
+        second: 0,
+        third: 0,
+        fourth: 0,
+    };
+    let mut columns = with_line(none, bits.field(181, 15));
+    for group in 0..3 {
+        let lines = bits.field(121 - 60 * group, 60);
+        for above in 0..4_u32 {
+            let line = (lines >> (15 * above)) % 32768;
+            columns = with_line(columns, line);
+        }
     }
-    let three = Bits::<195>::zero().with_field(0, 39, first);
-    let seven = three.with_field(39, 52, second);
-    let eleven = seven.with_field(91, 52, third);
-    eleven.with_field(143, 52, fourth)
+    let three = Bits::<195>::zero().with_field(0, 39, columns.first);
+    let seven = three.with_field(39, 52, columns.second);
+    let eleven = seven.with_field(91, 52, columns.third);
+    eleven.with_field(143, 52, columns.fourth)
+}
+
+/// The columns with one line more.
+#[inline(always)]
+fn with_line(columns: Columns, line: u64) -> Columns
+    requires line { line < 2 ^ 15 }
+    requires first { columns.first < 2 ^ 52 }
+    requires second { columns.second < 2 ^ 52 }
+    requires third { columns.third < 2 ^ 52 }
+    requires fourth { columns.fourth < 2 ^ 52 }
+    ensures first { result.first
+        ≡ 2 * columns.first + four 13 0 (line / 16384) (line / 8192 % 2) (line / 4096 % 2) }
+    ensures second { result.second
+        ≡ 2 * columns.second + four 13 (line / 2048 % 2) (line / 1024 % 2) (line / 512 % 2) (line / 256 % 2) }
+    ensures third { result.third
+        ≡ 2 * columns.third + four 13 (line / 128 % 2) (line / 64 % 2) (line / 32 % 2) (line / 16 % 2) }
+    ensures fourth { result.fourth
+        ≡ 2 * columns.fourth + four 13 (line / 8 % 2) (line / 4 % 2) (line / 2 % 2) (line % 2) }
+{
+    Columns {
+        first: 2 * columns.first + in_columns(line >> 12),
+        second: 2 * columns.second + in_columns((line >> 8) % 16),
+        third: 2 * columns.third + in_columns((line >> 4) % 16),
+        fourth: 2 * columns.fourth + in_columns(line % 16),
+    }
 }
 
 /// The bits of four places of a line, each in a column of its own of thirteen lines.
