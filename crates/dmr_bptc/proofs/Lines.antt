@@ -35,6 +35,49 @@ lines_fit cells i m h =
       spelled_below (f i) m 15 h,
     )
 
+-- the lines of so many columns
+pub record AreLines (cells : List Bool) (m a b c d : ℕ) : Type 0 where
+  pub first : a ≡ lines cells 9 m
+  pub second : b ≡ lines cells 5 m
+  pub third : c ≡ lines cells 1 m
+  pub last : d ≡ line cells 0 m
+  pub first_fits : a < 2 ^ 60
+  pub second_fits : b < 2 ^ 60
+  pub third_fits : c < 2 ^ 60
+  pub last_fits : d < 2 ^ 15
+
+-- one column more
+pub column_more : (cells : List Bool) (m next n a b c d p q r : ℕ) → next ≡ m + 1 → next ≤ 15 → n < 2 ^ 13
+    → ((i : ℕ) → i < 13 → n / 2 ^ (12 - i) % 2 ≡ cond (get_or cells (13 * m + i) false) 1 0) → AreLines cells m a b c d
+    → p ≡ four 15 (n % 16 % 2) (n % 16 / 2 % 2) (n % 16 / 4 % 2) (n % 16 / 8 % 2)
+    → q ≡ four 15 (n / 16 % 16 % 2) (n / 16 % 16 / 2 % 2) (n / 16 % 16 / 4 % 2) (n / 16 % 16 / 8 % 2)
+    → r ≡ four 15 (n / 256 % 16 % 2) (n / 256 % 16 / 2 % 2) (n / 256 % 16 / 4 % 2) (n / 256 % 16 / 8 % 2)
+    → AreLines cells next (2 * a + p) (2 * b + q) (2 * c + r) (2 * d + n / 4096)
+column_more cells m next n a b c d p q r step few small bit are one two three_ =
+    let first : 2 * a + p ≡ lines cells 9 next = lines_more cells 9 m (n % 16) a p are.first one
+    (omega (arith, bit 12 (omega arith))) (omega (arith, bit 11 (omega arith))) (omega (arith, bit 10 (omega arith)))
+    (omega (arith, bit 9 (omega arith))) ∙ ap (lines cells 9) (sym step) in
+    let second : 2 * b + q ≡ lines cells 5 next = lines_more cells 5 m (n / 16 % 16) b q are.second two
+    (omega (arith, bit 8 (omega arith))) (omega (arith, bit 7 (omega arith))) (omega (arith, bit 6 (omega arith)))
+    (omega (arith, bit 5 (omega arith))) ∙ ap (lines cells 5) (sym step) in
+    let third : 2 * c + r ≡ lines cells 1 next = lines_more cells 1 m (n / 256 % 16) c r are.third three_
+    (omega (arith, bit 4 (omega arith))) (omega (arith, bit 3 (omega arith))) (omega (arith, bit 2 (omega arith)))
+    (omega (arith, bit 1 (omega arith))) ∙ ap (lines cells 1) (sym step) in
+    let f : ℕ → Bool = λ b. get_or cells (13 * b + 0) false in
+    let last : 2 * d + n / 4096 ≡ line cells 0 next =
+    (let now : 2 * d + n / 4096 ≡ line cells 0 (m + 1) = omega (arith, are.last, spelled_more f m, bit 0 (omega arith), small) in
+    now ∙ ap (line cells 0) (sym step)) in
+    record {
+      first = first;
+      second = second;
+      third = third;
+      last = last;
+      first_fits = omega (arith, first, lines_fit cells 9 next few);
+      second_fits = omega (arith, second, lines_fit cells 5 next few);
+      third_fits = omega (arith, third, lines_fit cells 1 next few);
+      last_fits = omega (arith, last, spelled_below f next 15 few);
+    }
+
 -- the place of a cell
 pub sent_cell : (rows : List ℕ) (cells : List Bool)
     → ((k : ℕ) → k < 195 → get_or cells k false ≡ cell (laid rows) (k / 15) (k % 15)) → (p i : ℕ) → p < 196 → 13 * p % 196 ≡ i + 1

@@ -69,16 +69,15 @@ field_bit bits at width n i room is h =
     let q : ℕ = n / 2 ^ (width - 1 - i) % 2 in
     sym (bit_value q (omega arith)) ∙ ap {B = ℕ} (λ b. cond b 1 0) (sym (get_or-bits_of width n i h) ∙ field_at bits at width n i room is h)
 
--- a bit of a field of fifteen within one of sixty
-pub line_bit : (bits : List Bool) (at n below i : ℕ) → at + 60 ≤ length bits → n ≡ number_of (take 60 (drop at bits)) → below < 4
-    → i < 15 → n / 2 ^ (15 * below) % 2 ^ 15 / 2 ^ (14 - i) % 2 ≡ cond (get_or bits (at + (15 * (3 - below) + i)) false) 1 0
-line_bit bits at n below i room is low h =
-    let m : ℕ = n / 2 ^ (15 * below) in
-    let from : ℕ = 15 * (3 - below) in
-    let q : ℕ = m % 2 ^ 15 / 2 ^ (14 - i) % 2 in
-    let e : 60 ≡ from + (15 + 15 * below) = omega arith in
+-- a bit of a field within another
+pub inner_bit : (bits : List Bool) (at total n from width below i : ℕ) → at + total ≤ length bits
+    → n ≡ number_of (take total (drop at bits)) → total ≡ from + (width + below) → i < width
+    → n / 2 ^ below % 2 ^ width / 2 ^ (width - 1 - i) % 2 ≡ cond (get_or bits (at + (from + i)) false) 1 0
+inner_bit bits at total n from width below i room is e h =
+    let m : ℕ = n / 2 ^ below in
+    let q : ℕ = m % 2 ^ width / 2 ^ (width - 1 - i) % 2 in
     sym (bit_value q (omega arith))
-    ∙ ap {B = ℕ} (λ b. cond b 1 0) (sym (get_or-bits_of 15 (m % 2 ^ 15) i h)
-    ∙ ap (λ l. get_or l i false) (bits_of-mod 15 m ∙ sym (bits_of-middle from 15 (15 * below) 60 n e))
-    ∙ get_or-take 15 (drop from (bits_of 60 n)) i false h ∙ get_or-drop from (bits_of 60 n) i false
-    ∙ field_at bits at 60 n (from + i) room is (omega arith))
+    ∙ ap {B = ℕ} (λ b. cond b 1 0) (sym (get_or-bits_of width (m % 2 ^ width) i h)
+    ∙ ap (λ l. get_or l i false) (bits_of-mod width m ∙ sym (bits_of-middle from width below total n e))
+    ∙ get_or-take width (drop from (bits_of total n)) i false h ∙ get_or-drop from (bits_of total n) i false
+    ∙ field_at bits at total n (from + i) room is (omega arith))

@@ -142,12 +142,15 @@ pub(crate) fn sent_bits(table: &Table) -> Bits<196>
     let mut second = 0;
     let mut third = 0;
     let mut last = 0;
-    for column in 0..15 {
-        let column_cells = cells.field(13 * column, 13);
-        first = 2 * first + in_lines(column_cells % 16);
-        second = 2 * second + in_lines((column_cells >> 4) % 16);
-        third = 2 * third + in_lines((column_cells >> 8) % 16);
-        last = 2 * last + (column_cells >> 12);
+    for group in 0..5 {
+        let columns = cells.field(39 * group, 39);
+        for column in 0..3_u32 {
+            let column_cells = (columns >> (26 - 13 * column)) % 8192;
+            first = 2 * first + in_lines(column_cells % 16);
+            second = 2 * second + in_lines((column_cells >> 4) % 16);
+            third = 2 * third + in_lines((column_cells >> 8) % 16);
+            last = 2 * last + (column_cells >> 12);
+        }
     }
     let four = Bits::<196>::zero().with_field(1, 60, first);
     let eight = four.with_field(61, 60, second);

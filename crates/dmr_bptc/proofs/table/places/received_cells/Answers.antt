@@ -3,7 +3,7 @@ use Rattle.std.proofs.Common.{arith, subst, mod-lt, lit<}
 use Rattle.dmr_bits.specs.Bits.{bits_of}
 use Rattle.dmr_bptc.specs.Table.{cell}
 use Rattle.dmr_bptc.proofs.Numbered.{field_first, field_more}
-use Rattle.dmr_bptc.proofs.Spelled.{field_bit, line_bit}
+use Rattle.dmr_bptc.proofs.Spelled.{field_bit, inner_bit}
 use Rattle.dmr_bptc.proofs.Lines.{AreColumns, no_columns, line_more, three_at, columns_at}
 use Rattle.dmr_bptc.proofs.table.places.received_cells.Goals as goal
 
@@ -38,7 +38,8 @@ loop-above-preserved c =
     c.loop-above.columns.third c.loop-above.columns.fourth new.first new.second new.third new.fourth (omega arith) (omega arith)
     (mod-lt (n / 2 ^ (15 * a)) (lit< tt))
     (λ i h. let place : 121 - 60 * g + (15 * (3 - a) + i) ≡ 181 - 15 * (1 + 4 * g + a) + i = omega arith in
-    line_bit bits (121 - 60 * g) n a i (omega (arith, c.field-lines.ensures.length)) c.field-lines.ensures.value (omega arith) h
+    inner_bit bits (121 - 60 * g) 60 n (15 * (3 - a)) 15 (15 * a) i (omega (arith, c.field-lines.ensures.length))
+    c.field-lines.ensures.value (omega arith) h
     ∙ ap {B = ℕ} (λ k. cond (get_or bits k false) 1 0) place)
     c.loop-above.invariant c.with_line-columns-in-loop-above.ensures.first c.with_line-columns-in-loop-above.ensures.second
     c.with_line-columns-in-loop-above.ensures.third c.with_line-columns-in-loop-above.ensures.fourth
