@@ -1,6 +1,6 @@
 -- Rows whose two halves have the same checks are words.
 use Rattle.std.proofs.Common.{◌≡◌, ℕ, zero, suc, ◌+◌, ◌*◌, ◌/◌, ◌%◌, ◌^◌, ◌<◌, Bool, true, List, take, drop, refl, sym, ◌∙◌, ap, arith}
-use Rattle.std.proofs.Common.{get_or, eqb, eqb-true, mod-lt}
+use Rattle.std.proofs.Common.{get_or, eqb, eqb-true}
 use Rattle.std.proofs.lemmas.Bool.{agree_below_at}
 use Rattle.dmr_bits.specs.Bits.{bits_of}
 use Rattle.dmr_bits.proofs.Lists.{length-bits_of}

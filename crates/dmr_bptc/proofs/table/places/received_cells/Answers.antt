@@ -1,4 +1,4 @@
-use Rattle.std.proofs.Common.{◌≡◌, ℕ, ◌+◌, ◌-◌, ◌*◌, ◌/◌, ◌%◌, ◌^◌, ◌<◌, ◌≤◌, Bool, List, cond, false, length, get_or, refl, sym, ◌∙◌, ap}
+use Rattle.std.proofs.Common.{◌≡◌, ℕ, ◌+◌, ◌-◌, ◌*◌, ◌/◌, ◌%◌, ◌^◌, Bool, List, cond, false, get_or, refl, ◌∙◌, ap}
 use Rattle.std.proofs.Common.{arith, subst, mod-lt, lit<}
 use Rattle.dmr_bits.specs.Bits.{bits_of}
 use Rattle.dmr_bptc.specs.Table.{cell}

@@ -1,4 +1,4 @@
-use Rattle.std.proofs.Common.{◌≡◌, ℕ, ◌+◌, ◌-◌, ◌*◌, ◌/◌, ◌%◌, ◌^◌, ◌<◌, ◌≤◌, Bool, List, cond, false, length, get_or, ext_get_or, refl, sym}
+use Rattle.std.proofs.Common.{◌≡◌, ℕ, ◌+◌, ◌-◌, ◌*◌, ◌/◌, ◌%◌, ◌^◌, ◌<◌, Bool, List, cond, false, length, get_or, ext_get_or, refl, sym}
 use Rattle.std.proofs.Common.{◌∙◌, ap, subst, arith, mod-lt, lit<}
 use Rattle.std.proofs.lemmas.List.{get_or-replicate}
 use Rattle.dmr_bits.specs.Bits.{bits_of}
