@@ -1,8 +1,8 @@
 -- Tables whose rows are numbers: their cells, and what a new row leaves.
 use Rattle.std.proofs.Common.{◌≡◌, ℕ, ◌+◌, ◌-◌, ◌*◌, ◌/◌, ◌%◌, ◌^◌, ◌<◌, ◌≢◌, Bool, false, suc, List, length, take, drop, refl, sym}
-use Rattle.std.proofs.Common.{◌∙◌, ap, arith, get_or, set, replicate, true, eqb, eqb-true, inl, inr}
+use Rattle.std.proofs.Common.{◌∙◌, ap, arith, get_or, set, replicate, inl, inr}
 use Rattle.std.specs.List.{All}
-use Rattle.std.proofs.lemmas.Bool.{cases_eq, agree_below_at}
+use Rattle.std.proofs.lemmas.Bool.{cases_eq}
 use Rattle.std.proofs.lemmas.List.{get_or-set_same, get_or-set_other, length-take-le, get_or-take, length-set, get_or-replicate}
 use Rattle.std.proofs.lemmas.List.FromFn.{length-map-range_with_len, get_or-map-range_with_len}
 use Rattle.dmr_bits.specs.Bits.{bits_of, number_of}
@@ -95,11 +95,6 @@ small_more rows i n fits small k d h =
           rw (same, get_or-set_same rows i n d below) fits
       | inr apart ↦ rw (get_or-set_other rows i k n d apart) (small k d inside)
     ]
-
--- only place 0 has number 0
-pub unplaced : (p : ℕ) → p < 196 → 181 * (13 * p % 196) % 196 ≡ p
-unplaced p h = eqb-true (181 * (13 * p % 196) % 196) p
-    (agree_below_at (λ i. eqb (181 * (13 * i % 196) % 196) i) (λ i. true) 196 p refl h)
 
 -- the cells of no row are clear
 pub clear_cells : (r c : ℕ) → r < 13 → c < 15 → cell (laid (replicate 13 0)) r c ≡ false

@@ -1,5 +1,5 @@
 //! Correcting columns and then rows, and the information of what that gives.
-ghost use Rattle.std.specs.Prelude.{◌≡◌, ◌≢◌, ◌<◌, ◌+◌, ◌*◌, ◌/◌, ◌%◌, ◌^◌, ◌↔◌, ℕ, IsTrue, List, Bool, true, false};
+ghost use Rattle.std.specs.Prelude.{◌≡◌, ◌≢◌, ◌<◌, ◌≤◌, ◌+◌, ◌-◌, ◌*◌, ◌/◌, ◌%◌, ◌^◌, ◌↔◌, ℕ, IsTrue, List, Bool, true, false};
 ghost use Rattle.std.specs.Prelude.{Some, slice_index_or};
 ghost use Rattle.dmr_bits.specs.Bits.{bits_of};
 ghost use Rattle.dmr_codes.specs.Seven.{IsHamming13, IsHamming15};
@@ -8,7 +8,8 @@ ghost use Rattle.dmr_bptc.specs.ProductWord.{IsProductWord, information};
 ghost use Rattle.dmr_bptc.specs.Decoding.{IsCorrected, IsDecoded, IsDamaged};
 
 use crate::table::{
-    Table, cell_of, read_column, read_row, table_of, write_column, write_row, wrong_columns,
+    Table, first_cells, is_row_word, read_column, read_row, table_of, write_column, write_row,
+    wrong_columns,
 };
 use dmr_bits::Bits;
 use dmr_codes::{BlockCode, Hamming13, Hamming15};
@@ -38,9 +39,12 @@ fn correct_columns(bits: &mut Table) -> bool
     ensures corrected { (c : ℕ) → c < 15 → IsCorrected IsHamming13 (column bits.old c) (column bits.new c) }
 {
     let wrong = wrong_columns(bits);
+    // Most are words as they are received.
+    if wrong == 0 {
+        return true;
+    }
     let mut all = true;
     for column in 0..15 {
-        // Most are words as they are received.
         if (wrong >> (14 - column)) % 2 == 1 {
             let is_word = correct_column(bits, column);
             all = all & is_word;
@@ -89,15 +93,14 @@ fn correct_row(bits: &mut Table, row_number: usize) -> bool
     ensures corrected { IsCorrected IsHamming15 (row bits.old row_number) (row bits.new row_number) }
     ensures kept { (r c : ℕ) → r < 13 → c < 15 → r ≢ row_number → cell bits.new r c ≡ cell bits.old r c }
 {
-    let received = read_row(bits, row_number);
-    let Some(word) = Hamming15::decode(&received) else {
-        return false;
-    };
     // Most are words as they are received.
-    if word.distance(&received) == 0 {
+    if is_row_word(bits, row_number) {
         return true;
     }
-    write_row(bits, row_number, &word);
+    let received = read_row(bits, row_number);
+    if let Some(word) = Hamming15::decode(&received) {
+        write_row(bits, row_number, &word);
+    }
     false
 }
 
@@ -122,24 +125,26 @@ fn is_product_word(bits: &Table) -> bool
 fn information_of(bits: &Table) -> Bits<96>
     ensures value { result ≡ information bits.now }
 {
-    let mut found = Bits::<96>::zero();
-    for half in 0..2 {
-        found = found.with_field(48 * half, 48, gather_half(bits, half));
-    }
-    found
+    // The first three cells are reserved.
+    let upper = gather_rows(bits, 0, 5) % (1 << 52);
+    let lower = gather_rows(bits, 5, 9);
+    let front = Bits::<96>::zero().with_field(0, 52, upper);
+    front.with_field(52, 44, lower)
 }
 
-/// The number that half of the information spells.
-fn gather_half(bits: &Table, half: usize) -> u64
-    requires inside { half < 2 }
-    ensures fits { result < 2 ^ 48 }
-    ensures cells { (k : ℕ) → k < 48 → slice_index_or (bits_of 48 result) k false
-        ≡ cell bits.now ((48 * half + k + 3) / 11) ((48 * half + k + 3) % 11) }
+/// The number that the first eleven cells of at most five rows spell.
+#[inline(always)]
+fn gather_rows(bits: &Table, from: usize, to: usize) -> u64
+    requires order { from ≤ to }
+    requires few { to ≤ from + 5 }
+    requires inside { to ≤ 13 }
+    ensures fits { result < 2 ^ (11 * (to - from)) }
+    ensures cells { (k : ℕ) → k < 11 * (to - from)
+        → slice_index_or (bits_of (11 * (to - from)) result) k false ≡ cell bits.now (from + k / 11) (k % 11) }
 {
     let mut number = 0;
-    for index in 0..48 {
-        let place = 48 * half + index + 3;
-        number = 2 * number + u64::from(cell_of(bits, place / 11, place % 11));
+    for row in from..to {
+        number = number * 2048 + first_cells(bits, row);
     }
     number
 }

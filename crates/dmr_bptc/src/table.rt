@@ -1,13 +1,16 @@
 //! The table of 13 rows and 15 columns: its cells, its rows and its columns.
-ghost use Rattle.std.specs.Prelude.{◌≡◌, ◌≢◌, ◌<◌, ℕ, false, length, slice_index_or};
+ghost use Rattle.std.specs.Prelude.{◌≡◌, ◌≢◌, ◌<◌, ◌^◌, ℕ, false, length, slice_index_or};
+ghost use Rattle.dmr_bits.specs.Bits.{bits_of};
 ghost use Rattle.dmr_bptc.specs.Table.{cell, row, column};
 
 mod checks;
 mod places;
+mod row_checks;
 
-pub use checks::{fill_checks, wrong_columns};
+pub(crate) use checks::{fill_checks, wrong_columns};
 use dmr_bits::Bits;
-pub use places::{sent_bits, table_of};
+pub(crate) use places::{sent_bits, table_of};
+pub(crate) use row_checks::is_row_word;
 use std::marker::Model;
 
 /// The table, a number for each row, its first cell the highest.
@@ -29,7 +32,7 @@ impl Model for Table {
 }
 
 /// A table of zeros.
-pub fn clear_table() -> Table
+pub(crate) fn clear_table() -> Table
     ensures cells { (r c : ℕ) → r < 13 → c < 15 → cell result r c ≡ false }
     ensures first { slice_index_or result 0 false ≡ false }
 {
@@ -38,7 +41,7 @@ pub fn clear_table() -> Table
 
 /// The bit in a cell.
 #[inline(always)]
-pub fn cell_of(table: &Table, row: usize, column: usize) -> bool
+pub(crate) fn cell_of(table: &Table, row: usize, column: usize) -> bool
     requires inside_rows { row < 13 }
     requires inside_columns { column < 15 }
     ensures value { result ≡ cell table.now row column }
@@ -63,7 +66,7 @@ fn set_cell(table: &mut Table, row_number: usize, column_number: usize, bit: boo
 
 /// The cells of a row.
 #[inline(always)]
-pub fn read_row(bits: &Table, row_number: usize) -> Bits<15>
+pub(crate) fn read_row(bits: &Table, row_number: usize) -> Bits<15>
     requires inside { row_number < 13 }
     ensures value { result ≡ row bits.now row_number }
     ensures length { length result ≡ 15 }
@@ -71,8 +74,18 @@ pub fn read_row(bits: &Table, row_number: usize) -> Bits<15>
     Bits::<15>::zero().with_field(0, 15, bits.rows[row_number])
 }
 
+/// The number that the first eleven cells of a row spell.
+#[inline(always)]
+pub(crate) fn first_cells(bits: &Table, row_number: usize) -> u64
+    requires inside { row_number < 13 }
+    ensures fits { result < 2 ^ 11 }
+    ensures cells { (c : ℕ) → c < 11 → slice_index_or (bits_of 11 result) c false ≡ cell bits.now row_number c }
+{
+    bits.rows[row_number] >> 4
+}
+
 /// The cells of a column.
-pub fn read_column(bits: &Table, column_number: usize) -> Bits<13>
+pub(crate) fn read_column(bits: &Table, column_number: usize) -> Bits<13>
     requires inside { column_number < 15 }
     ensures value { result ≡ column bits.now column_number }
 {
@@ -85,7 +98,7 @@ pub fn read_column(bits: &Table, column_number: usize) -> Bits<13>
 
 /// Writes a row.
 #[inline(always)]
-pub fn write_row(bits: &mut Table, row_number: usize, word: &Bits<15>)
+pub(crate) fn write_row(bits: &mut Table, row_number: usize, word: &Bits<15>)
     requires inside { row_number < 13 }
     ensures written { row bits.new row_number ≡ word.now }
     ensures kept { (r c : ℕ) → r < 13 → c < 15 → r ≢ row_number → cell bits.new r c ≡ cell bits.old r c }
@@ -95,13 +108,16 @@ pub fn write_row(bits: &mut Table, row_number: usize, word: &Bits<15>)
 }
 
 /// Writes a column.
-pub fn write_column(bits: &mut Table, column_number: usize, word: &Bits<13>)
+pub(crate) fn write_column(bits: &mut Table, column_number: usize, word: &Bits<13>)
     requires inside { column_number < 15 }
     ensures written { column bits.new column_number ≡ word.now }
     ensures kept { (r c : ℕ) → r < 13 → c < 15 → c ≢ column_number → cell bits.new r c ≡ cell bits.old r c }
     ensures first { slice_index_or bits.new 0 false ≡ slice_index_or bits.old 0 false }
 {
     for row in 0..word.len() {
-        set_cell(bits, row, column_number, word.get(row));
+        let bit = word.get(row);
+        if cell_of(bits, row, column_number) != bit {
+            set_cell(bits, row, column_number, bit);
+        }
     }
 }

@@ -12,7 +12,7 @@ const CHECKS: [u32; 13] = [
 ];
 
 /// Writes the checks of all columns.
-pub fn fill_checks(bits: &mut Table)
+pub(crate) fn fill_checks(bits: &mut Table)
     requires clear { (r c : ℕ) → 9 ≤ r → r < 13 → c < 15 → cell bits.old r c ≡ false }
     ensures words { (c : ℕ) → c < 15 → IsHamming13 (column bits.new c) }
     ensures upper { (r c : ℕ) → r < 9 → c < 15 → cell bits.new r c ≡ cell bits.old r c }
@@ -29,7 +29,7 @@ pub fn fill_checks(bits: &mut Table)
 }
 
 /// The columns in which a check fails, as the bits of a number, the first column the highest of fifteen.
-pub fn wrong_columns(table: &Table) -> u64
+pub(crate) fn wrong_columns(table: &Table) -> u64
     ensures right { (c : ℕ) → c < 15 → result / 2 ^ (14 - c) % 2 ≢ 1 → IsHamming13 (column table.now c) }
 {
     let rows = &table.rows;

@@ -1,5 +1,6 @@
-use Rattle.std.proofs.Common.{ℕ, ◌≢◌, ◌<◌, Bool, List, refl, sym, subst, ◌∙◌, arith}
+use Rattle.std.proofs.Common.{ℕ, ◌≢◌, ◌-◌, ◌/◌, ◌%◌, ◌^◌, ◌<◌, Bool, ap, List, refl, sym, subst, ◌∙◌, arith}
 use Rattle.std.proofs.lemmas.Bool.{and_parts}
+use Rattle.std.proofs.lemmas.Nat.Bits.{bit_at-zero}
 use Rattle.dmr_codes.specs.Seven.{IsHamming13}
 use Rattle.dmr_bptc.specs.Table.{column}
 use Rattle.dmr_bptc.proofs.Cells.{column_same}
@@ -8,6 +9,17 @@ use Rattle.dmr_bptc.proofs.Correcting.{corrected_columns_more}
 use Rattle.dmr_bptc.proofs.RightColumns.{kept_word}
 use Rattle.dmr_bptc.proofs.decoding.correct_columns.Goals.{then-wrong-column-eq1, else-wrong-column-eq1}
 use Rattle.dmr_bptc.proofs.decoding.correct_columns.Goals as goal
+
+-- where no check of a column fails, all are words
+right : (c : goal.Then-wrong-eq0) → (k : ℕ) → k < 15 → IsHamming13 (column c.args.bits.now k)
+right c k h = c.wrong_columns-wrong.ensures.right k h
+    (λ e. absurd (omega (arith, bit_at-zero (14 - k), e, ap (λ n. n / 2 ^ (14 - k) % 2) c.if-wrong-eq0.true)))
+
+pub returns-then-wrong-eq0-clause-words : goal.returns-then-wrong-eq0-clause-words
+returns-then-wrong-eq0-clause-words c = λ all. right c
+
+pub returns-then-wrong-eq0-clause-corrected : goal.returns-then-wrong-eq0-clause-corrected
+returns-then-wrong-eq0-clause-corrected c k h = kept_word (column c.args.bits.now k) (right c k h)
 
 pub loop-column-preserved : goal.loop-column-preserved
 loop-column-preserved c =

@@ -1,8 +1,9 @@
-use Rattle.std.proofs.Common.{◌≡◌, ℕ, ◌*◌, ◌<◌, false, length, get_or}
+use Rattle.std.proofs.Common.{◌+◌, ◌*◌}
+use Rattle.dmr_bptc.proofs.Lines.{AreLines}
 use Rattle.dmr_bptc.proofs.table.places.sent_bits.Given as goal
 
-abbrev pub invariant-loop-quarter : goal.invariant-loop-quarter
-invariant-loop-quarter l = record {
-  long : length l.bits ≡ 196;
-  read : (k : ℕ) → k < 49 * l.quarter → get_or l.bits k false ≡ get_or l.table k false;
-}
+abbrev pub invariant-loop-group : goal.invariant-loop-group
+invariant-loop-group l = AreLines l.cells (3 * l.group) l.first l.second l.third l.last
+
+abbrev pub invariant-loop-column : goal.invariant-loop-column
+invariant-loop-column l = AreLines l.cells (3 * l.group + l.column) l.first l.second l.third l.last

@@ -1,0 +1,9 @@
+use Rattle.std.proofs.Common.{◌≡◌, ℕ, ◌*◌, ◌/◌, ◌%◌, ◌<◌, false, length, get_or}
+use Rattle.dmr_bptc.specs.Table.{cell}
+use Rattle.dmr_bptc.proofs.table.places.cells_of.Given as goal
+
+abbrev pub invariant-loop-group : goal.invariant-loop-group
+invariant-loop-group l = record {
+  long : length l.cells ≡ 195;
+  read : (k : ℕ) → k < 60 * l.group → get_or l.cells k false ≡ cell l.table (k / 15) (k % 15);
+}
