@@ -1,3 +1,4 @@
+pub mod Cachs
 pub mod CleanGate
 pub mod Cleaning
 pub mod Counting

@@ -26,6 +26,16 @@ IsCachOf busy m place octets =
     (fragments : List (List Bool)) × IsShortLc m.slco m.body fragments
     × IsCach busy (place % 2 == 1) (lcss_of place) (slice_index_or fragments (place % 4) []) (bits_of_octets octets)
 
+-- The CACHs of records with these fragments, one for each fragment.
+abbrev pub AreCachs : Bool → List (List Bool) → List (List ℕ) → Type 0
+AreCachs busy fragments cachs =
+    (place : ℕ) → IsCach busy (place % 2 == 1) (lcss_of place) (slice_index_or fragments (place % 4) [])
+    (bits_of_octets (slice_index_or cachs (place % 4) []))
+
+-- Those of a message.
+abbrev pub CarryMessage : Bool → Message → List (List ℕ) → Type 0
+CarryMessage busy m cachs = (place : ℕ) → IsCachOf busy m place (slice_index_or cachs (place % 4) [])
+
 abbrev pub AreOctets : List ℕ → Type 0
 AreOctets octets = All (λ octet. octet < 256) octets
 

@@ -1,6 +1,8 @@
 //! The fragments of the message that is announced, one in the CACH of each record.
-ghost use Rattle.std.specs.Prelude.{◌≡◌, ◌<◌};
-ghost use Rattle.dmr_station.specs.Sent.{lcss_of};
+ghost use Rattle.std.specs.Prelude.{◌≡◌, ◌<◌, ◌%◌, ◌==◌};
+ghost use Rattle.dmr_bits.specs.Bits.{bits_of_octets};
+ghost use Rattle.dmr_burst.specs.Cach.{IsCach};
+ghost use Rattle.dmr_station.specs.Sent.{AreCachs, lcss_of};
 
 use crate::announcing::Message;
 use dmr_bits::Bits;
@@ -8,23 +10,27 @@ use dmr_burst::cach;
 use dmr_embedded::short_lc;
 use std::marker::Model;
 
-/// A message and its four fragments, which are worked out once for as long as the message stays.
+/// A message and the CACHs with its four fragments, which are worked out once for as long as the message stays.
 #[derive(Drop)]
 pub struct Fragments {
     message: Message,
-    four: [Bits<17>; 4],
+    /// Those of records with no repeated burst.
+    free: [[u8; 3]; 4],
+    /// Those of records with one.
+    busy: [[u8; 3]; 4],
 }
 
 // Clauses see the message.
 impl Model for Fragments {
-    ghost use Rattle.dmr_embedded.specs.ShortLc.{IsShortLc};
+    ghost use Rattle.std.specs.Prelude.{false, true};
+    ghost use Rattle.dmr_station.specs.Sent.{CarryMessage};
     ghost use Rattle.dmr_station.specs.declared.announcing.Message.{Message};
 
     ghost Value = { Message };
 
     ghost view = { λ f. f.message };
 
-    ghost invariant = { λ f. IsShortLc f.message.slco f.message.body f.four };
+    ghost invariant = { λ f. CarryMessage false f.message f.free × CarryMessage true f.message f.busy };
 }
 
 impl Fragments {
@@ -43,9 +49,11 @@ impl Fragments {
         requires message { IsFitMessage message }
         ensures message { result ≡ message }
     {
+        let four = short_lc(message.slco, message.body);
         Fragments {
             message,
-            four: short_lc(message.slco, message.body),
+            free: cachs(false, &four),
+            busy: cachs(true, &four),
         }
     }
 
@@ -63,14 +71,36 @@ impl Fragments {
     pub(crate) fn cach(&self, busy: bool, place: u32) -> [u8; 3]
         ensures cach { IsCachOf busy self.now place result }
     {
-        let fragments = &self.four[..];
-        cach(
-            busy,
-            place % 2 == 1,
-            link_control_start_stop(place),
-            &fragments[place as usize % 4],
-        )
+        if busy {
+            self.busy[place as usize % 4]
+        } else {
+            self.free[place as usize % 4]
+        }
     }
+}
+
+/// The CACHs with these fragments.
+fn cachs(busy: bool, fragments: &[Bits<17>; 4]) -> [[u8; 3]; 4]
+    ensures cachs { AreCachs busy fragments.now result }
+{
+    [
+        cach_at(busy, 0, &fragments[0]),
+        cach_at(busy, 1, &fragments[1]),
+        cach_at(busy, 2, &fragments[2]),
+        cach_at(busy, 3, &fragments[3]),
+    ]
+}
+
+/// The CACH of a record at this place, with this fragment.
+fn cach_at(busy: bool, place: u32, fragment: &Bits<17>) -> [u8; 3]
+    ensures cach { IsCach busy (place % 2 == 1) (lcss_of place) fragment.now (bits_of_octets result) }
+{
+    cach(
+        busy,
+        place % 2 == 1,
+        link_control_start_stop(place),
+        fragment,
+    )
 }
 
 /// Where in its Short LC the fragment of a record stands.
