@@ -1,3 +1,7 @@
+pub mod Activity
+pub mod Contents
 pub mod Entries
+pub mod Fragments
+pub mod Lines
 pub mod VoicePlace
 pub mod Wrong
