@@ -3,5 +3,6 @@ pub mod Contents
 pub mod Entries
 pub mod Fragments
 pub mod Lines
+pub mod Summaries
 pub mod VoicePlace
 pub mod Wrong

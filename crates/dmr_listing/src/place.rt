@@ -1,6 +1,6 @@
 //! Where a burst or a record stands in time.
 ghost use Rattle.std.specs.Prelude.{◌≡◌};
-ghost use Rattle.dmr_listing.specs.Entries.{milliseconds};
+ghost use Rattle.dmr_listing.specs.Entries.{milliseconds, place_of};
 
 use arrayvec::ArrayString;
 use std::fmt;
@@ -22,6 +22,16 @@ const FRAME_MILLISECONDS: u64 = 60;
 const SLOT_MILLISECONDS: u64 = 30;
 
 impl Place {
+    /// The slot of this number among the slots of a recording, from 0 on: slot 1 and slot 2 of the first frame, and so on.
+    pub fn of_slot(number: u32) -> Place
+        ensures value { result ≡ place_of number }
+    {
+        Place {
+            frame: number / 2,
+            slot: (number % 2) as u8 + 1,
+        }
+    }
+
     /// When it begins, in milliseconds behind the first frame.
     pub fn milliseconds(self) -> u64
         ensures value { result ≡ milliseconds self }

@@ -1,11 +1,14 @@
 //! The lines of bursts, and the places of superframes.
 use crate::control_block::ControlBlock;
 use crate::link_control::LinkControl;
-use crate::{OutgoingLine, Place, ReceivedLine, SlotView, VoicePlace, VoicePlaces};
+use crate::{
+    BurstCounts, FaultLine, OutgoingLine, Place, ReceivedLine, RecordingSummary, SlotView,
+    VoicePlace, VoicePlaces,
+};
 use dmr_burst::{Emb, Side};
 use dmr_csbk::Csbk;
 use dmr_link::FullLc;
-use dmr_record::{FromRead, Received, ReceivedKind, read_outgoing};
+use dmr_record::{FromRead, Received, ReceivedKind, RecordFault, read_outgoing};
 use dmr_report::Reading;
 use hex::FromHex;
 use std::test::Fail;
@@ -86,10 +89,46 @@ const CALL: [(&str, &str); 7] = [
 #[test]
 fn lines_of_a_call(rt: HostRuntime) -> Result<(), Fail> {
     let mut view = SlotView::new();
+    let mut bursts = BurstCounts::default();
     for (frame, (burst, line)) in (0..7).zip(CALL) {
         let burst = <[u8; 33] as FromHex>::from_hex(burst)?;
         let shown = view.line(Place { frame, slot: 1 }, None, &burst);
+        bursts = bursts.with(&shown);
         assert_eq!(rt; format!(in rt.alloc(); "{shown}")?.as_str(), line);
+    }
+    let summary = RecordingSummary { frames: 20, bursts };
+    let want = "frames 20 seconds 1.20 slot-1 7 slot-2 0 unreadable 0";
+    assert_eq!(rt; format!(in rt.alloc(); "{summary}")?.as_str(), want);
+    Ok(())
+}
+
+#[test]
+fn faults_and_where_they_are(rt: HostRuntime) -> Result<(), Fail> {
+    for (fault, octet, place, text) in [
+        (RecordFault::CutRecord, 0, None, "cut record at octet 0"),
+        (
+            RecordFault::CutRecord,
+            8,
+            Some(0),
+            "cut record at octet 8, frame 0, slot 1",
+        ),
+        (
+            RecordFault::HalfFrame,
+            42,
+            Some(1),
+            "half frame at octet 42, frame 0, slot 2",
+        ),
+    ] {
+        let place = match place {
+            Some(number) => Some(Place::of_slot(number)),
+            None => None,
+        };
+        let line = FaultLine {
+            fault,
+            octet,
+            place,
+        };
+        assert_eq!(rt; format!(in rt.alloc(); "{line}")?.as_str(), text);
     }
     Ok(())
 }
