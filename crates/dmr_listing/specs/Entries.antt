@@ -1,11 +1,7 @@
 -- What has a line of its own, and where it stands.
 use Rattle.std.specs.Prelude.{ℕ, ◌+◌, ◌-◌, ◌*◌, ◌/◌, ◌%◌, List, [], ◌∷◌, Option, Some, None, length}
 use Rattle.std.specs.List.{flat_map}
-
--- Where a burst stands: in a frame, in slot 1 or 2 of it.
-pub record Place : Type 0 where
-  pub frame : ℕ
-  pub slot : ℕ
+use Rattle.dmr_listing.specs.declared.place.Place.{Place}
 
 -- the place of a slot, by its number among the slots of a file from 0 on
 abbrev pub place_of : ℕ → Place

@@ -1,12 +1,22 @@
 -- How many bits of a burst are wrong, field by field, as far as what was read tells it.
-use Rattle.std.specs.Prelude.{◌≡◌, ℕ, ◌≤◌, Bool, List, drop}
-use Rattle.dmr_bits.specs.Bits.{distance}
+use Rattle.std.specs.Prelude.{◌≡◌, ℕ, ◌≤◌, Bool, true, false, List, Some}
+use Rattle.dmr_bits.specs.Bits.{distance, part}
 use Rattle.dmr_bptc.specs.ProductWord.{IsWritten}
 use Rattle.dmr_burst.specs.Layout.{sync_word, sync_field, slot_type_of, slot_type_field, emb_of, emb_field, information_field}
 use Rattle.dmr_burst.specs.declared.burst.Emb.{Emb}
+use Rattle.dmr_burst.specs.declared.burst.Side.{Side}
 use Rattle.dmr_burst.specs.declared.burst.SlotType.{SlotType}
 use Rattle.dmr_burst.specs.declared.burst.Sync.{Sync}
 use Rattle.dmr_codes.specs.Seven.{IsGolay20, IsResidue16}
+use Rattle.dmr_listing.specs.declared.wrong.Wrong.{Wrong}
+use Rattle.dmr_report.specs.declared.reading.Information.{Information}
+use Rattle.dmr_report.specs.declared.reading.Information.TheVariants.{Coded}
+use Rattle.dmr_report.specs.declared.reading.Reading.{Reading}
+use Rattle.dmr_report.specs.declared.reading.Reading.TheVariants.{Data, Untyped, VoiceSync, Voice, Unreadable}
+
+-- the data sync of a side
+abbrev pub data_sync : Side → Sync
+data_sync side = record { side = side; voice = false }
 
 -- of a sync: in its centre
 abbrev pub wrong_of_sync : Sync → List Bool → ℕ
@@ -33,4 +43,21 @@ pub record IsWrongOfEmb (emb : Emb) (bits : List Bool) (wrong : ℕ) : Type 0 wh
 pub record IsWrongOfInformation (message bits : List Bool) (wrong : ℕ) : Type 0 where
   pub written : List Bool
   pub form : IsWritten message written
-  pub count : distance (drop 1 written) (drop 1 (information_field bits)) ≡ wrong
+  pub count : distance (part written 1 196) (part (information_field bits) 1 196) ≡ wrong
+
+-- of the information of a data burst, where it was read
+abbrev pub IsWrongIn : Information → List Bool → ℕ → Type 0
+IsWrongIn (Coded (Some message)) bits wrong = IsWrongOfInformation message bits wrong
+IsWrongIn information bits wrong = wrong ≡ 0
+
+-- of a whole burst, by what it was read as
+abbrev pub IsWrong : List Bool → Reading → Wrong → Type 0
+IsWrong bits (Data side slot_type information) wrong = (wrong.sync ≡ wrong_of_sync (data_sync side) bits)
+    × IsWrongOfSlotType slot_type bits wrong.slot_type × IsWrongIn information bits wrong.information × (wrong.emb ≡ 0)
+IsWrong bits (Untyped side) wrong = (wrong.sync ≡ wrong_of_sync (data_sync side) bits)
+    × (wrong.slot_type ≡ 0) × (wrong.information ≡ 0) × (wrong.emb ≡ 0)
+IsWrong bits (VoiceSync side) wrong = (wrong.sync ≡ wrong_of_sync (record { side = side; voice = true }) bits)
+    × (wrong.slot_type ≡ 0) × (wrong.information ≡ 0) × (wrong.emb ≡ 0)
+IsWrong bits (Voice emb) wrong = IsWrongOfEmb emb bits wrong.emb
+    × (wrong.sync ≡ 0) × (wrong.slot_type ≡ 0) × (wrong.information ≡ 0)
+IsWrong bits Unreadable wrong = (wrong.sync ≡ 0) × (wrong.slot_type ≡ 0) × (wrong.information ≡ 0) × (wrong.emb ≡ 0)

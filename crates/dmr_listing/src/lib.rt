@@ -1,14 +1,48 @@
 //! What a listing shows of a file: a line for each burst or record.
 //!
-//! `VoicePlaces` tells where in a superframe a voice burst of a slot stands, by what the slot was read as before it
-//! (`dmr_report::Reading`). Contracts see it as the place that was told last: `specs/VoicePlace.antt` says which place follows, and
-//! what a place means over all that a slot was read as.
+//! `SlotView` makes the lines of one slot of a recording, frame by frame. A `BurstLine` has all that the line of a burst shows, and
+//! prints it: what the burst is read as (`dmr_report::Reading`), in which place of a superframe it stands (`VoicePlaces`), what its
+//! information holds (`Contents`), the link control that four voice bursts carry, what its CACH announces (`Activity`), and how
+//! many of its bits are wrong (`Wrong`). `OutgoingLine` and `ReceivedLine` print the records of the two lists. All of it comes from
+//! the readers that a run stands on. Octets that came over the air are printed as digits, never as text. `RecordingSummary` is the
+//! last line of a listing, of what `BurstCounts` counts line by line, and `FaultLine` tells where a file is at fault.
+//!
+//! Contracts say what a line shows (`specs/Lines.antt`): by which place follows (`specs/VoicePlace.antt`, and what a place means
+//! over all that a slot was read as), what a burst of a type holds (`specs/Contents.antt`), what four frames carry
+//! (`specs/Fragments.antt`), what a CACH announces (`specs/Activity.antt`), which bits are wrong (`specs/Wrong.antt`), and what is
+//! counted (`specs/Summaries.antt`). What the texts are is left open by them, and is tested. No command lists a whole file yet;
+//! `specs/Entries.antt` says which lines that has, and where each record begins.
 #![tactic(auto)]
 
+mod activity;
+mod burst_line;
+mod contents;
+mod control_block;
+mod counted;
+mod data_header;
+mod datagram;
+mod digits;
+mod fault_line;
+mod fragments;
 pub mod laws;
+mod link_control;
+mod place;
+mod record_line;
+mod slot_view;
+mod summary;
 mod voice_place;
+mod wrong;
 
+pub use activity::Activity;
+pub use burst_line::BurstLine;
+pub use contents::Contents;
+pub use fault_line::FaultLine;
+pub use place::Place;
+pub use record_line::{OutgoingLine, ReceivedLine};
+pub use slot_view::SlotView;
+pub use summary::{BurstCounts, RecordingSummary};
 pub use voice_place::{VoicePlace, VoicePlaces};
+pub use wrong::Wrong;
 
 #[cfg(test)]
 mod tests;

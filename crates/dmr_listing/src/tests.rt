@@ -1,7 +1,17 @@
-//! The places of a superframe behind a voice sync.
-use crate::{VoicePlace, VoicePlaces};
+//! The lines of bursts, and the places of superframes.
+use crate::control_block::ControlBlock;
+use crate::link_control::LinkControl;
+use crate::{
+    BurstCounts, FaultLine, OutgoingLine, Place, ReceivedLine, RecordingSummary, SlotView,
+    VoicePlace, VoicePlaces,
+};
 use dmr_burst::{Emb, Side};
+use dmr_csbk::Csbk;
+use dmr_link::FullLc;
+use dmr_record::{FromRead, Received, ReceivedKind, RecordFault, read_outgoing};
 use dmr_report::Reading;
+use hex::FromHex;
+use std::test::Fail;
 
 /// A voice burst with embedded signalling.
 fn voice() -> Option<Reading> {
@@ -42,4 +52,230 @@ fn places_of_a_superframe(rt: HostRuntime) {
         let place = places.next(reading);
         assert!(rt; place == want, "{want:?}");
     }
+}
+
+/// The bursts of the sample `call`, a frame each, and the lines of a listing of it.
+const CALL: [(&str, &str); 7] = [
+    (
+        "0010015E028812380E304440046D5D7F77FD757E322C0328019007A005410D0055",
+        "     0.00       0 1  MS   1  voice header  group call 2 -> 1",
+    ),
+    (
+        "4420823CFDE6F1C26B30F90EC7D7F7D5DD57DFDD01E4887534A20F0B0D04C36ED8",
+        "     0.06       1 1  MS   -  voice A",
+    ),
+    (
+        "0E71E0FD77B07670EB940BD5335130000000091F973DAAD8619B91FFC911F57CCE",
+        "     0.12       2 1  -    1  voice B       LCSS 1",
+    ),
+    (
+        "D458BBBF2CE03753C9BDFA0FF0117000900007469DC9575674066676CFB0B4EB89",
+        "     0.18       3 1  -    1  voice C       LCSS 3",
+    ),
+    (
+        "02C44269DA1CF6BA66D3F8B6D4B170300060A74100A9EA0E755A5C2E8210242A08",
+        "     0.24       4 1  -    1  voice D       LCSS 3",
+    ),
+    (
+        "E7078F7F89385EB09423555182515030F060C0768B96E8A4FEF23A0C9FC5AFD760",
+        "     0.30       5 1  -    1  voice E       LCSS 2, group call 2 -> 1",
+    ),
+    (
+        "8437816BDD0A7309CB4A1252E4D1100000000E2A70E6720FCAA4DA1E98406C189C",
+        "     0.36       6 1  -    1  voice F       LCSS 0",
+    ),
+];
+
+#[test]
+fn lines_of_a_call(rt: HostRuntime) -> Result<(), Fail> {
+    let mut view = SlotView::new();
+    let mut bursts = BurstCounts::default();
+    for (frame, (burst, line)) in (0..7).zip(CALL) {
+        let burst = <[u8; 33] as FromHex>::from_hex(burst)?;
+        let shown = view.line(Place { frame, slot: 1 }, None, &burst);
+        bursts = bursts.with(&shown);
+        assert_eq!(rt; format!(in rt.alloc(); "{shown}")?.as_str(), line);
+    }
+    let summary = RecordingSummary { frames: 20, bursts };
+    let want = "frames 20 seconds 1.20 slot-1 7 slot-2 0 unreadable 0";
+    assert_eq!(rt; format!(in rt.alloc(); "{summary}")?.as_str(), want);
+    Ok(())
+}
+
+#[test]
+fn faults_and_where_they_are(rt: HostRuntime) -> Result<(), Fail> {
+    for (fault, octet, place, text) in [
+        (RecordFault::CutRecord, 0, None, "cut record at octet 0"),
+        (
+            RecordFault::CutRecord,
+            8,
+            Some(0),
+            "cut record at octet 8, frame 0, slot 1",
+        ),
+        (
+            RecordFault::HalfFrame,
+            42,
+            Some(1),
+            "half frame at octet 42, frame 0, slot 2",
+        ),
+    ] {
+        let place = match place {
+            Some(number) => Some(Place::of_slot(number)),
+            None => None,
+        };
+        let line = FaultLine {
+            fault,
+            octet,
+            place,
+        };
+        assert_eq!(rt; format!(in rt.alloc(); "{line}")?.as_str(), text);
+    }
+    Ok(())
+}
+
+/// A burst, its CACH where it has one, where it stands, and its line.
+type Listed = (u32, u8, Option<[u8; 3]>, &'static str, &'static str);
+
+/// Bursts of the samples `privacy_header`, `damaged_csbk` and `confirmed_packet_received`.
+const BURSTS: [Listed; 7] = [
+    (
+        6,
+        1,
+        Some([0x80, 0x0A, 0x65]),
+        "0010015E028812380E304440046DFF57D75DF5DE322C0328019007A005410D0055",
+        "     0.36       6 1  BS*  1  voice header  group call 2 -> 1",
+    ),
+    (
+        6,
+        2,
+        Some([0x1B, 0x9C, 0x70]),
+        "53C25EABA8671DC7383BD936065DFF57D75DF5D92BF6E465171B48CA6D4FC610B4",
+        "     0.39       6 2  BS   1  idle",
+    ),
+    (
+        7,
+        1,
+        Some([0x83, 0x9C, 0x09]),
+        "07E3065E05ED0A582213AF83440DFF57D75DF5DD9D9C2138C8130CE60781161442",
+        "     0.42       7 1  BS*  1  PI header     00010203040506070809B5EE",
+    ),
+    (
+        8,
+        1,
+        Some([0x00, 0x08, 0x67]),
+        "007F018A023812400E4044E004ADFF57D75DF5D96738001006F00BE00D41140066",
+        "     0.48       8 1  BS   1  terminator    group call 2 -> 1",
+    ),
+    (
+        0,
+        1,
+        None,
+        "C062808301920104042804F03CC35D7F77FD757AC81A002C0258029000F0126022",
+        "     0.00       0 1  MS   1  CSBK          opcode 0, fid 0, 0000000000000000  \
+            [wrong: sync 3, slot type 3, information 15]",
+    ),
+    (
+        0,
+        1,
+        None,
+        "00620319048A00880A502A41058D5D7F77FD75733808205C03C6096100C85D3096",
+        "     0.00       0 1  MS   1  data header   confirmed 2 -> 1, SAP 4, N(S) 0, 64 blocks, pad 0",
+    ),
+    // The CACH has a wrong bit in AT, and the slot type of the burst four.
+    (
+        1_048_581,
+        2,
+        Some([0x88, 0x88, 0x20]),
+        "53C25EABA8671DC7383BD9363A5DFF57D75DF5D92BF6E465171B48CA6D4FC610B4",
+        " 62914.89 1048581 2  BS   -  data          slot type unreadable",
+    ),
+];
+
+#[test]
+fn lines_of_bursts(rt: HostRuntime) -> Result<(), Fail> {
+    for (frame, slot, cach, burst, line) in BURSTS {
+        let burst = <[u8; 33] as FromHex>::from_hex(burst)?;
+        let shown = SlotView::new().line(Place { frame, slot }, cach, &burst);
+        assert_eq!(rt; format!(in rt.alloc(); "{shown}")?.as_str(), line);
+    }
+    Ok(())
+}
+
+/// A link control of an opcode, all options of a call set, from 2 to 1.
+fn link_control(flco: u8) -> LinkControl {
+    LinkControl(FullLc {
+        protect: false,
+        reserved: false,
+        flco,
+        fid: 0,
+        body: [0xCF, 0, 0, 1, 0, 0, 2],
+    })
+}
+
+/// A control block of an opcode and a feature set.
+fn control_block(code: u8, fid: u8) -> ControlBlock {
+    ControlBlock(Csbk {
+        last: true,
+        protect: false,
+        code,
+        fid,
+        body: [0x80, 3, 0, 0, 7, 0, 0, 2],
+    })
+}
+
+#[test]
+fn details(rt: HostRuntime) -> Result<(), Fail> {
+    for (flco, text) in [
+        (
+            3,
+            "unit call 2 -> 1, emergency, privacy, broadcast, OVCM, priority 3",
+        ),
+        (4, "talker alias header, CF000001000002"),
+        (7, "talker alias block 3, CF000001000002"),
+        (8, "GPS info, CF000001000002"),
+        (9, "LC opcode 9, CF000001000002"),
+    ] {
+        let shown = link_control(flco);
+        assert_eq!(rt; format!(in rt.alloc(); "{shown}")?.as_str(), text);
+    }
+    for (code, fid, text) in [
+        (61, 0, "preamble, data to follow 3, 2 -> 7"),
+        (56, 0, "BS activation by 2 of 7"),
+        (56, 16, "opcode 56, fid 16, 8003000007000002"),
+    ] {
+        let shown = control_block(code, fid);
+        assert_eq!(rt; format!(in rt.alloc(); "{shown}")?.as_str(), text);
+    }
+    Ok(())
+}
+
+/// A record of an outgoing list.
+const OUTGOING: &[u8] = b"\x02\x00\x00\x00\x05\x01\x00\x00\x1C\
+    \x45\x00\x00\x1C\x12\x34\x00\x00\x40\x11\x50\x9B\x0C\x00\x00\x01\x0C\x00\x00\x02\x13\x98\x13\x9A\x00\x08\xC0\xA9";
+
+#[test]
+fn lines_of_lists(rt: HostRuntime) -> Result<(), Fail> {
+    let mut source = FromRead::new(OUTGOING);
+    let Ok(Some(record)) = read_outgoing(&mut source, 0, 0) else {
+        return Err(Fail::from("no record"));
+    };
+    let line = OutgoingLine { record: &record };
+    let want =
+        "     0.30       5 1  unconfirmed, rate 1/2, 28 octets: UDP 12.0.0.1:5016 -> 12.0.0.2:5018, \
+        0 octets of data";
+    assert_eq!(rt; format!(in rt.alloc(); "{line}")?.as_str(), want);
+    let record = Received {
+        frame: 6,
+        slot: 1,
+        kind: ReceivedKind::Status,
+        source: 3,
+        length: 4,
+    };
+    let line = ReceivedLine {
+        record,
+        octets: &[1, 2, 0, 5],
+    };
+    let want = "     0.36       6 1  status from 3, 4 octets: port 1 -> 2, status 5";
+    assert_eq!(rt; format!(in rt.alloc(); "{line}")?.as_str(), want);
+    Ok(())
 }

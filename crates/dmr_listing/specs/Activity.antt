@@ -1,0 +1,18 @@
+-- What a CACH announces.
+use Rattle.std.specs.Prelude.{◌≡◌, ◌≤◌, Bool, true, false, List, slice_index_or}
+use Rattle.dmr_bits.specs.Bits.{distance}
+use Rattle.dmr_burst.specs.Cach.{tact_field}
+use Rattle.dmr_codes.specs.Seven.{IsHamming7}
+use Rattle.dmr_listing.specs.declared.activity.Activity.{Activity}
+use Rattle.dmr_listing.specs.declared.activity.Activity.TheVariants.{Busy, Free}
+
+-- The word within one bit of the seven has AT, its first bit, set.
+pub record IsBusy (bits : List Bool) : Type 0 where
+  pub word : List Bool
+  pub is_word : IsHamming7 word
+  pub near : distance word (tact_field bits) ≤ 1
+  pub at : slice_index_or word 0 false ≡ true
+
+abbrev pub IsActivity : List Bool → Activity → Type 0
+IsActivity bits Busy = IsBusy bits
+IsActivity bits Free = IsBusy bits → ⊥

@@ -1,0 +1,18 @@
+-- The link control that four frames of a slot carry.
+use Rattle.std.specs.Prelude.{◌≡◌, List, [], ◌∷◌, Option, Some, None}
+use Rattle.dmr_link.specs.declared.full_lc.FullLc.{FullLc}
+use Rattle.dmr_listing.specs.declared.fragments.Fragment.{Fragment}
+use Rattle.dmr_voice.specs.Carried.{IsReadFrom}
+
+-- The four say by their LCSS that they carry one: first, continuation, continuation, last.
+pub record AreWhole (b c d e : Fragment) : Type 0 where
+  pub first : b.lcss ≡ 1
+  pub second : c.lcss ≡ 3
+  pub third : d.lcss ≡ 3
+  pub last : e.lcss ≡ 2
+
+-- What four frames carry: what is read from the fields of four bursts that say so, and else nothing.
+abbrev pub IsEmbedded : List (Option Fragment) → Option FullLc → Type 0
+IsEmbedded (Some b ∷ Some c ∷ Some d ∷ Some e ∷ []) lc =
+    (AreWhole b c d e → IsReadFrom (b.field ∷ c.field ∷ d.field ∷ e.field ∷ []) lc) × ((AreWhole b c d e → ⊥) → lc ≡ None)
+IsEmbedded fragments lc = lc ≡ None

@@ -1,0 +1,45 @@
+//! What the channel announces of a slot.
+ghost use Rattle.std.specs.Prelude.{◌≡◌};
+ghost use Rattle.dmr_bits.specs.Bits.{bits_of_octets};
+ghost use Rattle.dmr_burst.specs.Cach.{tact_field};
+ghost use Rattle.dmr_listing.specs.Activity.{IsActivity};
+
+use dmr_bits::{Bits, Writer};
+use dmr_codes::{BlockCode, Hamming7};
+
+/// Whether the CACH before a downlink burst announces the channel as busy, by its bit AT. ETSI TS 102 361-1, clause 9.1.4.
+#[derive(Clone, Copy, Debug, PartialEq, Eq, Drop)]
+pub enum Activity {
+    /// AT is 1.
+    Busy,
+    /// AT is 0.
+    Free,
+}
+
+/// The seven bits that hold AT, TC and LCSS. ETSI TS 102 361-1, annex B.4.1.
+fn tact_bits(cach: &[u8; 3]) -> Bits<7>
+    ensures value { result ≡ tact_field (bits_of_octets cach.now) }
+{
+    let bits = Bits::<24>::from_octets(cach);
+    let mut field = Writer::<7>::new();
+    field.push_bit(bits.get(0));
+    field.push_bit(bits.get(4));
+    field.push_bit(bits.get(8));
+    field.push_bit(bits.get(12));
+    field.push_bit(bits.get(14));
+    field.push_bit(bits.get(18));
+    field.push_bit(bits.get(22));
+    field.finish()
+}
+
+impl Activity {
+    /// What a CACH announces, a wrong bit of the seven undone.
+    pub(crate) fn of_cach(cach: &[u8; 3]) -> Activity
+        ensures read { IsActivity (bits_of_octets cach.now) result }
+    {
+        match Hamming7::decode(&tact_bits(cach)) {
+            Some(word) if word.get(0) => Activity::Busy,
+            _ => Activity::Free,
+        }
+    }
+}

@@ -1,0 +1,186 @@
+//! The line of a burst.
+use crate::activity::Activity;
+use crate::contents::Contents;
+use crate::link_control::LinkControl;
+use crate::place::{Place, Seconds};
+use crate::voice_place::VoicePlace;
+use crate::wrong::Wrong;
+use arrayvec::ArrayString;
+use dmr_burst::{Emb, Side, SlotType};
+use dmr_link::FullLc;
+use dmr_report::Reading;
+use std::fmt;
+use std::fmt::Write;
+
+/// All that a line shows of a burst.
+#[derive(Clone, Copy, Debug, PartialEq, Eq, Drop)]
+pub struct BurstLine {
+    /// Where it stands.
+    pub place: Place,
+    /// What its CACH announces, on the downlink.
+    pub activity: Option<Activity>,
+    /// What it is read as.
+    pub reading: Reading,
+    /// Where in a superframe its frame stands.
+    pub voice_place: Option<VoicePlace>,
+    /// What its information holds, where it is a data burst.
+    pub contents: Option<Contents>,
+    /// The link control that it completes, where it stands in place E and what it completes can be read.
+    pub link_control: Option<FullLc>,
+    /// How many of its bits are wrong.
+    pub wrong: Wrong,
+}
+
+/// What a burst is called.
+#[derive(Clone, Copy, Drop)]
+struct Name(Reading, Option<VoicePlace>);
+
+/// The name of a data type, if it has one. ETSI TS 102 361-1, clause 9.3.6.
+fn type_name(kind: u8) -> Option<&'static str> {
+    match kind {
+        0 => Some("PI header"),
+        1 => Some("voice header"),
+        2 => Some("terminator"),
+        3 => Some("CSBK"),
+        4 => Some("MBC header"),
+        5 => Some("MBC block"),
+        6 => Some("data header"),
+        7 => Some("rate 1/2"),
+        8 => Some("rate 3/4"),
+        9 => Some("idle"),
+        10 => Some("rate 1"),
+        11 => Some("unified block"),
+        _ => None,
+    }
+}
+
+/// The letter of a place, and a question mark for a burst that stands in none.
+fn place_letter(place: Option<VoicePlace>) -> char {
+    match place {
+        Some(VoicePlace::A) => 'A',
+        Some(VoicePlace::B) => 'B',
+        Some(VoicePlace::C) => 'C',
+        Some(VoicePlace::D) => 'D',
+        Some(VoicePlace::E) => 'E',
+        Some(VoicePlace::F) => 'F',
+        None => '?',
+    }
+}
+
+impl fmt::Display for Name {
+    fn fmt<W: fmt::Write>(&self, f: &mut fmt::Formatter<W>) -> fmt::Result {
+        match self.0 {
+            Reading::Data(_, SlotType { kind, .. }, _) => match type_name(kind) {
+                Some(name) => write!(f, "{name}"),
+                None => write!(f, "type {kind}"),
+            },
+            Reading::Untyped(_) => write!(f, "data"),
+            Reading::VoiceSync(_) => write!(f, "voice A"),
+            Reading::Voice(_) => {
+                let letter = place_letter(self.1);
+                write!(f, "voice {letter}")
+            }
+            Reading::Unreadable => write!(f, "unreadable"),
+        }
+    }
+}
+
+/// The letters of the side that a burst's sync names.
+fn side_letters(reading: Reading) -> &'static str {
+    match reading {
+        Reading::Data(side, _, _) | Reading::Untyped(side) | Reading::VoiceSync(side) =>
+            match side {
+                Side::Bs => "BS",
+                Side::Ms => "MS",
+            },
+        Reading::Voice(_) | Reading::Unreadable => "-",
+    }
+}
+
+/// The colour code that was read of a burst.
+fn colour_of(reading: Reading) -> Option<u8> {
+    match reading {
+        Reading::Data(_, SlotType { colour, .. }, _) => Some(colour),
+        Reading::Voice(Emb { colour, .. }) => Some(colour),
+        Reading::Untyped(_) | Reading::VoiceSync(_) | Reading::Unreadable => None,
+    }
+}
+
+/// The details of a line.
+#[derive(Clone, Copy, Drop)]
+struct Details<'a>(&'a BurstLine);
+
+impl Details<'_> {
+    /// The details of a voice burst with embedded signalling.
+    fn write_voice<W: fmt::Write>(&self, emb: Emb, f: &mut fmt::Formatter<W>) -> fmt::Result {
+        let Emb { pi, lcss, .. } = emb;
+        write!(f, "LCSS {lcss}")?;
+        if pi {
+            write!(f, ", PI")?;
+        }
+        match (self.0.voice_place, self.0.link_control) {
+            (Some(VoicePlace::E), Some(lc)) => write!(f, ", {}", LinkControl(lc)),
+            (Some(VoicePlace::E), None) => write!(f, ", embedded LC unreadable"),
+            _ => Ok(()),
+        }
+    }
+}
+
+impl fmt::Display for Details<'_> {
+    fn fmt<W: fmt::Write>(&self, f: &mut fmt::Formatter<W>) -> fmt::Result {
+        match self.0.reading {
+            Reading::Voice(emb) => self.write_voice(emb, f),
+            Reading::Untyped(_) => write!(f, "slot type unreadable"),
+            _ => match &self.0.contents {
+                Some(contents) => write!(f, "{contents}"),
+                None => Ok(()),
+            },
+        }
+    }
+}
+
+/// Side, and what the CACH announces, in two columns and one.
+#[derive(Clone, Copy, Drop)]
+struct SideAndActivity(Reading, Option<Activity>);
+
+impl fmt::Display for SideAndActivity {
+    fn fmt<W: fmt::Write>(&self, f: &mut fmt::Formatter<W>) -> fmt::Result {
+        let letters = side_letters(self.0);
+        match self.1 {
+            Some(Activity::Busy) => write!(f, "{letters:<2}*"),
+            Some(Activity::Free) | None => write!(f, "{letters:<3}"),
+        }
+    }
+}
+
+/// A colour code in two columns, or a hyphen for none.
+#[derive(Clone, Copy, Drop)]
+struct Colour(Option<u8>);
+
+impl fmt::Display for Colour {
+    fn fmt<W: fmt::Write>(&self, f: &mut fmt::Formatter<W>) -> fmt::Result {
+        match self.0 {
+            Some(colour) => write!(f, "{colour:>2}"),
+            None => write!(f, " -"),
+        }
+    }
+}
+
+impl fmt::Display for BurstLine {
+    /// Time, frame, slot, side, colour code, name, details and wrong bits, in columns; the line ends with no space.
+    fn fmt<W: fmt::Write>(&self, f: &mut fmt::Formatter<W>) -> fmt::Result {
+        let side = SideAndActivity(self.reading, self.activity);
+        let colour = Colour(colour_of(self.reading));
+        let mut name: ArrayString<16> = ArrayString::new();
+        let mut details: ArrayString<192> = ArrayString::new();
+        write!(name, "{}", Name(self.reading, self.voice_place))?;
+        write!(details, "{}{}", Details(self), self.wrong)?;
+        let name = name.as_str();
+        write!(f, "{}  {side} {colour}  ", self.place)?;
+        if details.is_empty() {
+            write!(f, "{name}")
+        } else {
+            write!(f, "{name:<13} {}", details.as_str())
+        }
+    }
+}

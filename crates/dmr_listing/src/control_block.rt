@@ -1,0 +1,45 @@
+//! What a line says of a control signalling block.
+use crate::digits::Digits;
+use dmr_csbk::{BsDownAct, Csbk, Preamble};
+use std::fmt;
+
+/// A control signalling block, printed by its meaning, or as its opcode, its feature set and its octets.
+#[derive(Clone, Copy, Drop)]
+pub(crate) struct ControlBlock(pub(crate) Csbk);
+
+/// The feature set of the standard, whose opcodes have meanings here.
+const STANDARD: u8 = 0;
+
+/// Says what follows a preamble, from whom to whom.
+fn write_preamble<W: fmt::Write>(preamble: &Preamble, f: &mut fmt::Formatter<W>) -> fmt::Result {
+    let Preamble {
+        packet,
+        group,
+        left,
+        target,
+        source,
+    } = *preamble;
+    let what = if packet { "data" } else { "CSBKs" };
+    let to = if group { "group " } else { "" };
+    write!(
+        f,
+        "preamble, {what} to follow {left}, {source} -> {to}{target}"
+    )
+}
+
+impl fmt::Display for ControlBlock {
+    fn fmt<W: fmt::Write>(&self, f: &mut fmt::Formatter<W>) -> fmt::Result {
+        let ControlBlock(block) = *self;
+        if block.fid == STANDARD {
+            if let Some(preamble) = block.preamble() {
+                return write_preamble(&preamble, f);
+            }
+            if let Some(BsDownAct { bs, source }) = block.down_act() {
+                return write!(f, "BS activation by {source} of {bs}");
+            }
+        }
+        let Csbk { code, fid, .. } = block;
+        let body = Digits(&block.body);
+        write!(f, "opcode {code}, fid {fid}, {body}")
+    }
+}

@@ -1,0 +1,15 @@
+//! Octets in digits.
+use std::fmt;
+
+/// Octets, printed as two hexadecimal digits each.
+#[derive(Clone, Copy, Drop)]
+pub(crate) struct Digits<'a>(pub(crate) &'a [u8]);
+
+impl fmt::Display for Digits<'_> {
+    fn fmt<W: fmt::Write>(&self, f: &mut fmt::Formatter<W>) -> fmt::Result {
+        for octet in self.0 {
+            write!(f, "{octet:02X}")?;
+        }
+        Ok(())
+    }
+}
