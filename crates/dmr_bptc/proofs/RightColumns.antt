@@ -7,7 +7,8 @@ use Rattle.dmr_bits.proofs.Lists.{get_or-bits_of}
 use Rattle.dmr_codes.specs.Code.{ones_over}
 use Rattle.dmr_codes.specs.Words.{one_within}
 use Rattle.dmr_codes.specs.LeastColumns.{least_three}
-use Rattle.dmr_codes.specs.Seven.{IsHamming13, IsHamming15, hamming13_columns, hamming13_shaped, hamming15_columns, hamming15_shaped}
+use Rattle.dmr_codes.specs.Seven.{IsHamming13, IsHamming15, hamming13_columns, hamming13_shaped, hamming15_columns}
+use Rattle.dmr_codes.specs.Seven.{hamming15_shaped}
 use Rattle.dmr_bptc.specs.Table.{column}
 use Rattle.dmr_bptc.specs.Rows.{laid}
 use Rattle.dmr_bptc.specs.Sums.{sum_rows}
@@ -57,7 +58,8 @@ kept_word old is = record {
 
 pub kept_row : (old : List Bool) → IsHamming15 old → IsCorrected IsHamming15 old old
 kept_row old is = record {
-  word = λ w word near. one_within hamming15_columns 4 3 1 old w old (least_three 15 11 hamming15_columns hamming15_shaped refl refl)
+  word = λ w word near. one_within hamming15_columns 4 3 1 old w old
+      (least_three 15 11 hamming15_columns hamming15_shaped refl refl)
       (lit< tt) is.long is word (omega (arith, no_distance old)) near;
   same = λ none. refl;
 }

@@ -6,7 +6,8 @@ use Rattle.dmr_bptc.proofs.table.places.in_columns.Goals as goal
 
 columns_are : (n : ℕ) → n < 16 → get_or IN_COLUMNS n 0 ≡ four 13 (n / 8 % 2) (n / 4 % 2) (n / 2 % 2) (n % 2)
 columns_are n h = eqb-true (get_or IN_COLUMNS n 0) (four 13 (n / 8 % 2) (n / 4 % 2) (n / 2 % 2) (n % 2))
-    (agree_below_at (λ i. eqb (get_or IN_COLUMNS i 0) (four 13 (i / 8 % 2) (i / 4 % 2) (i / 2 % 2) (i % 2))) (λ i. true) 16 n refl h)
+    (agree_below_at (λ i. eqb (get_or IN_COLUMNS i 0) (four 13 (i / 8 % 2) (i / 4 % 2) (i / 2 % 2) (i % 2)))
+    (λ i. true) 16 n refl h)
 
 pub returns : goal.returns
 returns c =
