@@ -1,6 +1,6 @@
 -- Rows whose two halves have the same checks are words.
-use Rattle.std.proofs.Common.{◌≡◌, ℕ, zero, suc, ◌+◌, ◌*◌, ◌/◌, ◌%◌, ◌^◌, ◌<◌, Bool, true, List, take}
-use Rattle.std.proofs.Common.{drop, refl, sym, ◌∙◌, ap, arith}
+use Rattle.std.proofs.Common.{◌≡◌, ℕ, zero, suc, ◌+◌, ◌*◌, ◌/◌, ◌%◌, ◌^◌, ◌<◌, Bool, true, List, take, drop, refl, sym, ◌∙◌, ap}
+use Rattle.std.proofs.Common.{arith}
 use Rattle.std.proofs.Common.{get_or, eqb, eqb-true}
 use Rattle.std.proofs.lemmas.Bool.{agree_below_at}
 use Rattle.dmr_bits.specs.Bits.{bits_of}
@@ -25,8 +25,8 @@ back_is n h = eqb-true (get_or BACK_CHECKS n 0) (checks (drop 8 hamming15_column
 
 -- the ones of a row are those of its two parts
 parts : (j n : ℕ) → ones_over j hamming15_columns (bits_of 15 n)
-    ≡ ones_over j (take 8 hamming15_columns) (bits_of 8 (n / 2 ^ 7)) + ones_over j (drop 8 hamming15_columns)
-    (bits_of 7 (n % 2 ^ 7))
+    ≡ ones_over j (take 8 hamming15_columns) (bits_of 8 (n / 2 ^ 7)) + ones_over j (drop 8 hamming15_columns) (bits_of 7
+    (n % 2 ^ 7))
 parts j n =
     ones_over_split j 8 hamming15_columns (bits_of 15 n)
     ∙ ap {B = ℕ} (λ l. ones_over j (take 8 hamming15_columns) l + ones_over j (drop 8 hamming15_columns) (drop 8 (bits_of 15 n)))
@@ -38,8 +38,8 @@ all_even : (u v w x a b c d : ℕ) → u % 2 + 2 * (v % 2) + 4 * (w % 2) + 8 * (
     → ((u + a) % 2 ≡ 0) × ((v + b) % 2 ≡ 0) × ((w + c) % 2 ≡ 0) × ((x + d) % 2 ≡ 0)
 all_even u v w x a b c d e = (omega (arith, e), omega (arith, e), omega (arith, e), omega (arith, e))
 
-pub row_word : (n : ℕ) → n < 2 ^ 15 → get_or FRONT_CHECKS (n / 2 ^ 7) 0 ≡ get_or BACK_CHECKS (n % 2 ^ 7) 0
-    → IsHamming15 (bits_of 15 n)
+pub row_word : (n : ℕ) → n < 2 ^ 15 → get_or FRONT_CHECKS (n / 2 ^ 7) 0 ≡ get_or BACK_CHECKS (n % 2 ^ 7) 0 → IsHamming15
+    (bits_of 15 n)
 row_word n small same =
     let F : ℕ → ℕ = λ j. ones_over j (take 8 hamming15_columns) (bits_of 8 (n / 2 ^ 7)) in
     let B : ℕ → ℕ = λ j. ones_over j (drop 8 hamming15_columns) (bits_of 7 (n % 2 ^ 7)) in

@@ -67,8 +67,8 @@ pub field_bit : (bits : List Bool) (at width n i : ℕ) → at + width ≤ lengt
     → i < width → n / 2 ^ (width - 1 - i) % 2 ≡ cond (get_or bits (at + i) false) 1 0
 field_bit bits at width n i room is h =
     let q : ℕ = n / 2 ^ (width - 1 - i) % 2 in
-    sym (bit_value q (omega arith)) ∙ ap {B = ℕ} (λ b. cond b 1 0)
-    (sym (get_or-bits_of width n i h) ∙ field_at bits at width n i room is h)
+    sym (bit_value q (omega arith)) ∙ ap {B = ℕ} (λ b. cond b 1 0) (sym (get_or-bits_of width n i h)
+    ∙ field_at bits at width n i room is h)
 
 -- a bit of a field within another
 pub inner_bit : (bits : List Bool) (at total n from width below i : ℕ) → at + total ≤ length bits

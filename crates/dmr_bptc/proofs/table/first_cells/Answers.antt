@@ -11,8 +11,8 @@ pub returns : goal.returns
 returns c =
     let n : ℕ = get_or c.bits.inside.rows c.args.row_number 0 in
     record {
-      fits = shr_below n 11 4 (c.bits.invariant.small c.args.row_number 0
-          (omega (arith, c.requires.inside, c.bits.invariant.long)));
+      fits = shr_below n 11 4 (c.bits.invariant.small c.args.row_number 0 (omega
+          (arith, c.requires.inside, c.bits.invariant.long)));
       cells = λ k h. ap (λ l. get_or l k false) (sym (bits_of-take 11 4 15 n refl))
           ∙ get_or-take 11 (bits_of 15 n) k false h
           ∙ sym (cell_laid c.bits.inside.rows c.args.row_number k c.requires.inside (omega arith))

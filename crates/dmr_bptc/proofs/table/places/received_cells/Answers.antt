@@ -58,16 +58,16 @@ returns c =
     let end : m ≡ 13 = omega arith in
     let at_first = field_first F c.zero.result 39 c.loop-group.columns.first
     (λ k h. ap (λ n. get_or (bits_of 39 n) k false) c.loop-group.invariant.first ∙ three_at bits m end k h) in
-    let at_second = field_more F c.with_field-three.result 39 52 c.loop-group.columns.second
-    (omega (arith, c.with_field-seven.ensures.length))
+    let at_second = field_more F c.with_field-three.result 39 52 c.loop-group.columns.second (omega
+    (arith, c.with_field-seven.ensures.length))
     (λ k h. ap (λ l. get_or l k false) c.with_field-three.ensures.value ∙ at_first k h)
     (λ k h. ap (λ n. get_or (bits_of 52 n) k false) c.loop-group.invariant.second ∙ columns_at bits 3 m (omega arith) end k h) in
-    let at_third = field_more F c.with_field-seven.result 91 52 c.loop-group.columns.third
-    (omega (arith, c.with_field-eleven.ensures.length))
+    let at_third = field_more F c.with_field-seven.result 91 52 c.loop-group.columns.third (omega
+    (arith, c.with_field-eleven.ensures.length))
     (λ k h. ap (λ l. get_or l k false) c.with_field-seven.ensures.value ∙ at_second k h)
     (λ k h. ap (λ n. get_or (bits_of 52 n) k false) c.loop-group.invariant.third ∙ columns_at bits 7 m (omega arith) end k h) in
-    let at_fourth = field_more F c.with_field-eleven.result 143 52 c.loop-group.columns.fourth
-    (omega (arith, c.with_field.ensures.length))
+    let at_fourth = field_more F c.with_field-eleven.result 143 52 c.loop-group.columns.fourth (omega
+    (arith, c.with_field.ensures.length))
     (λ k h. ap (λ l. get_or l k false) c.with_field-eleven.ensures.value ∙ at_third k h)
     (λ k h. ap (λ n. get_or (bits_of 52 n) k false) c.loop-group.invariant.fourth ∙ columns_at bits 11 m (omega arith) end k h) in
     record { cells = λ k h. ap (λ l. get_or l k false) c.with_field.ensures.value ∙ at_fourth k (omega arith) }

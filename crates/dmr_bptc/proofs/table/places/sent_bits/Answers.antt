@@ -1,5 +1,5 @@
-use Rattle.std.proofs.Common.{◌≡◌, ℕ, ◌+◌, ◌-◌, ◌*◌, ◌/◌, ◌%◌, ◌^◌, ◌<◌, Bool, List, cond, false, length}
-use Rattle.std.proofs.Common.{get_or, ext_get_or, refl, sym}
+use Rattle.std.proofs.Common.{◌≡◌, ℕ, ◌+◌, ◌-◌, ◌*◌, ◌/◌, ◌%◌, ◌^◌, ◌<◌, Bool, List, cond, false, length, get_or, ext_get_or, refl}
+use Rattle.std.proofs.Common.{sym}
 use Rattle.std.proofs.Common.{◌∙◌, ap, subst, arith, mod-lt, lit<}
 use Rattle.std.proofs.lemmas.List.{get_or-replicate}
 use Rattle.dmr_bits.specs.Bits.{bits_of}
@@ -15,9 +15,9 @@ use Rattle.dmr_bptc.proofs.table.places.sent_bits.Goals as goal
 pub loop-column-init : goal.loop-column-init
 loop-column-init c =
     let start : 3 * c.loop-group.group ≡ 3 * c.loop-group.group + 0 = omega arith in
-    subst (λ (k : ℕ). AreLines c.cells_of-cells.result k c.loop-group.first c.loop-group.second c.loop-group.third
-    c.loop-group.last)
-    start c.loop-group.invariant
+    let P : ℕ → Type 0 =
+    λ k. AreLines c.cells_of-cells.result k c.loop-group.first c.loop-group.second c.loop-group.third c.loop-group.last in
+    subst P start c.loop-group.invariant
 
 pub loop-column-preserved : goal.loop-column-preserved
 loop-column-preserved c =
@@ -57,12 +57,12 @@ returns c =
     ap (λ l. get_or l k false) c.zero.ensures.value ∙ get_or-replicate 196 k false false (omega arith) ∙ sym (first_laid rows)
     ∙ ap F (sym none))
     (λ k h. ap (λ n. get_or (bits_of 60 n) k false) c.loop-group.invariant.first ∙ lines_at rows cells is 0 9 m refl end k h) in
-    let at_second = field_more F c.with_field-four.result 61 60 c.loop-group.second
-    (omega (arith, c.with_field-eight.ensures.length))
+    let at_second = field_more F c.with_field-four.result 61 60 c.loop-group.second (omega
+    (arith, c.with_field-eight.ensures.length))
     (λ k h. ap (λ l. get_or l k false) c.with_field-four.ensures.value ∙ at_first k h)
     (λ k h. ap (λ n. get_or (bits_of 60 n) k false) c.loop-group.invariant.second ∙ lines_at rows cells is 4 5 m refl end k h) in
-    let at_third = field_more F c.with_field-eight.result 121 60 c.loop-group.third
-    (omega (arith, c.with_field-twelve.ensures.length))
+    let at_third = field_more F c.with_field-eight.result 121 60 c.loop-group.third (omega
+    (arith, c.with_field-twelve.ensures.length))
     (λ k h. ap (λ l. get_or l k false) c.with_field-eight.ensures.value ∙ at_second k h)
     (λ k h. ap (λ n. get_or (bits_of 60 n) k false) c.loop-group.invariant.third ∙ lines_at rows cells is 8 1 m refl end k h) in
     let at_last = field_more F c.with_field-twelve.result 181 15 c.loop-group.last (omega (arith, c.with_field.ensures.length))

@@ -12,8 +12,8 @@ loop-row-preserved c =
     record {
       long = length-set c.loop-row.rows r n ∙ c.loop-row.invariant.long;
       small = small_more c.loop-row.rows r n c.field.ensures.bound c.loop-row.invariant.small;
-      cells = row_bits_more c.args.bits.now c.loop-row.rows r n
-          (omega (arith, c.loop-row.invariant.long)) c.loop-row.invariant.cells
+      cells = row_bits_more c.args.bits.now c.loop-row.rows r n (omega
+          (arith, c.loop-row.invariant.long)) c.loop-row.invariant.cells
           (λ k h. let line : (15 * r + k) / 15 ≡ r = omega arith in
           let across : (15 * r + k) % 15 ≡ k = omega arith in
           field_at c.received_cells-cells.result (15 * r) 15 n k (omega (arith, c.field.ensures.length)) c.field.ensures.value h
