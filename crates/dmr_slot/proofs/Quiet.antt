@@ -1,6 +1,8 @@
 -- Lines around which all is silent.
-use Rattle.std.proofs.Common.{◌≡◌, ℕ, zero, suc, ◌+◌, ◌-◌, ◌<◌, ◌≤◌, List, [], ◌∷◌, ◌++◌, length, drop, replicate, Option, None, refl, sym, subst, ◌∙◌, ap, arith}
-use Rattle.std.proofs.lemmas.List.{append-nil, append_assoc, length-append, length-drop, length-replicate, replicate-append-replicate}
+use Rattle.std.proofs.Common.{◌≡◌, ℕ, zero, suc, ◌+◌, ◌-◌, ◌<◌, ◌≤◌, List, [], ◌∷◌, ◌++◌, length, drop, replicate}
+use Rattle.std.proofs.Common.{Option, None, refl, sym, subst, ◌∙◌, ap, arith}
+use Rattle.std.proofs.lemmas.List.{append-nil, append_assoc, length-append, length-drop, length-replicate}
+use Rattle.std.proofs.lemmas.List.{replicate-append-replicate}
 use Rattle.dmr_link.specs.declared.full_lc.FullLc.{FullLc}
 use Rattle.dmr_voice.specs.Hearing.{Hears}
 use Rattle.dmr_voice.specs.Rules.{step_of, nothing}
@@ -22,8 +24,8 @@ all_silent window e = silent_front e.front window e.places e.six
 
 window_long : (silent : ℕ) (window : List Heard) → EndsSilent silent window → length window ≡ 6
 window_long silent window e =
-    ap length e.places ∙ length-append e.front (replicate silent silence) ∙ ap (λ n. length e.front + n) (length-replicate silent silence)
-    ∙ e.six
+    ap length e.places ∙ length-append e.front (replicate silent silence)
+    ∙ ap (λ n. length e.front + n) (length-replicate silent silence) ∙ e.six
 
 moved_long : (window : List Heard) (heard : Heard) → length window ≡ 6 → length (moved window heard) + 0 ≡ 6
 moved_long window heard long =
@@ -62,13 +64,15 @@ still_six window e = record {
 }
 
 -- as long as the places that are kept.
-pub ends_kept : (silent : ℕ) (window : List Heard) → 6 ≤ silent → EndsSilent silent window → EndsSilent silent (moved window silence)
+pub ends_kept : (silent : ℕ) (window : List Heard) → 6 ≤ silent → EndsSilent silent window
+    → EndsSilent silent (moved window silence)
 ends_kept silent window all e =
     let six : silent ≡ 6 = (let s = e.six in omega arith) in
     subst (λ n. EndsSilent n (moved window silence)) (sym six) (still_six window (subst (λ n. EndsSilent n window) six e))
 
 -- Where all are silent there is no call.
-pub step_silent : (colour : ℕ) (state : Track) (carried : Option FullLc) → step_of colour state (replicate 6 silence) carried ≡ nothing
+pub step_silent : (colour : ℕ) (state : Track) (carried : Option FullLc)
+    → step_of colour state (replicate 6 silence) carried ≡ nothing
 step_silent colour Idle carried = refl
 step_silent colour (AfterHeader header) carried = refl
 step_silent colour (Gap header) carried = refl
@@ -79,8 +83,8 @@ step_silent colour (InCall D call superframe) carried = refl
 step_silent colour (InCall E call superframe) carried = refl
 step_silent colour (InCall F call superframe) carried = refl
 
-pub state_silent : (colour silent : ℕ) (state next : Track) (window : List Heard) (carried : Option FullLc) → EndsSilent silent window
-    → next ≡ (step_of colour state window carried).1 → silent ≡ 6 → next ≡ Idle
+pub state_silent : (colour silent : ℕ) (state next : Track) (window : List Heard) (carried : Option FullLc)
+    → EndsSilent silent window → next ≡ (step_of colour state window carried).1 → silent ≡ 6 → next ≡ Idle
 state_silent colour silent state next window carried e steps six =
     steps ∙ ap (λ places. (step_of colour state places carried).1) (all_silent window (subst (λ n. EndsSilent n window) six e))
     ∙ ap (λ (step : Said × Track). step.1) (step_silent colour state carried)

@@ -1,5 +1,6 @@
 -- The CACHs of four records, one for each fragment of a message.
-use Rattle.std.proofs.Common.{◌≡◌, ℕ, zero, suc, ◌%◌, ◌<◌, ◌==◌, Bool, List, [], ◌∷◌, length, slice_index_or, if◌then◌else◌, ap, subst, arith}
+use Rattle.std.proofs.Common.{◌≡◌, ℕ, zero, suc, ◌%◌, ◌<◌, ◌==◌, Bool, List, [], ◌∷◌, length, slice_index_or}
+use Rattle.std.proofs.Common.{if◌then◌else◌, ap, subst, arith}
 use Rattle.std.proofs.lemmas.List.{get_or_default}
 use Rattle.dmr_bits.specs.Bits.{bits_of_octets}
 use Rattle.dmr_burst.specs.Cach.{IsCach}
