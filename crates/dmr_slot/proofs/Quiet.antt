@@ -1,6 +1,6 @@
 -- Lines around which all is silent.
-use Rattle.std.proofs.Common.{◌≡◌, ℕ, zero, suc, ◌+◌, ◌-◌, ◌<◌, ◌≤◌, List, [], ◌∷◌, ◌++◌, length, drop}
-use Rattle.std.proofs.Common.{replicate, Option, None, refl, sym, subst, ◌∙◌, ap, arith}
+use Rattle.std.proofs.Common.{◌≡◌, ℕ, zero, suc, ◌+◌, ◌-◌, ◌<◌, ◌≤◌, List, [], ◌∷◌, ◌++◌, length, drop, replicate}
+use Rattle.std.proofs.Common.{Option, None, refl, sym, subst, ◌∙◌, ap, arith}
 use Rattle.std.proofs.lemmas.List.{append-nil, append_assoc, length-append, length-drop, length-replicate}
 use Rattle.std.proofs.lemmas.List.{replicate-append-replicate}
 use Rattle.dmr_link.specs.declared.full_lc.FullLc.{FullLc}
@@ -25,8 +25,7 @@ all_silent window e = silent_front e.front window e.places e.six
 window_long : (silent : ℕ) (window : List Heard) → EndsSilent silent window → length window ≡ 6
 window_long silent window e =
     ap length e.places ∙ length-append e.front (replicate silent silence)
-    ∙ ap (λ n. length e.front + n) (length-replicate silent silence)
-    ∙ e.six
+    ∙ ap (λ n. length e.front + n) (length-replicate silent silence) ∙ e.six
 
 moved_long : (window : List Heard) (heard : Heard) → length window ≡ 6 → length (moved window heard) + 0 ≡ 6
 moved_long window heard long =
@@ -85,8 +84,7 @@ step_silent colour (InCall E call superframe) carried = refl
 step_silent colour (InCall F call superframe) carried = refl
 
 pub state_silent : (colour silent : ℕ) (state next : Track) (window : List Heard) (carried : Option FullLc)
-    → EndsSilent silent window
-    → next ≡ (step_of colour state window carried).1 → silent ≡ 6 → next ≡ Idle
+    → EndsSilent silent window → next ≡ (step_of colour state window carried).1 → silent ≡ 6 → next ≡ Idle
 state_silent colour silent state next window carried e steps six =
     steps ∙ ap (λ places. (step_of colour state places carried).1) (all_silent window (subst (λ n. EndsSilent n window) six e))
     ∙ ap (λ (step : Said × Track). step.1) (step_silent colour state carried)
