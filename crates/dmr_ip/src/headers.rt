@@ -38,7 +38,12 @@ pub(crate) fn address(group: bool, llid: u32) -> u32
 }
 
 /// The IPv4 header of a datagram of `total` octets, with its checksum.
-pub(crate) fn ip_header(total: u16, identification: u16, source: u32, destination: u32) -> [u8; IP_HEADER]
+pub(crate) fn ip_header(
+    total: u16,
+    identification: u16,
+    source: u32,
+    destination: u32,
+) -> [u8; IP_HEADER]
     ensures value { let sum = ip_checksum total identification source destination in
         result ≡ ip_header sum total identification source destination }
 {
