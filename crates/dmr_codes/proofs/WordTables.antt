@@ -1,12 +1,13 @@
 -- Tables of words: each entry is a word, and what is told of the wrong information is right.
-use Rattle.std.proofs.Common.{◌≡◌, ℕ, ◌+◌, ◌-◌, ◌/◌, ◌%◌, ◌^◌, ◌<◌, ◌≤◌, ◌==◌, ◌&&◌, Bool, true, false, zero, suc, List}
+use Rattle.std.proofs.Common.{◌≡◌, ℕ, ◌+◌, ◌-◌, ◌*◌, ◌/◌, ◌%◌, ◌^◌, ◌<◌, ◌≤◌, ◌==◌, ◌&&◌, Bool, true, false, zero, suc, List}
 use Rattle.std.proofs.Common.{[], ◌∷◌, length, get_or, take, drop, refl, sym, ap, ◌∙◌, arith, bit_xor, eqb-true, subst, mod-lt}
 use Rattle.std.specs.List.{list_all, range_with_len}
 use Rattle.std.specs.Prelude.{nat_lt}
 use Rattle.std.proofs.lemmas.Bool.{and_parts, both_ways, ltb-true}
 use Rattle.std.proofs.lemmas.List.Folds.{list_all_at}
 use Rattle.std.proofs.lemmas.List.FromFn.{length-range_with_len, get_or-range_with_len}
-use Rattle.std.proofs.lemmas.Nat.{xor_comm, xor_lt, xor_shr, shr_below, pow_pos}
+use Rattle.std.proofs.Math.Nat.{mul_comm, div-add-mod'}
+use Rattle.std.proofs.lemmas.Nat.{xor_comm, xor_lt, xor_shr, xor_block, shr_below, pow_pos}
 use Rattle.std.proofs.lemmas.Nat.Bits.{bit_at_xor, bit_at-zero}
 use Rattle.std.specs.Int.Bits.{xor_assoc, xor_self, xor_zero_l}
 use Rattle.dmr_bits.specs.Bits.{bits_of, number_of, xor_bits, weight, distance}
@@ -16,7 +17,7 @@ use Rattle.dmr_bits.proofs.Numbers.{bits_of_xor, bits_of_same}
 use Rattle.dmr_bits.proofs.Widths.{bits_of-take}
 use Rattle.dmr_codes.specs.Code.{ones_over, IsWord, IsShaped}
 use Rattle.dmr_codes.specs.Words.{IsWord-xor, information_first}
-use Rattle.dmr_codes.specs.WordTables.{failed_checks, are_words, left_of, tells}
+use Rattle.dmr_codes.specs.WordTables.{failed_checks, are_words, are_words_each, left_of, tells}
 use Rattle.dmr_codes.proofs.Loops.{word_at_zero}
 
 -- ---- tests of all numbers below one
@@ -38,21 +39,29 @@ failed_bit j (c ∷ cs) [] = omega (arith, bit_at-zero j)
 failed_bit j (c ∷ cs) (true ∷ w) = omega (arith, bit_at_xor c (failed_checks cs w) j, failed_bit j cs w)
 failed_bit j (c ∷ cs) (false ∷ w) = omega (arith, failed_bit j cs w)
 
-pub word_at : (n k : ℕ) (cs words : List ℕ) (i : ℕ) → IsShaped n k cs → are_words n k cs words ≡ true → i < 2 ^ k
-    → IsWord cs (n - k) (bits_of n (get_or words i 0))
-word_at n k cs words i shaped are h =
+pub each_word : (n k step count : ℕ) (cs words : List ℕ) (i : ℕ) → IsShaped n k cs → are_words_each n k step count cs words ≡ true
+    → i < count → IsWord cs (n - k) (bits_of n (get_or words i 0))
+each_word n k step count cs words i shaped are h =
     let w : ℕ = get_or words i 0 in
-    let both = and_parts _ _ (all_below (λ i. (get_or words i 0 / 2 ^ (n - k) == i)
-    && (failed_checks cs (bits_of n (get_or words i 0)) == 0)) (2 ^ k) i are h) in
+    let both = and_parts _ _ (all_below (λ i. (get_or words i 0 / 2 ^ (n - k) == step * i)
+    && (failed_checks cs (bits_of n (get_or words i 0)) == 0)) count i are h) in
     word_at_zero n k (failed_checks cs (bits_of n w)) cs (bits_of n w) shaped (length-bits_of n w) (λ j. failed_bit j cs (bits_of n w))
     (eqb-true _ _ both.1)
 
-pub information_at : (n k : ℕ) (cs words : List ℕ) (i : ℕ) → are_words n k cs words ≡ true → i < 2 ^ k
-    → get_or words i 0 / 2 ^ (n - k) ≡ i
-information_at n k cs words i are h =
-    let both = and_parts _ _ (all_below (λ i. (get_or words i 0 / 2 ^ (n - k) == i)
-    && (failed_checks cs (bits_of n (get_or words i 0)) == 0)) (2 ^ k) i are h) in
+pub each_information : (n k step count : ℕ) (cs words : List ℕ) (i : ℕ) → are_words_each n k step count cs words ≡ true → i < count
+    → get_or words i 0 / 2 ^ (n - k) ≡ step * i
+each_information n k step count cs words i are h =
+    let both = and_parts _ _ (all_below (λ i. (get_or words i 0 / 2 ^ (n - k) == step * i)
+    && (failed_checks cs (bits_of n (get_or words i 0)) == 0)) count i are h) in
     eqb-true _ _ both.0
+
+pub word_at : (n k : ℕ) (cs words : List ℕ) (i : ℕ) → IsShaped n k cs → are_words n k cs words ≡ true → i < 2 ^ k
+    → IsWord cs (n - k) (bits_of n (get_or words i 0))
+word_at n k cs words i shaped are h = each_word n k 1 (2 ^ k) cs words i shaped are h
+
+information_at : (n k : ℕ) (cs words : List ℕ) (i : ℕ) → are_words n k cs words ≡ true → i < 2 ^ k
+    → get_or words i 0 / 2 ^ (n - k) ≡ i
+information_at n k cs words i are h = each_information n k 1 (2 ^ k) cs words i are h ∙ omega arith
 
 -- the information of n bits
 pub front_of : (n k number : ℕ) → k ≤ n → take k (bits_of n number) ≡ bits_of k (number / 2 ^ (n - k))
@@ -206,3 +215,44 @@ looked_up n k reach number first second third size cs words wrong w r found shap
     whole ∙ ap (bits_of n) (three ∙ ap (λ x. get_or words (bit_xor (number / 2 ^ (n - k)) x) 0) told)
     ∙ nearest_is n k reach cs words wrong w r number shaped are tell
     (λ i h. fit_at (2 ^ n) words i fits (omega (arith, count, h))) long (bits_of_field n r number long is) small word near
+
+-- ---- a word as the sum of two
+sum_front : (hi lo low : ℕ) → lo < 2 ^ low → bit_xor (2 ^ low * hi) (1 * lo) ≡ hi * 2 ^ low + lo
+sum_front hi lo low h =
+    let first : 2 ^ low * hi ≡ hi * 2 ^ low + 0 = omega (arith, mul_comm (2 ^ low) hi) in
+    let second : 1 * lo ≡ 0 * 2 ^ low + lo = omega arith in
+    rw (first, second) (xor_block low hi 0 0 lo (pow_pos low) h ∙ ap (λ x. x * 2 ^ low + bit_xor 0 lo) (xor_comm hi 0 ∙ xor_zero_l hi)
+    ∙ ap (λ x. hi * 2 ^ low + x) (xor_zero_l lo))
+
+pub sum_word : (n k low number : ℕ) (cs upper lower : List ℕ) → IsShaped n k cs
+    → are_words_each n k (2 ^ low) (2 ^ (k - low)) cs upper ≡ true → are_words_each n k 1 (2 ^ low) cs lower ≡ true
+    → number / 2 ^ low < 2 ^ (k - low)
+    → IsWord cs (n - k) (bits_of n (bit_xor (get_or upper (number / 2 ^ low) 0) (get_or lower (number % 2 ^ low) 0)))
+sum_word n k low number cs upper lower shaped high rest h =
+    let a : ℕ = get_or upper (number / 2 ^ low) 0 in
+    let b : ℕ = get_or lower (number % 2 ^ low) 0 in
+    subst (IsWord cs (n - k)) (sym (bits_of_xor n a b))
+    (IsWord-xor cs (n - k) (bits_of n a) (bits_of n b)
+    (each_word n k (2 ^ low) (2 ^ (k - low)) cs upper (number / 2 ^ low) shaped high h)
+    (each_word n k 1 (2 ^ low) cs lower (number % 2 ^ low) shaped rest (mod-lt number (pow_pos low))))
+
+pub sum_information : (n k low number : ℕ) (cs upper lower : List ℕ) → IsShaped n k cs
+    → are_words_each n k (2 ^ low) (2 ^ (k - low)) cs upper ≡ true → are_words_each n k 1 (2 ^ low) cs lower ≡ true
+    → number / 2 ^ low < 2 ^ (k - low)
+    → take k (bits_of n (bit_xor (get_or upper (number / 2 ^ low) 0) (get_or lower (number % 2 ^ low) 0))) ≡ bits_of k number
+sum_information n k low number cs upper lower shaped high rest h =
+    let a : ℕ = get_or upper (number / 2 ^ low) 0 in
+    let b : ℕ = get_or lower (number % 2 ^ low) 0 in
+    let small : number % 2 ^ low < 2 ^ low = mod-lt number (pow_pos low) in
+    front_of n k (bit_xor a b) shaped.information
+    ∙ ap (bits_of k)
+    (xor_shr a b (n - k)
+    ∙ ap (λ x. bit_xor x (b / 2 ^ (n - k))) (each_information n k (2 ^ low) (2 ^ (k - low)) cs upper (number / 2 ^ low) high h)
+    ∙ ap (bit_xor (2 ^ low * (number / 2 ^ low))) (each_information n k 1 (2 ^ low) cs lower (number % 2 ^ low) rest small)
+    ∙ sum_front (number / 2 ^ low) (number % 2 ^ low) low small
+    ∙ div-add-mod' number (2 ^ low))
+
+pub high_small : (k low number : ℕ) → low ≤ k → number < 2 ^ k → number / 2 ^ low < 2 ^ (k - low)
+high_small k low number h small =
+    let whole : k - low + low ≡ k = omega arith in
+    shr_below number (k - low) low (rw whole small)

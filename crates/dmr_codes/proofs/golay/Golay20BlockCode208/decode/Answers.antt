@@ -1,5 +1,5 @@
 use Rattle.dmr_codes.specs.Seven.{golay20_columns, golay20_shaped}
-use Rattle.dmr_codes.proofs.SmallCodes.{golay20_words, golay20_tells}
+use Rattle.dmr_codes.proofs.AllWords.{golay20_words, golay20_tells}
 use Rattle.dmr_codes.proofs.golay.Golay20BlockCode208.decode.Goals as goal
 
 pub returns-clause-within : goal.returns-clause-within

@@ -1,5 +1,5 @@
 use Rattle.dmr_codes.specs.Seven.{residue16_columns, residue16_shaped}
-use Rattle.dmr_codes.proofs.SmallCodes.{residue16_words, residue16_tells}
+use Rattle.dmr_codes.proofs.AllWords.{residue16_words, residue16_tells}
 use Rattle.dmr_codes.proofs.residue.Residue16BlockCode167.decode.Goals as goal
 
 pub returns-clause-within : goal.returns-clause-within

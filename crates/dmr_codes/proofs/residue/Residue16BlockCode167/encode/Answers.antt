@@ -1,5 +1,5 @@
 use Rattle.dmr_codes.specs.Seven.{residue16_columns, residue16_shaped}
-use Rattle.dmr_codes.proofs.SmallCodes.{residue16_words}
+use Rattle.dmr_codes.proofs.AllWords.{residue16_words}
 use Rattle.dmr_codes.proofs.residue.Residue16BlockCode167.encode.Goals as goal
 
 pub returns-clause-word : goal.returns-clause-word
