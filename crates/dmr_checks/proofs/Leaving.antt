@@ -1,6 +1,6 @@
 -- Several bits at once: what leaves the register is added as one remainder.
-use Rattle.std.proofs.Common.{◌≡◌, ℕ, zero, suc, ◌+◌, ◌-◌, ◌*◌, ◌/◌, ◌%◌, ◌^◌, ◌≤◌, ◌<◌, ◌==◌, Bool, true, false, List, [], ◌∷◌, ◌++◌}
-use Rattle.std.proofs.Common.{length, refl, sym, ◌∙◌, ap, arith, replicate, get_or, eqb-true, take, drop}
+use Rattle.std.proofs.Common.{◌≡◌, ℕ, zero, suc, ◌+◌, ◌-◌, ◌*◌, ◌/◌, ◌%◌, ◌^◌, ◌≤◌, ◌<◌, ◌==◌, Bool, true, false, List}
+use Rattle.std.proofs.Common.{[], ◌∷◌, ◌++◌, length, refl, sym, ◌∙◌, ap, arith, replicate, get_or, eqb-true, take, drop}
 use Rattle.std.specs.List.{list_all, range_with_len}
 use Rattle.std.specs.Prelude.{bit_xor}
 use Rattle.std.proofs.Math.Nat.{pow-le-pow_right}
@@ -154,10 +154,12 @@ few d w low n narrow h =
     ∙ ap (run binary_field L Z) octet
 
 -- a number's bits by their front and their rest
-pub front_and_rest : (d w register : ℕ) → w ≤ d → bits_of d register ≡ bits_of w (register / 2 ^ (d - w)) ++ bits_of (d - w) register
+pub front_and_rest : (d w register : ℕ) → w ≤ d
+    → bits_of d register ≡ bits_of w (register / 2 ^ (d - w)) ++ bits_of (d - w) register
 front_and_rest d w register wide =
     let whole : d ≡ w + (d - w) = omega arith in
-    sym (take-append-drop w (bits_of d register)) ∙ ap (λ x. x ++ drop w (bits_of d register)) (bits_of-take w (d - w) d register whole)
+    sym (take-append-drop w (bits_of d register))
+    ∙ ap (λ x. x ++ drop w (bits_of d register)) (bits_of-take w (d - w) d register whole)
     ∙ ap (λ x. bits_of w (register / 2 ^ (d - w)) ++ x) (bits_of-drop w (d - w) d register whole)
 
 rest_moved : (d w register : ℕ) → w ≤ d → bits_of (d - w) register ++ replicate w false ≡ bits_of d (register * 2 ^ w)

@@ -11,8 +11,8 @@ use Rattle.std.proofs.lemmas.Nat.{xor_comm, xor_lt, xor_shr, xor_block, shr_belo
 use Rattle.std.proofs.lemmas.Nat.Bits.{bit_at_xor, bit_at-zero}
 use Rattle.std.specs.Int.Bits.{xor_assoc, xor_self, xor_zero_l}
 use Rattle.dmr_bits.specs.Bits.{bits_of, number_of, xor_bits, weight, distance}
-use Rattle.dmr_bits.proofs.Lists.{length-bits_of, length-xor_bits, xor_bits_twice, bits_of_spelled, number_of-lt, number_of-cons, weight-cons}
-use Rattle.dmr_bits.proofs.Lists.{bits_of_field}
+use Rattle.dmr_bits.proofs.Lists.{length-bits_of, length-xor_bits, xor_bits_twice, bits_of_spelled, number_of-lt, number_of-cons}
+use Rattle.dmr_bits.proofs.Lists.{weight-cons, bits_of_field}
 use Rattle.dmr_bits.proofs.Numbers.{bits_of_xor, bits_of_same}
 use Rattle.dmr_bits.proofs.Widths.{bits_of-take}
 use Rattle.dmr_codes.specs.Code.{ones_over, IsWord, IsShaped}
@@ -45,7 +45,8 @@ each_word n k step count cs words i shaped are h =
     let w : ℕ = get_or words i 0 in
     let both = and_parts _ _ (all_below (λ i. (get_or words i 0 / 2 ^ (n - k) == step * i)
     && (failed_checks cs (bits_of n (get_or words i 0)) == 0)) count i are h) in
-    word_at_zero n k (failed_checks cs (bits_of n w)) cs (bits_of n w) shaped (length-bits_of n w) (λ j. failed_bit j cs (bits_of n w))
+    word_at_zero n k (failed_checks cs (bits_of n w)) cs (bits_of n w) shaped (length-bits_of n w)
+    (λ j. failed_bit j cs (bits_of n w))
     (eqb-true _ _ both.1)
 
 pub each_information : (n k step count : ℕ) (cs words : List ℕ) (i : ℕ) → are_words_each n k step count cs words ≡ true → i < count
@@ -102,7 +103,8 @@ entry_xor n k cs words i j shaped are fit h l =
     let below : bit_xor i j < 2 ^ k = xor_lt k i j h l in
     let word : IsWord cs (n - k) (bits_of n (bit_xor a b)) =
     subst (IsWord cs (n - k)) (sym (bits_of_xor n a b))
-    (IsWord-xor cs (n - k) (bits_of n a) (bits_of n b) (word_at n k cs words i shaped are h) (word_at n k cs words j shaped are l)) in
+    (IsWord-xor cs (n - k) (bits_of n a) (bits_of n b) (word_at n k cs words i shaped are h)
+    (word_at n k cs words j shaped are l)) in
     let entry : get_or words (bit_xor a b / 2 ^ (n - k)) 0 < 2 ^ n = rw front (fit (bit_xor i j) below) in
     entry_is n k cs words (bit_xor a b) shaped are small entry word ∙ ap (λ x. get_or words x 0) front
 
@@ -123,14 +125,14 @@ told n k words wrong front zero (b ∷ e) t h =
     no_ones (true ∷ e) h = absurd (omega (arith, weight-cons true e))
     no_ones (false ∷ e) h = omega (arith, number_of-cons false e, no_ones e (omega (arith, weight-cons false e)))
 told n k words wrong front (suc ones) (true ∷ e) t h =
-    let both = and_parts (tells n k words wrong (length e) front (suc ones)) (tells n k words wrong (length e) (front + 2 ^ length e) ones)
-    t in
+    let both = and_parts (tells n k words wrong (length e) front (suc ones))
+    (tells n k words wrong (length e) (front + 2 ^ length e) ones) t in
     let few : weight e ≤ ones = omega (arith, weight-cons true e) in
     let sum : front + number_of (true ∷ e) ≡ front + 2 ^ length e + number_of e = omega (arith, number_of-cons true e) in
     rw sum (told n k words wrong (front + 2 ^ length e) ones e both.1 few)
 told n k words wrong front (suc ones) (false ∷ e) t h =
-    let both = and_parts (tells n k words wrong (length e) front (suc ones)) (tells n k words wrong (length e) (front + 2 ^ length e) ones)
-    t in
+    let both = and_parts (tells n k words wrong (length e) front (suc ones))
+    (tells n k words wrong (length e) (front + 2 ^ length e) ones) t in
     let few : weight e ≤ suc ones = omega (arith, weight-cons false e) in
     let sum : front + number_of (false ∷ e) ≡ front + number_of e = omega (arith, number_of-cons false e) in
     rw sum (told n k words wrong front (suc ones) e both.0 few)
@@ -167,7 +169,8 @@ nearest_is n k reach cs words wrong w r number shaped are tell fit long spelled 
     ∙ sym (ap (xor_bits (bits_of n W)) E_is)
     ∙ sym (bits_of_xor n W E)) in
     let front : number / 2 ^ (n - k) ≡ bit_xor i j = ap (λ x. x / 2 ^ (n - k)) sum ∙ xor_shr W E (n - k) in
-    let entry : W ≡ get_or words i 0 = entry_is n k cs words W shaped are W_small (fit i hi) (subst (IsWord cs (n - k)) (sym W_is) word) in
+    let entry : W ≡ get_or words i 0 =
+    entry_is n k cs words W shaped are W_small (fit i hi) (subst (IsWord cs (n - k)) (sym W_is) word) in
     let V : ℕ = get_or words j 0 in
     let other : get_or words (number / 2 ^ (n - k)) 0 ≡ bit_xor W V =
     ap (λ x. get_or words x 0) front ∙ sym (entry_xor n k cs words i j shaped are fit hi hj) ∙ ap (λ x. bit_xor x V) (sym entry) in
@@ -221,7 +224,8 @@ sum_front : (hi lo low : ℕ) → lo < 2 ^ low → bit_xor (2 ^ low * hi) (1 * l
 sum_front hi lo low h =
     let first : 2 ^ low * hi ≡ hi * 2 ^ low + 0 = omega (arith, mul_comm (2 ^ low) hi) in
     let second : 1 * lo ≡ 0 * 2 ^ low + lo = omega arith in
-    rw (first, second) (xor_block low hi 0 0 lo (pow_pos low) h ∙ ap (λ x. x * 2 ^ low + bit_xor 0 lo) (xor_comm hi 0 ∙ xor_zero_l hi)
+    rw (first, second) (xor_block low hi 0 0 lo (pow_pos low) h
+    ∙ ap (λ x. x * 2 ^ low + bit_xor 0 lo) (xor_comm hi 0 ∙ xor_zero_l hi)
     ∙ ap (λ x. hi * 2 ^ low + x) (xor_zero_l lo))
 
 pub sum_word : (n k low number : ℕ) (cs upper lower : List ℕ) → IsShaped n k cs

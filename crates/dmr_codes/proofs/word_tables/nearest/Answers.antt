@@ -66,8 +66,8 @@ returns-then-distance-reach-clause-only g c = λ columns shaped are tell w word 
     (looked_up g.row.N g.row.K c.args.reach c.field-number.result c.from.result c.from-2.result c.from-3.result
     (1 * 2 ^ m % 18446744073709551616) columns c.args.words.now c.args.wrong.now w c.args.received.now c.with_field-word.result
     shaped are tell c.requires.words_fit (c.told-words ∙ c.requires.words_count) c.field-number.ensures.length
-    c.field-number.ensures.value c.field-number.ensures.bound (shift_is m few) c.from.ensures c.from-2.ensures c.from-3.ensures whole
-    word near)
+    c.field-number.ensures.value c.field-number.ensures.bound (shift_is m few) c.from.ensures c.from-2.ensures c.from-3.ensures
+    whole word near)
 
 pub returns-else-distance-reach-clause-only : goal.returns-else-distance-reach-clause-only
 returns-else-distance-reach-clause-only g c = λ columns shaped are tell w word near.
@@ -79,7 +79,7 @@ returns-else-distance-reach-clause-only g c = λ columns shaped are tell w word 
     looked_up g.row.N g.row.K c.args.reach c.field-number.result c.from.result c.from-2.result c.from-3.result
     (1 * 2 ^ m % 18446744073709551616) columns c.args.words.now c.args.wrong.now w c.args.received.now c.with_field-word.result
     shaped are tell c.requires.words_fit (c.told-words ∙ c.requires.words_count) c.field-number.ensures.length
-    c.field-number.ensures.value c.field-number.ensures.bound (shift_is m few) c.from.ensures c.from-2.ensures c.from-3.ensures whole
-    word near in
+    c.field-number.ensures.value c.field-number.ensures.bound (shift_is m few) c.from.ensures c.from-2.ensures c.from-3.ensures
+    whole word near in
     let close : distance c.with_field-word.result c.args.received.now ≤ c.args.reach = rw same near in
     absurd (omega (arith, close, c.distance.ensures.value, c.if-distance-reach.false))

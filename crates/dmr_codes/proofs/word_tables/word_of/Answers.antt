@@ -11,7 +11,8 @@ returns-clause-word g c = λ columns shaped are.
     let i : ℕ = c.field.result in
     let small : i < 2 ^ g.row.K = rw c.len-width.ensures.value at c.field.ensures.bound in
     let whole : c.with_field.result ≡ bits_of g.row.N (get_or c.args.words.now i 0) =
-    c.with_field.ensures.value ∙ rw c.zero.ensures.value (whole_field g.row.N c.from.result) ∙ ap (bits_of g.row.N) c.from.ensures in
+    c.with_field.ensures.value ∙ rw c.zero.ensures.value (whole_field g.row.N c.from.result)
+    ∙ ap (bits_of g.row.N) c.from.ensures in
     subst (IsWord columns _) (sym whole) (word_at g.row.N g.row.K columns c.args.words.now i shaped are small)
 
 pub returns-clause-information : goal.returns-clause-information
@@ -19,7 +20,8 @@ returns-clause-information g c = λ columns shaped are.
     let i : ℕ = c.field.result in
     let small : i < 2 ^ g.row.K = rw c.len-width.ensures.value at c.field.ensures.bound in
     let whole : c.with_field.result ≡ bits_of g.row.N (get_or c.args.words.now i 0) =
-    c.with_field.ensures.value ∙ rw c.zero.ensures.value (whole_field g.row.N c.from.result) ∙ ap (bits_of g.row.N) c.from.ensures in
+    c.with_field.ensures.value ∙ rw c.zero.ensures.value (whole_field g.row.N c.from.result)
+    ∙ ap (bits_of g.row.N) c.from.ensures in
     rw whole
     (front_at g.row.N g.row.K columns c.args.words.now i shaped are small
     ∙ bits_of_field g.row.K c.args.information.now i c.field.ensures.length (rw c.len-width.ensures.value at c.field.ensures.value))

@@ -11,7 +11,8 @@ pub offset_bounds-self-leaving : goal.offset_bounds-self-leaving
 offset_bounds-self-leaving c =
     let d : ℕ = c.args.self.now.degree in
     let wide : c.args.width ≤ d = omega (arith, c.requires.narrow, c.args.self.now.degree_fits.0) in
-    let fits = leaving_octet d c.args.width c.args.register c.args.number wide c.requires.narrow c.requires.register c.requires.number in
+    let fits = leaving_octet d c.args.width c.args.register c.args.number wide c.requires.narrow c.requires.register
+    c.requires.number in
     omega arith
 
 pub bounds-self-leaving : goal.bounds-self-leaving
