@@ -1,9 +1,8 @@
 -- Corrections, one row or column after the other, and that there is one.
 use Rattle.std.proofs.Common.{◌≡◌, ℕ, ◌+◌, ◌≤◌, ◌<◌, ◌≢◌, Bool, true, false, List, length, refl, sym, ◌∙◌, ap, subst, arith, get_or}
-use Rattle.std.proofs.Common.{ext_get_or, inl, inr, Some}
+use Rattle.std.proofs.Common.{ext_get_or, inl, inr}
 use Rattle.std.proofs.lemmas.Bool.{cases_eq, cases_lt}
 use Rattle.dmr_bits.specs.Bits.{distance}
-use Rattle.dmr_bits.proofs.Lists.{distance_zero}
 use Rattle.dmr_codes.specs.Seven.{IsHamming13, IsHamming15}
 use Rattle.dmr_bptc.specs.Table.{cell, row, column}
 use Rattle.dmr_bptc.specs.Decoding.{IsCorrected}
@@ -67,20 +66,6 @@ one_correction P old a b long first second =
       | inr near ↦ absurd (differ (first.word w is near ∙ sym (second.word w is near)))
     ] in
     differ (first.same beyond ∙ sym (second.same beyond))))
-
--- What is decoded as it is received is corrected as it is.
-pub unchanged : (P : List Bool → Type 0) (old w : List Bool) → length w ≡ length old → (0 < distance w old → ⊥)
-    → ((v : List Bool) → P v → distance v old ≤ 1 → Some w ≡ Some v) → IsCorrected P old old
-unchanged P old w long near only =
-    let same : w ≡ old = distance_zero w old long (omega (arith, near)) in
-    record {
-      word = λ v is close. (let e : Some w ≡ Some v = only v is close in let f : w ≡ v = cc in sym same ∙ f);
-      same = λ none. refl;
-    }
-
--- What is decoded as it is received is a word.
-pub word_as_received : (P : List Bool → Type 0) (old w : List Bool) → length w ≡ length old → (0 < distance w old → ⊥) → P w → P old
-word_as_received P old w long near is = subst P (distance_zero w old long (omega (arith, near))) is
 
 -- Columns that are corrected in a table with the cells that were received.
 pub from_received : (bits table middle : List Bool) → ((r c : ℕ) → r < 13 → c < 15 → cell table r c ≡ cell bits r c)

@@ -64,10 +64,7 @@ fn correct_column(bits: &mut Table, column_number: usize) -> bool
     let Some(word) = Hamming13::decode(&received) else {
         return false;
     };
-    // Most are words as they are received.
-    if word.distance(&received) > 0 {
-        write_column(bits, column_number, &word);
-    }
+    write_column(bits, column_number, &word);
     true
 }
 

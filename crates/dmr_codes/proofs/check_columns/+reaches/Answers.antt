@@ -1,7 +1,6 @@
-use Rattle.std.proofs.Common.{◌≡◌, ℕ, ◌+◌, ◌-◌, ◌/◌, ◌%◌, ◌^◌, ◌<◌, List, Bool, length, length-set, get_or, take, not, false, arith}
-use Rattle.std.proofs.Common.{◌∙◌, sym}
+use Rattle.std.proofs.Common.{◌≡◌, ℕ, ◌+◌, ◌-◌, ◌<◌, List, length, length-set, get_or, take, not, false, arith}
+use Rattle.std.proofs.Common.{◌∙◌}
 use Rattle.std.proofs.lemmas.List.{take_all}
-use Rattle.dmr_bits.specs.Bits.{distance}
 use Rattle.dmr_codes.specs.Seek.{IsFar, turned}
 use Rattle.dmr_codes.proofs.Flips.{not_far, far_more, tied_turned}
 use Rattle.dmr_codes.proofs.check_columns.+reaches.Goals as goal

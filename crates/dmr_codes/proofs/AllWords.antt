@@ -1,0 +1,37 @@
+-- The tables of words, each by one computation over all of them.
+use Rattle.std.proofs.Common.{◌≡◌, ◌-◌, ◌^◌, true, refl}
+use Rattle.dmr_codes.specs.Seven.{golay20_columns, residue16_columns, hamming15_columns, hamming16_columns, hamming17_columns}
+use Rattle.dmr_codes.specs.WordTables.{are_words, are_words_each, tells}
+use Rattle.dmr_codes.specs.declared.golay.TheConstants as golay
+use Rattle.dmr_codes.specs.declared.hamming.TheConstants as hamming
+use Rattle.dmr_codes.specs.declared.residue.TheConstants as residue
+
+pub golay20_words : are_words 20 8 golay20_columns golay.WORDS ≡ true
+golay20_words = refl
+
+pub golay20_tells : tells 20 8 golay.WORDS golay.WRONG 20 0 3 ≡ true
+golay20_tells = refl
+
+pub residue16_words : are_words 16 7 residue16_columns residue.WORDS ≡ true
+residue16_words = refl
+
+pub residue16_tells : tells 16 7 residue.WORDS residue.WRONG 16 0 2 ≡ true
+residue16_tells = refl
+
+pub hamming15_upper : are_words_each 15 11 (2 ^ 5) (2 ^ (11 - 5)) hamming15_columns hamming.UPPER_15 ≡ true
+hamming15_upper = refl
+
+pub hamming15_lower : are_words_each 15 11 1 (2 ^ 5) hamming15_columns hamming.LOWER_15 ≡ true
+hamming15_lower = refl
+
+pub hamming16_upper : are_words_each 16 11 (2 ^ 5) (2 ^ (11 - 5)) hamming16_columns hamming.UPPER_16 ≡ true
+hamming16_upper = refl
+
+pub hamming16_lower : are_words_each 16 11 1 (2 ^ 5) hamming16_columns hamming.LOWER_16 ≡ true
+hamming16_lower = refl
+
+pub hamming17_upper : are_words_each 17 12 (2 ^ 6) (2 ^ (12 - 6)) hamming17_columns hamming.UPPER_17 ≡ true
+hamming17_upper = refl
+
+pub hamming17_lower : are_words_each 17 12 1 (2 ^ 6) hamming17_columns hamming.LOWER_17 ≡ true
+hamming17_lower = refl
