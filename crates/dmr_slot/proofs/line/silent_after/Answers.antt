@@ -1,8 +1,7 @@
-use Rattle.std.proofs.Common.{◌≡◌, ◌+◌, List, subst, sym, refl}
-use Rattle.dmr_voice.specs.Slots.{silence}
+use Rattle.std.proofs.Common.{◌+◌, subst, sym}
 use Rattle.dmr_voice.specs.declared.heard.Heard.{Heard}
 use Rattle.dmr_slot.specs.Push.{EndsSilent, moved}
-use Rattle.dmr_slot.proofs.Quiet.{ends_none, ends_more, ends_kept}
+use Rattle.dmr_slot.proofs.Quiet.{ends_none, ends_more}
 use Rattle.dmr_slot.proofs.line.silent_after.Goals as goal
 
 pub returns-in-Some : goal.returns-in-Some

@@ -1,0 +1,92 @@
+//! The embedded fields of a superframe, which its places from B to E carry in turn.
+ghost use Rattle.std.specs.Prelude.{◌≡◌, ◌<◌, ◌^◌, All, length, slice_index_or};
+ghost use Rattle.dmr_voice.specs.Bursts.{IsCarrier};
+ghost use Rattle.dmr_voice.specs.Places.{field_number};
+
+use crate::place::Place;
+use dmr_embedded::embed;
+use dmr_link::FullLc;
+use std::marker::Model;
+
+/// A link control and the four fields that carry it, which are worked out once for as long as it stays.
+#[derive(Drop)]
+pub struct Carrier {
+    link_control: FullLc,
+    fields: [u32; 4],
+}
+
+// Clauses see the link control.
+impl Model for Carrier {
+    ghost use Rattle.dmr_link.specs.declared.full_lc.FullLc.{FullLc};
+    ghost use Rattle.dmr_voice.specs.Bursts.{IsCarrier};
+
+    ghost Value = { FullLc };
+
+    ghost view = { λ c. c.link_control };
+
+    ghost invariant = { λ c. IsCarrier c.link_control c.fields };
+}
+
+/// The field that a place from B to E has among four.
+fn pick_field(fields: &[u32; 4], place: Place) -> u32
+    ensures field { result ≡ slice_index_or fields.now (field_number place) 0 }
+    ensures four { length fields.now ≡ 4 }
+    ensures narrow { All (λ field. field < 2 ^ 32) fields.now }
+{
+    fields[place.field_number()]
+}
+
+/// The four fields that carry a link control.
+fn fields_of(link_control: &FullLc) -> [u32; 4]
+    requires fit { link_control.now.flco < 64 }
+    ensures carrier { IsCarrier link_control.now result }
+{
+    let fields = embed(&link_control.octets());
+    // The proof learns here that they are four numbers of 32 bits.
+    let _first = pick_field(&fields, Place::B);
+    fields
+}
+
+impl Carrier {
+    ghost use Rattle.std.specs.Prelude.{◌≡◌, ◌<◌, Some};
+    ghost use Rattle.dmr_voice.specs.Bursts.{IsField};
+
+    /// That of a link control.
+    fn of(link_control: FullLc) -> Self
+        requires fit { link_control.flco < 64 }
+        ensures link_control { result ≡ link_control }
+    {
+        Carrier {
+            link_control,
+            fields: fields_of(&link_control),
+        }
+    }
+
+    /// That of the link control that is all zero.
+    pub(crate) fn new() -> Self {
+        Carrier::of(FullLc {
+            protect: false,
+            reserved: false,
+            flco: 0,
+            fid: 0,
+            body: [0; 7],
+        })
+    }
+
+    /// Is that of a link control from now on.
+    pub(crate) fn take(&mut self, link_control: FullLc)
+        requires fit { link_control.flco < 64 }
+        ensures link_control { self.new ≡ link_control }
+    {
+        if self.link_control != link_control {
+            *self = Carrier::of(link_control);
+        }
+    }
+
+    /// The field of a place from B to E.
+    pub(crate) fn field(&self, place: Place) -> u32
+        ensures field { IsField place (Some self.now) result }
+    {
+        pick_field(&self.fields, place)
+    }
+}
