@@ -1,1 +1,4 @@
+pub mod Listings
+pub mod OutgoingListings
 pub mod Places
+pub mod ReceivedListings

@@ -1,8 +1,13 @@
 pub mod Activity
 pub mod Contents
+pub mod Endings
 pub mod Entries
 pub mod Fragments
 pub mod Lines
+pub mod Listings
+pub mod OutgoingListings
+pub mod ReceivedListings
+pub mod Recordings
 pub mod Summaries
 pub mod VoicePlace
 pub mod Wrong

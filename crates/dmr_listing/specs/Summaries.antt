@@ -13,6 +13,9 @@ is_unreadable reading = false
 abbrev pub more : Bool → ℕ → ℕ
 more holds count = min (count + (if holds then 1 else 0)) (2 ^ 32 - 1)
 
+abbrev pub none_counted : BurstCounts
+none_counted = record { slot_1 = 0; slot_2 = 0; unreadable = 0 }
+
 -- the counts with this line
 abbrev pub counted : BurstLine → BurstCounts → BurstCounts
 counted line counts = record {

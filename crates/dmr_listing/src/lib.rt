@@ -7,11 +7,15 @@
 //! the readers that a run stands on. Octets that came over the air are printed as digits, never as text. `RecordingSummary` is the
 //! last line of a listing, of what `BurstCounts` counts line by line, and `FaultLine` tells where a file is at fault.
 //!
+//! `list_recording`, `list_outgoing` and `list_received` go through a whole file behind its head, and give the lines one by one to
+//! whoever takes them (`BurstLines`, `OutgoingLines`, `ReceivedLines`), in constant memory.
+//!
 //! Contracts say what a line shows (`specs/Lines.antt`): by which place follows (`specs/VoicePlace.antt`, and what a place means
 //! over all that a slot was read as), what a burst of a type holds (`specs/Contents.antt`), what four frames carry
 //! (`specs/Fragments.antt`), what a CACH announces (`specs/Activity.antt`), which bits are wrong (`specs/Wrong.antt`), and what is
-//! counted (`specs/Summaries.antt`). What the texts are is left open by them, and is tested. No command lists a whole file yet;
-//! `specs/Entries.antt` says which lines that has, and where each record begins.
+//! counted (`specs/Summaries.antt`). Of a whole file they say that each burst or record has a line, in order and once, and that a
+//! fault is told exactly where the octets show it (`specs/Recordings.antt` and `Listings`, `OutgoingListings`, `ReceivedListings`;
+//! `laws` has the places of the lines). What the texts are is left open by them, and is tested. No command lists a file yet.
 #![tactic(auto)]
 
 mod activity;
@@ -26,8 +30,13 @@ mod fault_line;
 mod fragments;
 pub mod laws;
 mod link_control;
+mod listing;
+mod outgoing_listing;
 mod place;
+mod received_listing;
 mod record_line;
+mod recording;
+mod recording_view;
 mod slot_view;
 mod summary;
 mod voice_place;
@@ -37,8 +46,12 @@ pub use activity::Activity;
 pub use burst_line::BurstLine;
 pub use contents::Contents;
 pub use fault_line::FaultLine;
+pub use listing::{BurstLines, ListingEnd, list_recording};
+pub use outgoing_listing::{OutgoingLines, list_outgoing};
 pub use place::Place;
+pub use received_listing::{ReceivedLines, list_received};
 pub use record_line::{OutgoingLine, ReceivedLine};
+pub use recording::{RecordedBurst, Recording};
 pub use slot_view::SlotView;
 pub use summary::{BurstCounts, RecordingSummary};
 pub use voice_place::{VoicePlace, VoicePlaces};

@@ -2,15 +2,16 @@
 use crate::control_block::ControlBlock;
 use crate::link_control::LinkControl;
 use crate::{
-    BurstCounts, FaultLine, OutgoingLine, Place, ReceivedLine, RecordingSummary, SlotView,
-    VoicePlace, VoicePlaces,
+    BurstCounts, BurstLine, BurstLines, FaultLine, ListingEnd, OutgoingLine, Place, ReceivedLine,
+    RecordedBurst, Recording, RecordingSummary, SlotView, VoicePlace, VoicePlaces, list_recording,
 };
 use dmr_burst::{Emb, Side};
 use dmr_csbk::Csbk;
 use dmr_link::FullLc;
-use dmr_record::{FromRead, Received, ReceivedKind, RecordFault, read_outgoing};
+use dmr_record::{DeviceFault, FromRead, Received, ReceivedKind, RecordFault, read_outgoing};
 use dmr_report::Reading;
 use hex::FromHex;
+use std::fmt::Write;
 use std::test::Fail;
 
 /// A voice burst with embedded signalling.
@@ -277,5 +278,87 @@ fn lines_of_lists(rt: HostRuntime) -> Result<(), Fail> {
     };
     let want = "     0.36       6 1  status from 3, 4 octets: port 1 -> 2, status 5";
     assert_eq!(rt; format!(in rt.alloc(); "{line}")?.as_str(), want);
+    Ok(())
+}
+
+/// Lines of bursts in the order in which they come, as text, and the faults of whoever takes them.
+#[derive(Drop)]
+struct Taken {
+    text: String,
+    room: usize,
+    is_failed: bool,
+}
+
+impl BurstLines for Taken {
+    ghost use Rattle.std.specs.Prelude.{None};
+
+    ghost given = { λ taken. None };
+
+    ghost has_failed = { λ taken. taken.is_failed };
+
+    fn put(&mut self, _burst: &RecordedBurst, line: &BurstLine) -> Result<(), DeviceFault> {
+        if self.room == 0 || writeln!(self.text, "{line}").is_err() {
+            self.is_failed = true;
+            return Err(DeviceFault);
+        }
+        self.room -= 1;
+        Ok(())
+    }
+}
+
+/// The burst of the sample `one_csbk`.
+const CSBK: &str = "0062008201900100042004E004CD5D7F77FD757AC81800280250028000C0120022";
+
+#[test]
+fn listings_of_recordings(rt: HostRuntime) -> Result<(), Fail> {
+    let burst = <[u8; 33] as FromHex>::from_hex(CSBK)?;
+    let mut octets = Vec::new(rt.alloc());
+    octets.push(1)?;
+    octets.extend_from_slice(&burst)?;
+    octets.push(0)?;
+    let line = "     0.00       0 1  MS   1  CSBK          opcode 0, fid 0, 0000000000000000\n";
+    let whole = RecordingSummary {
+        frames: 1,
+        bursts: BurstCounts {
+            slot_1: 1,
+            slot_2: 0,
+            unreadable: 0,
+        },
+    };
+    let cut = FaultLine {
+        fault: RecordFault::CutRecord,
+        octet: 8,
+        place: Some(Place { frame: 0, slot: 1 }),
+    };
+    let half = FaultLine {
+        fault: RecordFault::HalfFrame,
+        octet: 42,
+        place: Some(Place { frame: 0, slot: 2 }),
+    };
+    for (count, room, want, text) in [
+        (
+            0,
+            9,
+            Ok(RecordingSummary {
+                frames: 0,
+                bursts: BurstCounts::default(),
+            }),
+            "",
+        ),
+        (12, 9, Err(ListingEnd::File(cut)), ""),
+        (34, 9, Err(ListingEnd::File(half)), line),
+        (35, 9, Ok(whole), line),
+        (35, 0, Err(ListingEnd::Output), ""),
+    ] {
+        let mut source = FromRead::new(octets.get(..count).unwrap_or(&[]));
+        let mut taken = Taken {
+            text: String::new(rt.alloc()),
+            room,
+            is_failed: false,
+        };
+        let answer = list_recording(&mut source, Recording::Uplink, &mut taken);
+        assert!(rt; answer == want, "of {count} octets");
+        assert_eq!(rt; taken.text.as_str(), text);
+    }
     Ok(())
 }

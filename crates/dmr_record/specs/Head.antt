@@ -2,6 +2,9 @@
 use Rattle.std.specs.Prelude.{◌≡◌, ◌≢◌, ℕ, ◌<◌, List, [], ◌∷◌, ◌++◌, length, take, drop}
 use Rattle.dmr_record.specs.declared.fault.RecordFault.{RecordFault}
 use Rattle.dmr_record.specs.declared.fault.RecordFault.TheVariants.{Magic, Version, CutRecord, Read}
+use Rattle.dmr_record.specs.declared.head.FileFormat.{FileFormat}
+use Rattle.dmr_record.specs.declared.head.FileFormat.TheVariants.{Uplink, Downlink, Outgoing, Received}
+use Rattle.dmr_record.specs.declared.head.TheConstants.{UPLINK_MAGIC, DOWNLINK_MAGIC, OUTGOING_MAGIC, RECEIVED_MAGIC}
 
 -- what stands behind the magic of each file
 abbrev pub version : List ℕ
@@ -19,3 +22,16 @@ ShowsHeadFault magic Read octets = length octets < 8
 ShowsHeadFault magic Magic octets = (length octets ≡ 8) × (take 4 octets ≢ magic)
 ShowsHeadFault magic Version octets = (length octets ≡ 8) × (take 4 octets ≡ magic) × (drop 4 octets ≢ version)
 ShowsHeadFault magic e octets = ⊥
+
+-- what a file of this format begins with
+abbrev pub magic_of : FileFormat → List ℕ
+magic_of Uplink = UPLINK_MAGIC
+magic_of Downlink = DOWNLINK_MAGIC
+magic_of Outgoing = OUTGOING_MAGIC
+magic_of Received = RECEIVED_MAGIC
+
+-- These octets, taken in place of the head of a file of any format, show this fault: that of a version in place of one of the
+-- heads, and any other in place of each.
+abbrev pub ShowsAnyHeadFault : RecordFault → List ℕ → Type 0
+ShowsAnyHeadFault Version octets = (format : FileFormat) × ShowsHeadFault (magic_of format) Version octets
+ShowsAnyHeadFault e octets = (format : FileFormat) → ShowsHeadFault (magic_of format) e octets

@@ -1,5 +1,5 @@
 -- The uplink file: what its octets spell, and what faults they show.
-use Rattle.std.specs.Prelude.{◌≡◌, ◌≢◌, ℕ, ◌<◌, ◌≤◌, List, [], ◌∷◌, ◌++◌, Option, Some, None, length}
+use Rattle.std.specs.Prelude.{◌≡◌, ◌≢◌, ℕ, ◌%◌, ◌<◌, ◌≤◌, List, [], ◌∷◌, ◌++◌, Option, Some, None, length}
 use Rattle.std.specs.List.{AllByRecursion, flat_map}
 use Rattle.dmr_record.specs.declared.head.TheConstants.{UPLINK_MAGIC}
 use Rattle.dmr_record.specs.declared.fault.RecordFault.{RecordFault}
@@ -69,3 +69,15 @@ ShowsFault limit before HalfFrame octets = (before < limit)
     × (slot : Slot) × IsSilenceOrBurst slot × (octets ≡ slot_octets slot)
 ShowsFault limit before Read octets = (limit ≤ before → octets ≡ []) × EndsInSlot Read octets
 ShowsFault limit before e octets = (before < limit) × EndsInSlot e octets
+
+-- the most slots that an uplink file has: two for each of its 1,048,576 frames
+abbrev pub most_uplink_slots : ℕ
+most_uplink_slots = 2097152
+
+-- These octets, taken as the front of a slot with so many slots before it, show this fault. Past the limit one
+-- octet does, whatever it is, and behind slot 1 of a frame none does.
+abbrev pub ShowsUplinkSlotFault : ℕ → ℕ → RecordFault → List ℕ → Type 0
+ShowsUplinkSlotFault limit before TooLong octets = (limit ≤ before) × (length octets ≡ 1)
+ShowsUplinkSlotFault limit before HalfFrame octets = (before % 2 ≡ 1) × (octets ≡ [])
+ShowsUplinkSlotFault limit before Read octets = (limit ≤ before → octets ≡ []) × ShowsSlotFault Read octets
+ShowsUplinkSlotFault limit before e octets = (before < limit) × ShowsSlotFault e octets

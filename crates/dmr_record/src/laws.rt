@@ -4,8 +4,8 @@
 //! no choice: a text that begins with a record has no fault, and no text has two faults. This leaves `Read`
 //! out, which a device has and no text.
 
-ghost use Rattle.std.specs.Prelude.{◌≡◌, ◌≢◌, ℕ, ◌+◌, ◌%◌, ◌<◌, ◌≤◌, List, ◌++◌, Option, length};
-ghost use Rattle.std.specs.List.{AllByRecursion};
+ghost use Rattle.std.specs.Prelude.{◌≡◌, ◌≢◌, ℕ, ◌+◌, ◌*◌, ◌%◌, ◌<◌, ◌≤◌, List, ◌++◌, Option, length};
+ghost use Rattle.std.specs.List.{AllByRecursion, flat_map};
 ghost use Rattle.dmr_record.specs.declared.fault.RecordFault.{RecordFault};
 ghost use Rattle.dmr_record.specs.Downlink.{Sent, IsSent, sent_octets, downlink_octets, downlink_file, ShowsDownlinkFault};
 ghost use Rattle.dmr_record.specs.Faults.{HasFault};
@@ -17,6 +17,7 @@ ghost use Rattle.dmr_record.specs.Received.{Fields, IsReadable, Follows, fields_
 ghost use Rattle.dmr_record.specs.Received as received;
 ghost use Rattle.dmr_record.specs.Spelling.{IsPrefixCode};
 ghost use Rattle.dmr_record.specs.Uplink.{Frame, IsFrame, frame_octets, frames_octets, uplink_file, ShowsFault};
+ghost use Rattle.dmr_record.specs.Uplink.{Slot, IsSilenceOrBurst, slot_octets, ShowsUplinkSlotFault};
 
 /// An uplink file is that of one list of frames.
 pub fn uplink_has_one_reading()
@@ -65,7 +66,15 @@ pub fn uplink_faults()
         → HasFault (ShowsFault limit before) (frames_octets frames) e → e ≡ RecordFault.Read }
 {}
 
-/// The same of the records of an outgoing file, whose frames don't decrease.
+/// A fault of a slot of an uplink file is that of its frame: read slot by slot a file shows the fault that it shows frame by frame.
+pub fn uplink_slot_faults()
+    ensures frame { (limit before : ℕ) (slots : List Slot) (part : List ℕ) (e : RecordFault)
+        → length slots < 2 → AllByRecursion IsSilenceOrBurst slots → (length slots ≡ 1 → before < limit)
+        → ShowsUplinkSlotFault (2 * limit) (2 * before + length slots) e part
+        → ShowsFault limit before e (flat_map slot_octets slots ++ part) }
+{}
+
+/// What `uplink_faults` says of frames, of the records of an outgoing file, whose frames don't decrease.
 pub fn outgoing_faults()
     ensures none { (limit before last : ℕ) (s : Sending) (rest : List ℕ) (e : RecordFault)
         → IsSending s → before < limit → last ≤ s.frame

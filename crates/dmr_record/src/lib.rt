@@ -27,7 +27,8 @@ pub use device::{DeviceFault, FromRead, Sink, Source, ToWrite};
 pub use downlink::{SLOT_LIMIT, read_slot, write_slot};
 pub use fault::RecordFault;
 pub use head::{
-    DOWNLINK_MAGIC, OUTGOING_MAGIC, RECEIVED_MAGIC, UPLINK_MAGIC, read_head, write_head,
+    DOWNLINK_MAGIC, FileFormat, OUTGOING_MAGIC, RECEIVED_MAGIC, UPLINK_MAGIC, read_any_head,
+    read_head, write_head,
 };
 pub use octets::{DATAGRAM_LIMIT, Octets};
 pub use outgoing::{Outgoing, RECORD_LIMIT, read_outgoing};
@@ -35,4 +36,4 @@ pub use received::{
     OCTET_LIMIT, RECEIVED_LIMIT, Received, ReceivedKind, read_received, write_received,
 };
 pub use transfer::put;
-pub use uplink::{FRAME_LIMIT, read_frame};
+pub use uplink::{FRAME_LIMIT, read_frame, read_uplink_slot};

@@ -1,9 +1,10 @@
 //! The uplink file, frame by frame.
 
-ghost use Rattle.std.specs.Prelude.{◌≡◌, ◌<◌, [], ◌∷◌, List, ℕ, false, true, IfOk, IfErr, OnOk, IfSome, IfNone};
+ghost use Rattle.std.specs.Prelude.{◌≡◌, ◌%◌, ◌<◌, [], ◌∷◌, List, ℕ, false, true, IfOk, IfErr, OnOk, IfSome, IfNone};
 ghost use Rattle.std.specs.Io.KnownBytes.{Consumes, IsAtEnd};
 ghost use Rattle.dmr_record.specs.Faults.{is_of_end, is_device_fault};
 ghost use Rattle.dmr_record.specs.Uplink.{IsSilenceOrBurst, IsFrame, ShowsSlotFault, ShowsFault, slot_tag, slot_body, frame_octets};
+ghost use Rattle.dmr_record.specs.Uplink.{ShowsUplinkSlotFault, most_uplink_slots, slot_octets};
 
 use crate::device::Source;
 use crate::fault::RecordFault;
@@ -12,6 +13,9 @@ use crate::transfer::{fill, read_octet};
 
 /// How many frames an uplink file has at most.
 pub const FRAME_LIMIT: u32 = 1 << 20;
+
+/// How many slots an uplink file has at most: two for each frame.
+const UPLINK_SLOT_LIMIT: u32 = 2 * FRAME_LIMIT;
 
 /// Reads the rest of a slot that begins with this tag.
 fn read_slot<S: Source>(source: &mut S, tag: u8) -> Result<Option<[u8; 33]>, RecordFault>
@@ -75,4 +79,42 @@ pub fn read_frame<S: Source>(
     };
     let second = read_slot(source, tag)?;
     Ok(Some([first, second]))
+}
+
+/// Reads the next slot of an uplink file behind its head: silence or a burst. It answers `None` at the end of the
+/// source, where that is behind slot 2 of a frame or the head.
+///
+/// `before` is the number of slots that were read before it. A slot past those of `FRAME_LIMIT` frames is `TooLong`
+/// as soon as its first octet is there, whatever that is. What it tells of a slot, `read_frame` tells of its frame.
+pub fn read_uplink_slot<S: Source>(
+    source: &mut S,
+    before: u32,
+) -> Result<Option<Option<[u8; 33]>>, RecordFault>
+    requires well { S.has_failed source.old ≡ false }
+    // A slot is what the octets taken spell.
+    ensures slot { IfOk result (λ found. IfSome found (λ slot. (before < most_uplink_slots) × IsSilenceOrBurst slot
+        × Consumes (S.left source.old) (S.left source.new) (slot_octets slot))) }
+    // There is none only at the end, behind whole frames.
+    ensures end { IfOk result (λ found. IfNone found ((before % 2 ≡ 0)
+        × Consumes (S.left source.old) (S.left source.new) [] × IsAtEnd (S.left source.new))) }
+    ensures well { OnOk result (S.has_failed source.new ≡ false) }
+    // A fault is shown by the octets taken, all of this slot.
+    ensures fault { IfErr result (λ e. (taken : List ℕ) × Consumes (S.left source.old) (S.left source.new) taken
+        × ShowsUplinkSlotFault most_uplink_slots before e taken) }
+    ensures cut { IfErr result (λ e. is_of_end e ≡ true → IsAtEnd (S.left source.new)) }
+    // `Read` is told exactly where the device failed.
+    ensures device { IfErr result (λ e. S.has_failed source.new ≡ is_device_fault e) }
+{
+    let Some(tag) = read_octet(source)? else {
+        return if before % 2 == 0 {
+            Ok(None)
+        } else {
+            Err(RecordFault::HalfFrame)
+        };
+    };
+    if before >= UPLINK_SLOT_LIMIT {
+        return Err(RecordFault::TooLong);
+    }
+    let slot = read_slot(source, tag)?;
+    Ok(Some(slot))
 }

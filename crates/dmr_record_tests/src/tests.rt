@@ -32,6 +32,22 @@ fn heads(rt: HostRuntime) {
 }
 
 #[test]
+fn heads_of_any_file(rt: HostRuntime) {
+    let cases: [(&[u8], Result<FileFormat, RecordFault>); 6] = [
+        (b"DMRU\x01\0\0\0", Ok(FileFormat::Uplink)),
+        (b"DMRD\x01\0\0\0", Ok(FileFormat::Downlink)),
+        (b"DMRO\x01\0\0\0", Ok(FileFormat::Outgoing)),
+        (b"DMRI\x01\0\0\0", Ok(FileFormat::Received)),
+        (b"DMRX\x02\0\0\0", Err(RecordFault::Magic)),
+        (b"DMRI\x02\0\0\0", Err(RecordFault::Version)),
+    ];
+    for (octets, want) in cases {
+        let answer = read_any_head(&mut FromRead::new(octets));
+        assert!(rt; answer == want, "of {octets:?}");
+    }
+}
+
+#[test]
 fn written_heads(rt: HostRuntime) -> std::io::Result<()> {
     let cases: [([u8; 4], &[u8]); 4] = [
         (UPLINK_MAGIC, b"DMRU\x01\0\0\0"),
@@ -75,6 +91,21 @@ fn frames(rt: HostRuntime) {
     assert!(rt; read_frame(&mut slow, 0) == Ok(Some([Some(burst), None])));
     assert!(rt; read_frame(&mut slow, 1) == Ok(Some([None, None])));
     assert!(rt; read_frame(&mut slow, 2) == Ok(None));
+}
+
+#[test]
+fn uplink_slots(rt: HostRuntime) {
+    let octets = b"\0\x01abcdefghijklmnopqrstuvwxyz0123456\0";
+    let burst = *b"abcdefghijklmnopqrstuvwxyz0123456";
+    let mut source = FromRead::new(&octets[..]);
+    assert!(rt; read_uplink_slot(&mut source, 0) == Ok(Some(None)));
+    assert!(rt; read_uplink_slot(&mut source, 1) == Ok(Some(Some(burst))));
+    assert!(rt; read_uplink_slot(&mut source, 2) == Ok(Some(None)));
+    assert!(rt; read_uplink_slot(&mut source, 3) == Err(RecordFault::HalfFrame));
+    assert!(rt; read_uplink_slot(&mut source, 4) == Ok(None));
+    let mut endless = Silence;
+    assert!(rt; read_uplink_slot(&mut endless, 2_097_151) == Ok(Some(None)));
+    assert!(rt; read_uplink_slot(&mut endless, 2_097_152) == Err(RecordFault::TooLong));
 }
 
 #[test]

@@ -1,0 +1,81 @@
+-- What is listed of an outgoing list goes on, record by record.
+use Rattle.std.proofs.Common.{◌≡◌, ℕ, ◌+◌, ◌≤◌, List, [], ◌∷◌, ◌++◌, length, Option, refl, sym, ap, ◌∙◌, subst}
+use Rattle.std.proofs.Common.{arith, append-nil}
+use Rattle.std.proofs.ByRecursion.{All-push}
+use Rattle.std.proofs.lemmas.List.{length-append}
+use Rattle.std.proofs.lemmas.List.Concat.{flat_map-append}
+use Rattle.std.specs.Io.KnownBytes.{Consumes}
+use Rattle.std.proofs.KnownBytes.{Consumes-trans, Consumes-nil}
+use Rattle.dmr_record.specs.Outgoing.{AreInOrder, IsSending, Keeps, Sending, sending_octets, sending_of, sendings_octets}
+use Rattle.dmr_record.specs.declared.outgoing.Outgoing.{Outgoing}
+use Rattle.dmr_listing.specs.Entries.{octet_behind}
+use Rattle.dmr_listing.specs.Listings.{Gains}
+use Rattle.dmr_listing.specs.OutgoingListings.{AreReadOf, IsListed, IsReadOf, last_frame}
+use Rattle.dmr_listing.proofs.Listings.{Gains-none, Gains-trans}
+
+order_more : (last : ℕ) (sendings : List Sending) (next : Sending) → AreInOrder last sendings
+    → last_frame last sendings ≤ next.frame → AreInOrder last (sendings ++ next ∷ [])
+order_more last [] next order behind = (behind, tt)
+order_more last (s ∷ ss) next (first, rest) behind = (first, order_more s.frame ss next rest behind)
+
+pub last_more : (last : ℕ) (sendings : List Sending) (next : Sending) → last_frame last (sendings ++ next ∷ []) ≡ next.frame
+last_more last [] next = refl
+last_more last (s ∷ ss) next = last_more s.frame ss next
+
+reads_more : (sendings : List Sending) (reads : List Outgoing) (next : Sending) (read : Outgoing) → AreReadOf sendings reads
+    → IsReadOf next read → AreReadOf (sendings ++ next ∷ []) (reads ++ read ∷ [])
+reads_more [] reads next read none is_read = rw none (is_read, refl)
+reads_more (s ∷ ss) [] next read are_read is_read = absurd are_read
+reads_more (s ∷ ss) (r ∷ rs) next read (first, rest) is_read = (first, reads_more ss rs next read rest is_read)
+
+pub outgoing_none : (left : Option (List ℕ)) (given : Option (List Outgoing)) → IsListed [] [] left left given given
+outgoing_none left given = record {
+  each = tt;
+  order = tt;
+  octets = Consumes-nil left;
+  reads = [];
+  listed = refl;
+  given = Gains-none given;
+}
+
+pub outgoing_more : (sendings : List Sending) (datagram : List ℕ) (read : Outgoing) (a b c : Option (List ℕ))
+    (d e f : Option (List Outgoing)) → IsListed sendings [] a b d e → Keeps read datagram → IsSending (sending_of read datagram)
+    → last_frame 0 sendings ≤ read.frame → Consumes b c (sending_octets (sending_of read datagram)) → Gains e f (read ∷ [])
+    → IsListed (sendings ++ sending_of read datagram ∷ []) [] a c d f
+outgoing_more sendings datagram read a b c d e f listed keeps is_sending behind took given =
+    let next = sending_of read datagram in
+    let one : sendings_octets (sendings ++ next ∷ []) ≡ sendings_octets sendings ++ sending_octets next =
+    flat_map-append sending_octets sendings (next ∷ []) ∙ ap (λ l. sendings_octets sendings ++ l) (append-nil (sending_octets
+    next)) in
+    record {
+      each = All-push IsSending sendings next listed.each is_sending;
+      order = order_more 0 sendings next listed.order behind;
+      octets = subst (Consumes a c) (sym (append-nil (sendings_octets (sendings ++ next ∷ [])) ∙ one))
+          (Consumes-trans a b c _ _ (subst (Consumes a b) (append-nil (sendings_octets sendings)) listed.octets) took);
+      reads = listed.reads ++ read ∷ [];
+      listed = reads_more sendings listed.reads next read listed.listed (record { keeps = keeps; same = refl });
+      given = Gains-trans d e f listed.reads (read ∷ []) listed.given given;
+    }
+
+-- some octets more, and no line
+pub outgoing_part : (sendings : List Sending) (part : List ℕ) (a b c : Option (List ℕ)) (d e f : Option (List Outgoing))
+    → IsListed sendings [] a b d e → Consumes b c part → Gains e f [] → IsListed sendings part a c d f
+outgoing_part sendings part a b c d e f listed took given = record {
+  each = listed.each;
+  order = listed.order;
+  octets = Consumes-trans a b c _ part (subst (Consumes a b) (append-nil (sendings_octets sendings)) listed.octets) took;
+  reads = listed.reads;
+  listed = listed.listed;
+  given = subst (Gains d f) (append-nil listed.reads) (Gains-trans d e f listed.reads [] listed.given given);
+}
+
+-- the tag and the fields have nine octets
+sending_long : (s : Sending) → length (sending_octets s) ≡ 9 + length s.datagram
+sending_long s = omega arith
+
+pub outgoing_octets_more : (sendings : List Sending) (next : Sending) (octet : ℕ) → octet ≡ octet_behind sending_octets sendings
+    → octet + (9 + length next.datagram) ≡ octet_behind sending_octets (sendings ++ next ∷ [])
+outgoing_octets_more sendings next octet e =
+    let whole = ap length (flat_map-append sending_octets sendings (next ∷ []) ∙ ap (λ l. sendings_octets sendings ++ l)
+    (append-nil (sending_octets next))) in
+    omega (arith, e, whole, length-append (sendings_octets sendings) (sending_octets next), sending_long next)

@@ -1,0 +1,78 @@
+use Rattle.std.proofs.Common.{rules, ◌+◌, [], ◌∷◌, ◌++◌, None, Some, sym, ap, ◌∙◌, subst, arith}
+use Rattle.std.proofs.lemmas.List.{length_push}
+use Rattle.dmr_listing.specs.Listings.{IsListed, Turn}
+use Rattle.dmr_listing.proofs.Listings.{listed_burst, listed_part, listed_silence, octets_more}
+use Rattle.dmr_listing.proofs.listing.list_recording.Goals as goal
+
+pub loop-slot-preserved-in-None : goal.loop-slot-preserved-in-None
+loop-slot-preserved-in-None g c =
+    let inv = c.loop-slot.invariant in
+    let (slots, counted, octet, listed) = inv.so_far in
+    let (below, is_slot, read) = rw c.in-Ok-Some.field-0-is at c.in-Ok-Some.ensures.slot in
+    let silence = rw c.in-None.is at read in
+    let long = rw c.in-None.is at c.record_octets-octet.ensures.octets in
+    let short = c.record_octets-octet.ensures.few in
+    let before = c.slots.ensures.value in
+    let turn = c.pass.ensures.turn in
+    let later = ap (λ (t : Turn). t.slots) turn in
+    let more = length_push slots None in
+    let next = octets_more c.args.recording slots None c.loop-slot.octet octet in
+    record {
+      source = c.in-Ok-Some.ensures.well;
+      lines = inv.lines;
+      few = omega (arith, below, before, later);
+      room = omega (arith, inv.room, short, later);
+      so_far = (
+        slots ++ None ∷ [],
+        omega (arith, more, counted, later),
+        ap (λ n. c.loop-slot.octet + n) long ∙ next,
+        subst (λ (t : Turn). IsListed c.args.recording (slots ++ None ∷ []) [] t (g.S.Source.left c.args.source.now)
+            (g.S.Source.left c.read_recording.new.source) (g.L.BurstLines.given c.args.lines.now)
+            (g.L.BurstLines.given c.loop-slot.lines)) (sym turn)
+            (listed_silence c.args.recording slots c.loop-slot.view _ _ _ _ _ listed silence),
+      );
+    }
+
+pub returns-then-is_err-clause-output : goal.returns-then-is_err-clause-output
+returns-then-is_err-clause-output g c =
+    let (slots, counted, octet, listed) = c.loop-slot.invariant.so_far in
+    let (below, is_slot, read) = rw c.in-Ok-Some.field-0-is at c.in-Ok-Some.ensures.slot in
+    let burst = rw c.in-Some.is at read in
+    record {
+      slots = slots;
+      burst = c.in-Some.burst;
+      end = c.loop-slot.view;
+      before = listed_part c.args.recording slots _ c.loop-slot.view _ _ _ _ _ _ listed burst (search rules);
+    }
+
+pub loop-slot-preserved : goal.loop-slot-preserved
+loop-slot-preserved g c =
+    let inv = c.loop-slot.invariant in
+    let (slots, counted, octet, listed) = inv.so_far in
+    let (below, is_slot, read) = rw c.in-Ok-Some.field-0-is at c.in-Ok-Some.ensures.slot in
+    let spelled = rw c.in-Some.is at read in
+    let is_burst = rw c.in-Some.is at is_slot in
+    let long = rw c.in-Some.is at c.record_octets-octet.ensures.octets in
+    let short = c.record_octets-octet.ensures.few in
+    let before = c.slots.ensures.value in
+    let turn = c.line-line.ensures.turn in
+    let later = ap (λ (t : Turn). t.slots) turn in
+    let burst = c.in-Some.burst in
+    let more = length_push slots (Some burst) in
+    let next = octets_more c.args.recording slots (Some burst) c.loop-slot.octet octet in
+    record {
+      source = c.in-Ok-Some.ensures.well;
+      lines = search rules;
+      few = omega (arith, below, before, later);
+      room = omega (arith, inv.room, short, later);
+      so_far = (
+        slots ++ Some burst ∷ [],
+        omega (arith, more, counted, later),
+        ap (λ n. c.loop-slot.octet + n) long ∙ next,
+        subst (λ (t : Turn). IsListed c.args.recording (slots ++ Some burst ∷ []) [] t (g.S.Source.left c.args.source.now)
+            (g.S.Source.left c.read_recording.new.source) (g.L.BurstLines.given c.args.lines.now)
+            (g.L.BurstLines.given c.put.new.self)) (sym turn)
+            (listed_burst c.args.recording slots c.loop-slot.view burst c.line-line.result _ _ _ _ _ _ listed is_burst spelled
+            c.line-line.ensures.line (search rules)),
+      );
+    }

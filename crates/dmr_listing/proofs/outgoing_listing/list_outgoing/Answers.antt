@@ -1,0 +1,45 @@
+use Rattle.std.proofs.Common.{rules, ◌+◌, [], ◌∷◌, ◌++◌, ap, ◌∙◌, arith}
+use Rattle.std.proofs.lemmas.List.{length_push}
+use Rattle.dmr_record.specs.Outgoing.{Sending, sending_octets, sending_of}
+use Rattle.dmr_listing.proofs.OutgoingListings.{last_more, outgoing_more, outgoing_octets_more, outgoing_part}
+use Rattle.dmr_listing.proofs.outgoing_listing.list_outgoing.Goals as goal
+
+pub returns-then-is_err-clause-output : goal.returns-then-is_err-clause-output
+returns-then-is_err-clause-output g c =
+    let (sendings, counted, frame, octet, listed) = c.loop-record.invariant.so_far in
+    let (below, behind, whole) = rw c.in-Ok-Some.field-0-is at c.in-Ok-Some.ensures.sending in
+    let (datagram, keeps, is_sending, took) = whole in
+    let next : Sending = sending_of c.in-Ok-Some.record datagram in
+    record {
+      sendings = sendings;
+      next = next;
+      before = outgoing_part sendings (sending_octets next) _ _ _ _ _ _ listed took (search rules);
+    }
+
+pub loop-record-preserved : goal.loop-record-preserved
+loop-record-preserved g c =
+    let inv = c.loop-record.invariant in
+    let (sendings, counted, frame, octet, listed) = inv.so_far in
+    let (below, behind, whole) = rw c.in-Ok-Some.field-0-is at c.in-Ok-Some.ensures.sending in
+    let (datagram, keeps, is_sending, took) = whole in
+    let read = c.in-Ok-Some.record in
+    let next : Sending = sending_of read datagram in
+    let long = keeps.count in
+    let short = is_sending.datagram in
+    let from = c.from.ensures in
+    let more = length_push sendings next in
+    let begins = outgoing_octets_more sendings next c.loop-record.octet octet in
+    record {
+      source = c.in-Ok-Some.ensures.well;
+      lines = search rules;
+      few = omega (arith, below);
+      room = omega (arith, inv.room, from, long, short);
+      so_far = (
+        sendings ++ next ∷ [],
+        omega (arith, more, counted),
+        last_more 0 sendings next,
+        ap (λ n. c.loop-record.octet + (9 + n)) (from ∙ long) ∙ begins,
+        outgoing_more sendings datagram read _ _ _ _ _ _ listed keeps is_sending (omega (arith, frame, behind)) took (search
+            rules),
+      );
+    }

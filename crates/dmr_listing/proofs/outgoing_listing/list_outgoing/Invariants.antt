@@ -1,0 +1,22 @@
+-- The records so far were listed, and the next one begins at this octet.
+use Rattle.std.proofs.Common.{◌≡◌, ◌+◌, ◌*◌, ◌-◌, ◌≤◌, List, [], length, false}
+use Rattle.dmr_record.specs.Outgoing.{Sending, sending_octets}
+use Rattle.dmr_record.specs.declared.outgoing.TheConstants.{RECORD_LIMIT}
+use Rattle.dmr_listing.specs.Entries.{octet_behind}
+use Rattle.dmr_listing.specs.OutgoingListings.{IsListed, last_frame}
+use Rattle.dmr_listing.proofs.outgoing_listing.list_outgoing.Given as goal
+
+abbrev pub invariant-loop-record : goal.invariant-loop-record
+invariant-loop-record g l = record {
+  source : g.S.Source.has_failed l.source ≡ false;
+  lines : g.L.OutgoingLines.has_failed l.lines ≡ false;
+  few : l.count ≤ RECORD_LIMIT;
+  room : l.octet ≤ 8 + 65544 * l.count;
+  so_far : (sendings : List Sending) × (length sendings ≡ l.count) × (last_frame 0 sendings ≡ l.last)
+      × (l.octet ≡ octet_behind sending_octets sendings)
+      × IsListed sendings [] (g.S.Source.left l.initial.source) (g.S.Source.left l.source)
+      (g.L.OutgoingLines.given l.initial.lines) (g.L.OutgoingLines.given l.lines);
+}
+
+abbrev pub decreases-loop-record : goal.decreases-loop-record
+decreases-loop-record g l = RECORD_LIMIT - l.count

@@ -1,0 +1,54 @@
+use Rattle.std.proofs.Common.{rules, ◌≡◌, ◌+◌, ℕ, [], ◌∷◌, ◌++◌, Option, None, Some, take, sym, ap, ◌∙◌, subst, arith}
+use Rattle.std.proofs.lemmas.List.{length_push}
+use Rattle.dmr_record.specs.Received.{Fields, Follows, Receipt, fields_of, fields_read, kind_octet, last_read}
+use Rattle.dmr_record.specs.Received.{receipt_octets, receipt_of}
+use Rattle.dmr_record.specs.declared.received.Received.{Received}
+use Rattle.dmr_listing.specs.ReceivedListings.{last_fields}
+use Rattle.dmr_listing.proofs.ReceivedListings.{last_more, received_more, received_octets_more, received_part}
+use Rattle.dmr_listing.proofs.received_listing.list_received.Goals as goal
+
+-- the fields of a record that was read, with this count
+abbrev fields : Received → ℕ → Fields
+fields r count = record { frame = r.frame; slot = r.slot; kind = kind_octet r.kind; source = r.source; count = count }
+
+pub returns-then-is_err-clause-output : goal.returns-then-is_err-clause-output
+returns-then-is_err-clause-output g c =
+    let (receipts, counted, last, octet, listed) = c.loop-received.invariant.so_far in
+    let (below, is_slot, follows, whole, is_receipt, took) = rw c.in-Ok-Some.field-0-is at c.in-Ok-Some.ensures.receipt in
+    let read = c.in-Ok-Some.received in
+    let next : Receipt = receipt_of read (take read.length c.read_received.new.octets) in
+    record {
+      receipts = receipts;
+      next = next;
+      before = received_part receipts (receipt_octets next) _ _ _ _ _ _ listed took (search rules);
+    }
+
+pub loop-received-preserved : goal.loop-received-preserved
+loop-received-preserved g c =
+    let inv = c.loop-received.invariant in
+    let (receipts, counted, last, octet, listed) = inv.so_far in
+    let (below, is_slot, follows, whole, is_receipt, took) = rw c.in-Ok-Some.field-0-is at c.in-Ok-Some.ensures.receipt in
+    let read = c.in-Ok-Some.received in
+    let octets = take read.length c.read_received.new.octets in
+    let next : Receipt = receipt_of read octets in
+    let same : fields_of next ≡ fields_read read = ap (λ n. fields read n) whole in
+    let behind : Follows (last_fields None receipts) (fields_of next) =
+    subst (λ (l : Option Fields). Follows l (fields_of next)) (sym last)
+    (subst (λ (f : Fields). Follows (last_read c.loop-received.last) f) (sym same) follows) in
+    let from = c.from.ensures in
+    let short = is_receipt.octets in
+    let more = length_push receipts next in
+    let begins = received_octets_more receipts next c.loop-received.octet octet in
+    record {
+      source = c.in-Ok-Some.ensures.well;
+      lines = search rules;
+      few = omega (arith, below);
+      room = omega (arith, inv.room, from, whole, short);
+      so_far = (
+        receipts ++ next ∷ [],
+        omega (arith, more, counted),
+        last_more None receipts next ∙ ap Some same,
+        ap (λ n. c.loop-received.octet + (12 + n)) (from ∙ sym whole) ∙ begins,
+        received_more receipts next _ _ _ _ _ _ listed (is_receipt, is_slot) behind took (search rules),
+      );
+    }

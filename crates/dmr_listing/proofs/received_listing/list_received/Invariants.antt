@@ -1,0 +1,21 @@
+-- The records so far were listed, and the next one begins at this octet.
+use Rattle.std.proofs.Common.{◌≡◌, ◌+◌, ◌*◌, ◌-◌, ◌≤◌, List, [], None, length, false}
+use Rattle.dmr_record.specs.Received.{Receipt, last_read, most_receipts, receipt_octets}
+use Rattle.dmr_listing.specs.Entries.{octet_behind}
+use Rattle.dmr_listing.specs.ReceivedListings.{IsListed, last_fields}
+use Rattle.dmr_listing.proofs.received_listing.list_received.Given as goal
+
+abbrev pub invariant-loop-received : goal.invariant-loop-received
+invariant-loop-received g l = record {
+  source : g.S.Source.has_failed l.source ≡ false;
+  lines : g.L.ReceivedLines.has_failed l.lines ≡ false;
+  few : l.count ≤ most_receipts;
+  room : l.octet ≤ 8 + 65547 * l.count;
+  so_far : (receipts : List Receipt) × (length receipts ≡ l.count) × (last_fields None receipts ≡ last_read l.last)
+      × (l.octet ≡ octet_behind receipt_octets receipts)
+      × IsListed receipts [] (g.S.Source.left l.initial.source) (g.S.Source.left l.source)
+      (g.L.ReceivedLines.given l.initial.lines) (g.L.ReceivedLines.given l.lines);
+}
+
+abbrev pub decreases-loop-received : goal.decreases-loop-received
+decreases-loop-received g l = most_receipts - l.count

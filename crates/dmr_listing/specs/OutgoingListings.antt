@@ -1,0 +1,53 @@
+-- What a listing of an outgoing list shows: a line for each record, in order, each once.
+use Rattle.std.specs.Prelude.{◌≡◌, ℕ, List, [], ◌∷◌, ◌++◌, Option, None, length}
+use Rattle.std.specs.Io.KnownBytes.{Consumes}
+use Rattle.std.specs.List.{AllByRecursion}
+use Rattle.dmr_record.specs.Outgoing.{AreInOrder, IsSending, Keeps, Sending, ShowsOutgoingFault, sending_octets, sending_of}
+use Rattle.dmr_record.specs.Outgoing.{sendings_octets}
+use Rattle.dmr_record.specs.declared.outgoing.Outgoing.{Outgoing}
+use Rattle.dmr_record.specs.declared.outgoing.TheConstants.{RECORD_LIMIT}
+use Rattle.dmr_listing.specs.Entries.{octet_behind}
+use Rattle.dmr_listing.specs.Listings.{Gains}
+use Rattle.dmr_listing.specs.declared.fault_line.FaultLine.{FaultLine}
+
+-- A record that was read is this one: all of it but the octets that aren't kept.
+pub record IsReadOf (sending : Sending) (read : Outgoing) : Type 0 where
+  pub keeps : Keeps read sending.datagram
+  pub same : sending ≡ sending_of read sending.datagram
+
+-- the records that were read, one for each
+abbrev pub AreReadOf : List Sending → List Outgoing → Type 0
+AreReadOf [] reads = reads ≡ []
+AreReadOf (sending ∷ sendings) [] = ⊥
+AreReadOf (sending ∷ sendings) (read ∷ reads) = IsReadOf sending read × AreReadOf sendings reads
+
+-- the frame of the last record, or this one of none
+abbrev pub last_frame : ℕ → List Sending → ℕ
+last_frame frame [] = frame
+last_frame frame (sending ∷ sendings) = last_frame sending.frame sendings
+
+-- These records of the list were read behind its head, and these octets of the next one, and the lines of the records given.
+pub record IsListed (sendings : List Sending) (part : List ℕ) (left_old left_new : Option (List ℕ))
+    (given_old given_new : Option (List Outgoing)) : Type 0 where
+  pub each : AllByRecursion IsSending sendings
+  pub order : AreInOrder 0 sendings
+  pub octets : Consumes left_old left_new (sendings_octets sendings ++ part)
+  pub reads : List Outgoing
+  pub listed : AreReadOf sendings reads
+  pub given : Gains given_old given_new reads
+
+-- The list was listed up to a record that shows this fault, whose octet is the one at which that begins.
+pub record IsListedUpToFault (fault : FaultLine) (left_old left_new : Option (List ℕ)) (given_old given_new : Option
+    (List Outgoing)) : Type 0 where
+  pub sendings : List Sending
+  pub part : List ℕ
+  pub before : IsListed sendings part left_old left_new given_old given_new
+  pub shown : ShowsOutgoingFault RECORD_LIMIT (length sendings) (last_frame 0 sendings) fault.fault part
+  pub octet : fault.octet ≡ octet_behind sending_octets sendings
+  pub place : fault.place ≡ None
+
+-- The list was listed up to a record whose line could not be given.
+pub record IsListedUpToLine (left_old left_new : Option (List ℕ)) (given_old given_new : Option (List Outgoing)) : Type 0 where
+  pub sendings : List Sending
+  pub next : Sending
+  pub before : IsListed sendings (sending_octets next) left_old left_new given_old given_new

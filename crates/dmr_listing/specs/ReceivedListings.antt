@@ -1,0 +1,38 @@
+-- What a listing of a received list shows: a line for each record, in order, each once.
+use Rattle.std.specs.Prelude.{◌≡◌, ℕ, List, [], ◌∷◌, ◌++◌, Option, Some, None, length}
+use Rattle.std.specs.Io.KnownBytes.{Consumes}
+use Rattle.std.specs.List.{AllByRecursion}
+use Rattle.dmr_record.specs.Received.{AreInOrder, Fields, IsReadable, Receipt, ShowsReceivedFault, fields_of, most_receipts}
+use Rattle.dmr_record.specs.Received.{receipt_octets, receipts_octets}
+use Rattle.dmr_listing.specs.Entries.{octet_behind}
+use Rattle.dmr_listing.specs.Listings.{Gains}
+use Rattle.dmr_listing.specs.declared.fault_line.FaultLine.{FaultLine}
+
+-- the fields of the last record, or these of none
+abbrev pub last_fields : Option Fields → List Receipt → Option Fields
+last_fields last [] = last
+last_fields last (receipt ∷ receipts) = last_fields (Some (fields_of receipt)) receipts
+
+-- These records of the list were read behind its head, and these octets of the next one, and the lines of the records given.
+pub record IsListed (receipts : List Receipt) (part : List ℕ) (left_old left_new : Option (List ℕ))
+    (given_old given_new : Option (List Receipt)) : Type 0 where
+  pub each : AllByRecursion IsReadable receipts
+  pub order : AreInOrder None receipts
+  pub octets : Consumes left_old left_new (receipts_octets receipts ++ part)
+  pub given : Gains given_old given_new receipts
+
+-- The list was listed up to a record that shows this fault, whose octet is the one at which that begins.
+pub record IsListedUpToFault (fault : FaultLine) (left_old left_new : Option (List ℕ)) (given_old given_new : Option
+    (List Receipt)) : Type 0 where
+  pub receipts : List Receipt
+  pub part : List ℕ
+  pub before : IsListed receipts part left_old left_new given_old given_new
+  pub shown : ShowsReceivedFault most_receipts (length receipts) (last_fields None receipts) fault.fault part
+  pub octet : fault.octet ≡ octet_behind receipt_octets receipts
+  pub place : fault.place ≡ None
+
+-- The list was listed up to a record whose line could not be given.
+pub record IsListedUpToLine (left_old left_new : Option (List ℕ)) (given_old given_new : Option (List Receipt)) : Type 0 where
+  pub receipts : List Receipt
+  pub next : Receipt
+  pub before : IsListed receipts (receipt_octets next) left_old left_new given_old given_new

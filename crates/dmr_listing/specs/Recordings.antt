@@ -1,0 +1,38 @@
+-- A recording, slot by slot: what its file holds, and where it is at fault.
+use Rattle.std.specs.Prelude.{◌≡◌, ℕ, List, [], Option, Some, None, length, unwrap_or}
+use Rattle.dmr_record.specs.Downlink.{most_slots, sent_octets, ShowsDownlinkFault}
+use Rattle.dmr_record.specs.Uplink.{most_uplink_slots, slot_octets, ShowsUplinkSlotFault}
+use Rattle.dmr_record.specs.declared.fault.RecordFault.{RecordFault}
+use Rattle.dmr_listing.specs.declared.recording.RecordedBurst.{RecordedBurst}
+use Rattle.dmr_listing.specs.declared.recording.Recording.{Recording}
+use Rattle.dmr_listing.specs.declared.recording.Recording.TheVariants.{Uplink, Downlink}
+
+-- Silence, or a burst.
+abbrev pub Slot : Type 0
+Slot = Option RecordedBurst
+
+-- a burst of the uplink has no CACH, and one of the downlink has one
+abbrev pub IsBurstOf : Recording → RecordedBurst → Type 0
+IsBurstOf Uplink b = (b.cach ≡ None) × (length b.burst ≡ 33)
+IsBurstOf Downlink b = ((cach : List ℕ) × (b.cach ≡ Some cach) × (length cach ≡ 3)) × (length b.burst ≡ 33)
+
+abbrev pub IsSlotOf : Recording → Slot → Type 0
+IsSlotOf recording None = Unit {0}
+IsSlotOf recording (Some b) = IsBurstOf recording b
+
+-- the octets of a slot, by the definitions of its file
+abbrev pub spelling : Recording → Slot → List ℕ
+spelling Uplink None = slot_octets None
+spelling Uplink (Some b) = slot_octets (Some b.burst)
+spelling Downlink None = sent_octets None
+spelling Downlink (Some b) = sent_octets (Some (unwrap_or b.cach [], b.burst))
+
+-- the most slots that its file has
+abbrev pub most_slots_of : Recording → ℕ
+most_slots_of Uplink = most_uplink_slots
+most_slots_of Downlink = most_slots
+
+-- These octets, taken as the front of a slot with so many slots before it, show this fault.
+abbrev pub ShowsSlotFaultOf : Recording → ℕ → RecordFault → List ℕ → Type 0
+ShowsSlotFaultOf Uplink before e octets = ShowsUplinkSlotFault most_uplink_slots before e octets
+ShowsSlotFaultOf Downlink before e octets = ShowsDownlinkFault most_slots before e octets

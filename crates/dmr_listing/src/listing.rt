@@ -1,0 +1,103 @@
+//! A listing of a whole recording.
+ghost use Rattle.std.specs.Prelude.{◌≡◌, ◌*◌, ◌∷◌, [], Option, List, Bool, false, true, length, IfOk, IfErr, OnOk, OnErr};
+ghost use Rattle.std.specs.Io.KnownBytes.{IsAtEnd};
+ghost use Rattle.dmr_record.specs.Devices.{failed_after};
+ghost use Rattle.dmr_record.specs.Faults.{is_of_end, is_device_fault};
+ghost use Rattle.dmr_listing.specs.Endings.{IfFile, IfOutput};
+ghost use Rattle.dmr_listing.specs.Listings.{Gains, IsListed, IsListedUpToFault, IsListedUpToLine, Turn};
+ghost use Rattle.dmr_listing.specs.Recordings.{Slot};
+ghost use Rattle.dmr_listing.specs.declared.burst_line.BurstLine.{BurstLine as Line};
+
+use crate::burst_line::BurstLine;
+use crate::fault_line::FaultLine;
+use crate::place::Place;
+use crate::recording::{RecordedBurst, Recording, read_recording, record_octets};
+use crate::recording_view::RecordingView;
+use crate::summary::RecordingSummary;
+use dmr_record::{DeviceFault, Source};
+
+/// Where the lines of a recording go.
+pub trait BurstLines {
+    /// The lines that were given to it, where it tells them.
+    ghost given: { Self → Option (List Line) };
+
+    /// Whether it has failed.
+    ghost has_failed: { Self → Bool };
+
+    /// Takes the line of a burst. At an `Err` it didn't, and has failed from then on.
+    fn put(&mut self, burst: &RecordedBurst, line: &BurstLine) -> Result<(), DeviceFault>
+        ensures line { OnOk result (Gains (given self.old) (given self.new) (line.now ∷ [])) }
+        ensures none { OnErr result (Gains (given self.old) (given self.new) []) }
+        ensures failure { has_failed self.new ≡ failed_after (has_failed self.old) result };
+}
+
+/// Why a listing stopped.
+#[derive(Clone, Copy, Debug, Drop, PartialEq, Eq)]
+pub enum ListingEnd {
+    /// The file is at fault.
+    File(FaultLine),
+    /// A line could not be given.
+    Output,
+}
+
+/// How many octets the head of a file has.
+pub(crate) const HEAD_OCTETS: u64 = 8;
+
+/// Gives the line of each burst of a recording, in their order, as far as the recording can be read. The source stands behind the
+/// head. A fault tells the slot that shows it, and the octet at which its record begins.
+pub fn list_recording<S: Source, L: BurstLines>(
+    source: &mut S,
+    recording: Recording,
+    lines: &mut L,
+) -> Result<RecordingSummary, ListingEnd>
+    requires source { S.has_failed source.old ≡ false }
+    requires lines { L.has_failed lines.old ≡ false }
+    // All slots were read to the end, and their lines given.
+    ensures all { IfOk result (λ summary. (slots : List Slot) × (end : Turn)
+        × IsListed recording slots [] end (S.left source.old) (S.left source.new) (L.given lines.old) (L.given lines.new)
+        × (2 * summary.frames ≡ length slots) × (summary.bursts ≡ end.bursts)) }
+    ensures end { OnOk result (IsAtEnd (S.left source.new)) }
+    // Or the slots before the one that shows the fault.
+    ensures fault { IfErr result (λ e. IfFile e (λ fault. IsListedUpToFault recording fault
+        (S.left source.old) (S.left source.new) (L.given lines.old) (L.given lines.new))) }
+    ensures cut { IfErr result (λ e. IfFile e (λ fault. is_of_end fault.fault ≡ true → IsAtEnd (S.left source.new))) }
+    // Or the slots before the one whose line could not be given.
+    ensures output { IfErr result (λ e. IfOutput e (IsListedUpToLine recording
+        (S.left source.old) (S.left source.new) (L.given lines.old) (L.given lines.new))) }
+    // `Read` is told exactly where the source failed, and `Output` where the lines did.
+    ensures source { IfErr result (λ e. IfFile e (λ fault. S.has_failed source.new ≡ is_device_fault fault.fault)) }
+    ensures lines { IfErr result (λ e. IfOutput e (L.has_failed lines.new ≡ true)) }
+    ensures others { IfErr result (λ e. IfFile e (λ fault. L.has_failed lines.new ≡ false)) }
+    ensures well { OnOk result ((S.has_failed source.new ≡ false) × (L.has_failed lines.new ≡ false)) }
+{
+    let mut view = RecordingView::new();
+    let mut octet = HEAD_OCTETS;
+    loop {
+        let slot = match read_recording(source, recording, view.slots()) {
+            Ok(Some(slot)) => slot,
+            Ok(None) => {
+                let frames = view.slots() / 2;
+                let bursts = view.bursts();
+                return Ok(RecordingSummary { frames, bursts });
+            }
+            Err(fault) => {
+                let place = Some(Place::of_slot(view.slots()));
+                return Err(ListingEnd::File(FaultLine {
+                    fault,
+                    octet,
+                    place,
+                }));
+            }
+        };
+        octet += record_octets(recording, &slot);
+        match slot {
+            None => view.pass(),
+            Some(burst) => {
+                let line = view.line(&burst);
+                if lines.put(&burst, &line).is_err() {
+                    return Err(ListingEnd::Output);
+                }
+            }
+        }
+    }
+}

@@ -1,0 +1,82 @@
+//! A listing of a whole outgoing list.
+ghost use Rattle.std.specs.Prelude.{◌≡◌, ◌∷◌, [], ℕ, Option, List, Bool, false, true, length, IfOk, IfErr, OnOk, OnErr};
+ghost use Rattle.std.specs.Io.KnownBytes.{IsAtEnd};
+ghost use Rattle.dmr_record.specs.Devices.{failed_after};
+ghost use Rattle.dmr_record.specs.Faults.{is_of_end, is_device_fault};
+ghost use Rattle.dmr_record.specs.Outgoing.{Sending};
+ghost use Rattle.dmr_record.specs.declared.outgoing.Outgoing.{Outgoing as OutgoingRecord};
+ghost use Rattle.dmr_listing.specs.Endings.{IfFile, IfOutput};
+ghost use Rattle.dmr_listing.specs.Listings.{Gains};
+ghost use Rattle.dmr_listing.specs.OutgoingListings.{IsListed, IsListedUpToFault, IsListedUpToLine};
+
+use crate::fault_line::FaultLine;
+use crate::listing::{HEAD_OCTETS, ListingEnd};
+use dmr_record::{DeviceFault, Outgoing, Source, read_outgoing};
+
+/// Where the lines of an outgoing list go.
+pub trait OutgoingLines {
+    /// The records whose lines were given to it, where it tells them.
+    ghost given: { Self → Option (List OutgoingRecord) };
+
+    /// Whether it has failed.
+    ghost has_failed: { Self → Bool };
+
+    /// Takes the line of a record. At an `Err` it didn't, and has failed from then on.
+    fn put(&mut self, outgoing: &Outgoing) -> Result<(), DeviceFault>
+        ensures line { OnOk result (Gains (given self.old) (given self.new) (outgoing.now ∷ [])) }
+        ensures none { OnErr result (Gains (given self.old) (given self.new) []) }
+        ensures failure { has_failed self.new ≡ failed_after (has_failed self.old) result };
+}
+
+/// How many octets stand in a record before its datagram.
+const FIELD_OCTETS: u64 = 9;
+
+/// Gives the line of each record of an outgoing list, in their order, as far as the list can be read, and answers how many there
+/// are. The source stands behind the head. A fault tells the octet at which its record begins.
+pub fn list_outgoing<S: Source, L: OutgoingLines>(
+    source: &mut S,
+    lines: &mut L,
+) -> Result<u32, ListingEnd>
+    requires source { S.has_failed source.old ≡ false }
+    requires lines { L.has_failed lines.old ≡ false }
+    // All records were read to the end, and their lines given.
+    ensures all { IfOk result (λ count. (sendings : List Sending)
+        × IsListed sendings [] (S.left source.old) (S.left source.new) (L.given lines.old) (L.given lines.new)
+        × (count ≡ length sendings)) }
+    ensures end { OnOk result (IsAtEnd (S.left source.new)) }
+    // Or the records before the one that shows the fault.
+    ensures fault { IfErr result (λ e. IfFile e (λ fault. IsListedUpToFault fault
+        (S.left source.old) (S.left source.new) (L.given lines.old) (L.given lines.new))) }
+    ensures cut { IfErr result (λ e. IfFile e (λ fault. is_of_end fault.fault ≡ true → IsAtEnd (S.left source.new))) }
+    // Or the records before the one whose line could not be given.
+    ensures output { IfErr result (λ e. IfOutput e (IsListedUpToLine
+        (S.left source.old) (S.left source.new) (L.given lines.old) (L.given lines.new))) }
+    // `Read` is told exactly where the source failed, and `Output` where the lines did.
+    ensures source { IfErr result (λ e. IfFile e (λ fault. S.has_failed source.new ≡ is_device_fault fault.fault)) }
+    ensures lines { IfErr result (λ e. IfOutput e (L.has_failed lines.new ≡ true)) }
+    ensures others { IfErr result (λ e. IfFile e (λ fault. L.has_failed lines.new ≡ false)) }
+    ensures well { OnOk result ((S.has_failed source.new ≡ false) × (L.has_failed lines.new ≡ false)) }
+{
+    let mut count = 0;
+    let mut last = 0;
+    let mut octet = HEAD_OCTETS;
+    loop {
+        let record = match read_outgoing(source, count, last) {
+            Ok(Some(record)) => record,
+            Ok(None) => return Ok(count),
+            Err(fault) => {
+                return Err(ListingEnd::File(FaultLine {
+                    fault,
+                    octet,
+                    place: None,
+                }));
+            }
+        };
+        if lines.put(&record).is_err() {
+            return Err(ListingEnd::Output);
+        }
+        count += 1;
+        last = record.frame;
+        octet += FIELD_OCTETS + u64::from(record.length);
+    }
+}

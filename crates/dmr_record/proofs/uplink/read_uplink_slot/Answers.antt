@@ -1,0 +1,16 @@
+use Rattle.std.proofs.Common.{[], ◌∷◌}
+use Rattle.std.proofs.lemmas.Result.{err_from_is_err_and}
+use Rattle.std.proofs.KnownBytes.{Consumes-trans}
+use Rattle.dmr_record.proofs.UplinkLemmas.{ShowsUplinkSlotFault-within}
+use Rattle.dmr_record.proofs.uplink.read_uplink_slot.Goals as goal
+
+pub returns-in_err-slot-clause-fault : goal.returns-in_err-slot-clause-fault
+returns-in_err-slot-clause-fault g c =
+    let p = err_from_is_err_and c.from_residual-in_err-slot.result c.from_residual-in_err-slot.ensures.1 in
+    let octet = rw c.in-Some.is at c.in_ok-tag.ensures.octet in
+    let (rest, took, shows) = c.in_err-slot.ensures.fault in
+    rw (p.1, p.2) (
+      c.in-Some.tag ∷ rest,
+      Consumes-trans _ _ _ (c.in-Some.tag ∷ []) rest octet took,
+      ShowsUplinkSlotFault-within _ _ _ _ c.if-before-ge-UPLINK_SLOT_LIMIT.false shows,
+    )
