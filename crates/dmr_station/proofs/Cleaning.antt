@@ -3,11 +3,10 @@ use Rattle.std.proofs.Common.{◌≡◌, ℕ, suc, ◌+◌, ◌%◌, ◌==◌, B
 use Rattle.std.proofs.Common.{refl, sym, ap, ◌∙◌, subst, arith}
 use Rattle.std.proofs.lemmas.List.{length-map}
 use Rattle.dmr_burst.specs.declared.burst.Burst.{Burst}
-use Rattle.dmr_slot.specs.Channel.{ChannelOut, claims_of, frame_of, frames_of, has_traffic_within}
+use Rattle.dmr_slot.specs.Channel.{Claim, ChannelOut, claims_of, frame_of, frames_of, has_traffic_within}
 use Rattle.dmr_slot.specs.Clean.{AreCleanBursts, burst_of}
 use Rattle.dmr_slot.specs.Frames.{AreSent}
 use Rattle.dmr_slot.specs.Push.{Memory as Line, ArePushed}
-use Rattle.dmr_slot.specs.declared.channel.Claim.{Claim}
 use Rattle.dmr_slot.specs.declared.line.SlotOut.{SlotOut}
 use Rattle.dmr_slot.proofs.CleanLines.{pushed_lines_are_clean}
 use Rattle.dmr_slot.proofs.Cleaning.{ArePairs, AllFramesSent, both_clean, firsts, frame_claims, seconds}

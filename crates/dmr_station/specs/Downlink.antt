@@ -2,11 +2,10 @@
 use Rattle.std.specs.Prelude.{ℕ, ◌≡◌, Bool, false, List, [], ◌∷◌, ◌++◌, map, replicate, count_by, Option, Some, None}
 use Rattle.std.specs.List.{flat_map}
 use Rattle.dmr_burst.specs.declared.burst.Burst.{Burst}
-use Rattle.dmr_slot.specs.Channel.{claims_of, frames_of}
+use Rattle.dmr_slot.specs.Channel.{Claim, claims_of, frames_of}
 use Rattle.dmr_slot.specs.Frames.{AreSent}
 use Rattle.dmr_slot.specs.Fronts.{IsFrontOfLine}
 use Rattle.dmr_slot.specs.Push.{Memory as Line, start as silent_line, ArePushed}
-use Rattle.dmr_slot.specs.declared.channel.Claim.{Claim}
 use Rattle.dmr_slot.specs.declared.line.SlotOut.{SlotOut}
 use Rattle.dmr_station.specs.Announced.{AreAnnounced}
 use Rattle.dmr_station.specs.declared.announcing.Message.{Message}
