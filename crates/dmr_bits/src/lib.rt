@@ -21,6 +21,3 @@ mod writer;
 pub use bits::Bits;
 pub use reader::Reader;
 pub use writer::Writer;
-
-#[cfg(test)]
-mod tests;

@@ -13,6 +13,3 @@ mod request;
 pub use obeying::obey;
 pub use process::program;
 pub use request::{Request, request_of};
-
-#[cfg(test)]
-mod tests;

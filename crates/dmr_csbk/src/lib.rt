@@ -14,6 +14,3 @@ mod views;
 pub use block::{Csbk, csbk_info, csbk_read};
 pub use fault::CsbkFault;
 pub use views::{BsDownAct, DOWN_ACT, PREAMBLE, Preamble};
-
-#[cfg(test)]
-mod tests;

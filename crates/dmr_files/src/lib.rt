@@ -18,6 +18,3 @@ pub use identity::{FileKind, Identity};
 pub use place::{Place, Places};
 pub use running::run_places;
 pub use system::{Open, StandardFiles, System};
-
-#[cfg(test)]
-mod tests;

@@ -1,5 +1,5 @@
 -- A frame of both slots, by the calls of the gateway, and what it comes to in each of them.
-use Rattle.std.specs.Prelude.{◌≡◌, ℕ, ◌+◌, Bool, List, [], ◌∷◌, Option}
+use Rattle.std.specs.Prelude.{◌≡◌, ◌↔◌, ℕ, ◌+◌, Bool, List, [], ◌∷◌, Option}
 use Rattle.std.specs.List.{AllByRecursion}
 use Rattle.dmr_burst.specs.declared.burst.Burst.{Burst}
 use Rattle.dmr_arq.specs.declared.sender.Outcome.{Outcome}
@@ -86,3 +86,17 @@ FramesAsMeant =
     (before after : Gate) →
     Stands colour llid limit first second before → IsFrame offered one two refused before after →
     FrameAsMeant colour llid limit first second offered one two refused after
+
+-- 3. Which slot comes first.
+
+-- Two slots hear and are asked for a burst, one behind the other.
+pub record AreAskedInTurn (slot later : ℕ) (turn later_turn : Turn) (before after : Gate) : Type 0 where
+  pub between : Gate
+  pub asked : IsAskedFor slot turn.repeated turn.free before turn.burst between
+  pub later_asked : IsAskedFor later later_turn.repeated later_turn.free between later_turn.burst after
+
+-- Whichever of both slots comes first, the bursts are the same, and so is what the gateway remembers.
+abbrev pub InEitherOrder : Type 0
+InEitherOrder =
+    (first second : Turn) (before after : Gate) →
+    AreAskedInTurn 1 2 first second before after ↔ AreAskedInTurn 2 1 second first before after

@@ -22,6 +22,3 @@ pub use compression::{compress, expand};
 pub use datagram::{DATAGRAM_LIMIT, Datagram};
 pub use fault::{ExpandFault, IpFault};
 pub use identifiers::FORM_LIMIT;
-
-#[cfg(test)]
-mod tests;

@@ -21,6 +21,3 @@ pub use reading::lc_read;
 pub use sealing::{LcUse, lc_info};
 pub use service_options::ServiceOptions;
 pub use voice_lc::{CallKind, GROUP_CALL, UNIT_TO_UNIT_CALL, VoiceLc};
-
-#[cfg(test)]
-mod tests;

@@ -17,6 +17,3 @@ pub use reading::{Information, Reading, read_burst};
 pub use run_end::{RunEnd, print_end};
 pub use slot::print_slot;
 pub use status::{FAILURE, SUCCESS, USAGE};
-
-#[cfg(test)]
-mod tests;

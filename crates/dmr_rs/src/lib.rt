@@ -11,6 +11,3 @@ mod octet;
 
 pub use code::{rs_correct, rs_parity};
 pub use octet::Octet;
-
-#[cfg(test)]
-mod tests;

@@ -1,5 +1,5 @@
 //! What is printed, to which sink, and the status.
-use crate::{RunEnd, print_end, print_error, print_slot, print_text};
+use dmr_report::{RunEnd, print_end, print_error, print_slot, print_text};
 use arrayvec::ArrayString;
 use dmr_gateway::ConfigFault;
 use dmr_record::{RecordFault, ToWrite};

@@ -1,5 +1,5 @@
 //! The parity of a group call, as it was worked out apart from this program.
-use crate::{Octet, rs_correct, rs_parity};
+use dmr_rs::{Octet, rs_correct, rs_parity};
 
 /// The link control of a group call to target 1 from source 2, and its parity.
 const CALL: [u8; 12] = [0, 0, 0, 0, 0, 1, 0, 0, 2, 0x14, 0xF3, 0xFB];

@@ -1,5 +1,5 @@
 //! A group call from outside, and each view once.
-use crate::{CallKind, FullLc, LcFault, LcUse, ServiceOptions, VoiceLc, lc_info, lc_read};
+use dmr_link::{CallKind, FullLc, LcFault, LcUse, ServiceOptions, VoiceLc, lc_info, lc_read};
 use dmr_bits::Bits;
 use dmr_bptc::bptc_encode;
 use std::test::Fail;

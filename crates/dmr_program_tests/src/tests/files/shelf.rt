@@ -1,5 +1,5 @@
 //! A system of four files in memory.
-use crate::{FileKind, Identity, Open, Place, StandardFiles, System};
+use dmr_files::{FileKind, Identity, Open, Place, StandardFiles, System};
 use dmr_repeater::Stream;
 use std::alloc::Global;
 use std::cell::{Cell, RefCell};

@@ -1,7 +1,7 @@
 //! Which place each file is taken from, what is refused and what that leaves, and whose fault is told.
 mod shelf;
 
-use crate::{FileKind, Identity, Place, Places, StandardFiles, run_places};
+use dmr_files::{FileKind, Identity, Place, Places, StandardFiles, run_places};
 use dmr_gateway::Config;
 use dmr_record::RecordFault;
 use dmr_repeater::{RunFault, Stream, Summary};

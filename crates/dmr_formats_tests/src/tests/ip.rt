@@ -1,7 +1,7 @@
 //! Values from outside, and each public call on its happy path.
 ghost use Rattle.std.specs.Prelude.{◌+◌, ◌≤◌, length};
 
-use crate::{Datagram, ExpandFault, IpFault, compress, expand};
+use dmr_ip::{Datagram, ExpandFault, IpFault, compress, expand};
 use std::process::Abort;
 use std::test::Fail;
 

@@ -1,5 +1,5 @@
 //! Blocks from outside, and one of each kind that has a view.
-use crate::{BsDownAct, Csbk, CsbkFault, Preamble, csbk_info, csbk_read};
+use dmr_csbk::{BsDownAct, Csbk, CsbkFault, Preamble, csbk_info, csbk_read};
 use dmr_bits::Bits;
 use dmr_bptc::bptc_encode;
 use std::test::Fail;

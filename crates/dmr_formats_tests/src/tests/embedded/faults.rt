@@ -1,5 +1,5 @@
 //! The texts of the faults.
-use crate::EmbedFault;
+use dmr_embedded::EmbedFault;
 use std::test::Fail;
 
 #[test]

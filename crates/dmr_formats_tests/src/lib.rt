@@ -1,0 +1,5 @@
+//! Tests of the crates for codes, checks, units of the air and datagrams: values from outside, and each public call once.
+#![tactic(auto)]
+
+#[cfg(test)]
+mod tests;

@@ -1,0 +1,4 @@
+//! A module a crate.
+mod command;
+mod files;
+mod report;
