@@ -1,7 +1,7 @@
 //! Blocks from outside, and one of each kind that has a view.
-use dmr_csbk::{BsDownAct, Csbk, CsbkFault, Preamble, csbk_info, csbk_read};
 use dmr_bits::Bits;
 use dmr_bptc::bptc_encode;
+use dmr_csbk::{BsDownAct, Csbk, CsbkFault, Preamble, csbk_info, csbk_read};
 use std::test::Fail;
 
 /// The block of ten zero octets.

@@ -1,7 +1,7 @@
 //! A group call from outside, and each view once.
-use dmr_link::{CallKind, FullLc, LcFault, LcUse, ServiceOptions, VoiceLc, lc_info, lc_read};
 use dmr_bits::Bits;
 use dmr_bptc::bptc_encode;
+use dmr_link::{CallKind, FullLc, LcFault, LcUse, ServiceOptions, VoiceLc, lc_info, lc_read};
 use std::test::Fail;
 
 /// A call to talk group 1 from radio 2, no option set.

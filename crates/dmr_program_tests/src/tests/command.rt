@@ -1,8 +1,8 @@
 //! Which word goes where, the ends of ranges, and what is printed where, with which status.
 mod stand_in;
 
-use dmr_command::{Request, obey, request_of};
 use clap::error::ErrorKind;
+use dmr_command::{Request, obey, request_of};
 use dmr_files::{Place, Places};
 use dmr_gateway::{Config, ConfigFault};
 use dmr_record::ToWrite;

@@ -1,9 +1,9 @@
 //! What is printed, to which sink, and the status.
-use dmr_report::{RunEnd, print_end, print_error, print_slot, print_text};
 use arrayvec::ArrayString;
 use dmr_gateway::ConfigFault;
 use dmr_record::{RecordFault, ToWrite};
 use dmr_repeater::{RunFault, Stream, Summary};
+use dmr_report::{RunEnd, print_end, print_error, print_slot, print_text};
 use std::fmt::Write;
 use std::process::Abort;
 use std::test::Fail;
