@@ -106,9 +106,13 @@ fn is_product_word(bits: &Table) -> bool
     ensures tells { IsTrue result ↔ IsProductWord bits.now }
 {
     for row in 0..13 {
-        if !Hamming15::is_word(&read_row(bits, row)) {
+        if !has_row_word(bits, row) {
             return false;
         }
+    }
+    // Most are words once they are corrected.
+    if wrong_columns(bits) == 0 {
+        return true;
     }
     for column in 0..15 {
         if !Hamming13::is_word(&read_column(bits, column)) {
@@ -116,6 +120,15 @@ fn is_product_word(bits: &Table) -> bool
         }
     }
     true
+}
+
+/// Whether a row is a word.
+fn has_row_word(bits: &Table, row_number: usize) -> bool
+    requires inside { row_number < 13 }
+    ensures tells { IsTrue result ↔ IsHamming15 (row bits.now row_number) }
+{
+    // Most are, which is found out sooner.
+    is_row_word(bits, row_number) || Hamming15::is_word(&read_row(bits, row_number))
 }
 
 /// The information that a table holds.

@@ -1,6 +1,7 @@
 -- The tables of words, each by one computation over all of them.
 use Rattle.std.proofs.Common.{◌≡◌, ◌-◌, ◌^◌, true, refl}
-use Rattle.dmr_codes.specs.Seven.{golay20_columns, residue16_columns, hamming15_columns, hamming16_columns, hamming17_columns}
+use Rattle.dmr_codes.specs.Seven.{golay20_columns, residue16_columns, hamming13_columns, hamming15_columns}
+use Rattle.dmr_codes.specs.Seven.{hamming16_columns, hamming17_columns}
 use Rattle.dmr_codes.specs.WordTables.{are_words, are_words_each, tells}
 use Rattle.dmr_codes.specs.declared.golay.TheConstants as golay
 use Rattle.dmr_codes.specs.declared.hamming.TheConstants as hamming
@@ -18,11 +19,17 @@ residue16_words = refl
 pub residue16_tells : tells 16 7 residue.WORDS residue.WRONG 16 0 2 ≡ true
 residue16_tells = refl
 
-pub hamming15_upper : are_words_each 15 11 (2 ^ 5) (2 ^ (11 - 5)) hamming15_columns hamming.UPPER_15 ≡ true
-hamming15_upper = refl
+pub hamming15_words : are_words 15 11 hamming15_columns hamming.WORDS_15 ≡ true
+hamming15_words = refl
 
-pub hamming15_lower : are_words_each 15 11 1 (2 ^ 5) hamming15_columns hamming.LOWER_15 ≡ true
-hamming15_lower = refl
+pub hamming15_tells : tells 15 11 hamming.WORDS_15 hamming.WRONG_15 15 0 1 ≡ true
+hamming15_tells = refl
+
+pub hamming13_words : are_words 13 9 hamming13_columns hamming.WORDS_13 ≡ true
+hamming13_words = refl
+
+pub hamming13_tells : tells 13 9 hamming.WORDS_13 hamming.WRONG_13 13 0 1 ≡ true
+hamming13_tells = refl
 
 pub hamming16_upper : are_words_each 16 11 (2 ^ 5) (2 ^ (11 - 5)) hamming16_columns hamming.UPPER_16 ≡ true
 hamming16_upper = refl

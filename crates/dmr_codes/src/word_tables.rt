@@ -67,7 +67,7 @@ pub(crate) fn sum_of_words<
 #[inline(always)]
 pub(crate) fn nearest<const N: usize, const K: usize, const W: usize, const S: usize>(
     words: &[u32; W],
-    wrong: &[u8; S],
+    wrong: &[u16; S],
     reach: usize,
     received: &Bits<N>,
 ) -> Option<Bits<N>>

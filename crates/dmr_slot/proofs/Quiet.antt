@@ -1,6 +1,6 @@
 -- Lines around which all is silent.
 use Rattle.std.proofs.Common.{◌≡◌, ℕ, ◌+◌, ◌-◌, ◌<◌, ◌≤◌, List, [], ◌∷◌, ◌++◌, length, drop, replicate}
-use Rattle.std.proofs.Common.{Option, None, refl, sym, subst, ◌∙◌, ap, arith}
+use Rattle.std.proofs.Common.{Option, Some, None, false, refl, sym, subst, ◌∙◌, ap, arith, is_some}
 use Rattle.std.proofs.lemmas.List.{append-nil, append_assoc, length-append, length-drop, length-replicate}
 use Rattle.std.proofs.lemmas.List.{replicate-append-replicate}
 use Rattle.dmr_link.specs.declared.full_lc.FullLc.{FullLc}
@@ -12,7 +12,9 @@ use Rattle.dmr_voice.specs.declared.place.Place.TheVariants.{A, B, C, D, E, F}
 use Rattle.dmr_voice.specs.declared.said.Said.{Said}
 use Rattle.dmr_voice.specs.declared.track.Track.{Track}
 use Rattle.dmr_voice.specs.declared.track.Track.TheVariants.{Idle, AfterHeader, Gap, InCall}
-use Rattle.dmr_slot.specs.Push.{EndsSilent, moved}
+use Rattle.dmr_voice.proofs.Recorded.{silent as quiet_sent}
+use Rattle.dmr_slot.specs.Push.{Memory, EndsSilent, IsPush, moved}
+use Rattle.dmr_slot.specs.declared.line.SlotOut.{SlotOut}
 
 silent_front : (front window : List Heard) → window ≡ front ++ replicate 6 silence → length front + 6 ≡ 6
     → window ≡ replicate 6 silence
@@ -91,3 +93,33 @@ state_silent colour silent state next window carried e steps six =
 
 pub heard_silent : (colour : ℕ) (slot : Option (List ℕ)) (heard : Heard) → Hears colour slot heard → slot ≡ None → heard ≡ silence
 heard_silent colour slot heard hears none = subst (λ slot. Hears colour slot heard) none hears
+
+-- A push that gives nothing and changes nothing,
+abbrev pub Stays : ℕ → ℕ → List Heard → Track → ℕ → Option FullLc → Option (List ℕ) → Type 0
+Stays colour call_hang window state left lc slot =
+    let memory : Memory =
+    record { colour = colour; call_hang = call_hang; window = window; state = state; left = left; lc = lc } in
+    let free : SlotOut = record { repeated = None; hang = None; lc = None } in
+    IsPush memory slot free memory
+
+-- as that of a silent slot where all around it is silent.
+none_of : (slot : Option (List ℕ)) → is_some slot ≡ false → slot ≡ None
+none_of (Some octets) e = absurd (cc (e))
+none_of None e = refl
+
+push_of_silence : (colour call_hang : ℕ) (lc : Option FullLc) → Stays colour call_hang (replicate 6 silence) Idle 0 lc None
+push_of_silence colour call_hang lc = record {
+  heard = silence;
+  carried = None;
+  hears = record { by_fields = refl; damaged = quiet_sent colour };
+  carries = record { read = λ c. absurd (cc (c)); nothing = λ c. refl };
+  gives = refl;
+  remembers = refl;
+}
+
+pub push_silent : (colour call_hang silent left : ℕ) (window : List Heard) (state : Track) (lc : Option FullLc)
+    (slot : Option (List ℕ)) → is_some slot ≡ false → EndsSilent silent window → silent ≡ 6 → (silent ≡ 6 → state ≡ Idle)
+    → left ≡ 0 → Stays colour call_hang window state left lc slot
+push_silent colour call_hang silent left window state lc slot none ends six idle over =
+    rw (none_of slot none) (rw (all_silent window (subst (λ n. EndsSilent n window) six ends)) (rw (idle six) (rw over
+    (push_of_silence colour call_hang lc))))

@@ -1,0 +1,67 @@
+use Rattle.std.proofs.Common.{◌∙◌, ap, refl, subst, sym, All}
+use Rattle.dmr_voice.specs.Fit.{IsFitHeard}
+use Rattle.dmr_voice.specs.Tracking.{Tracking}
+use Rattle.dmr_slot.proofs.Pushing.{fit_after, push_is, sound_after, window_after}
+use Rattle.dmr_slot.specs.Push.{EndsSilent}
+use Rattle.dmr_slot.proofs.Quiet.{heard_silent, state_silent}
+use Rattle.dmr_slot.proofs.line.SlotLine.take.Goals as goal
+
+pub step-decided-requires : goal.step-decided-requires
+step-decided-requires c = record {
+  fit = subst (All IsFitHeard)
+      (sym (c.deref.ensures ∙ window_after c.self.inside.recent.value c.deref_mut.result.now c.move_on.new.window
+      c.hear-heard.result c.deref_mut.ensures.value c.move_on.ensures.moved))
+      (fit_after c.self.inside.recent.value c.hear-heard.result c.self.invariant.0.heard_fit c.hear-heard.ensures.fit);
+}
+
+ends_after : (c : goal.After-advance) → EndsSilent c.silent_after-self-inside.result c.move_on.new.window
+ends_after c =
+    subst (EndsSilent c.silent_after-self-inside.result)
+    (sym (window_after c.self.inside.recent.value c.deref_mut.result.now c.move_on.new.window c.hear-heard.result
+    c.deref_mut.ensures.value c.move_on.ensures.moved))
+    (c.silent_after-self-inside.ensures.silent c.self.inside.recent.value c.hear-heard.result c.self.invariant.1
+    (heard_silent c.self.inside.colour c.args.slot.now c.hear-heard.result c.hear-heard.ensures.heard))
+
+pub invariant_of-self : goal.invariant_of-self
+invariant_of-self c = record {
+  0 = sound_after c.self.inside.colour c.self.inside.track c.step-decided.new.self c.self.inside.recent.value
+      c.move_on.new.window c.self.inside.hang.link_control c.advance.new.self.link_control
+      c.hear-heard.result c.role_of.result c.self.invariant.0
+      (window_after c.self.inside.recent.value c.deref_mut.result.now c.move_on.new.window c.hear-heard.result
+      c.deref_mut.ensures.value c.move_on.ensures.moved) c.hear-heard.ensures.fit
+      (let k = c.step-decided.ensures.out in ap (λ (t : Tracking). t.colour) (c.step-decided.ensures.state k.0 k.1))
+      c.role_of.ensures.fit c.advance.ensures.link_control;
+  1 = ends_after c;
+  2 = let k = c.step-decided.ensures.out in
+      state_silent c.self.inside.track.colour c.silent_after-self-inside.result c.self.inside.track.state
+      c.step-decided.new.self.state
+      c.deref.result.now k.0 (subst (EndsSilent c.silent_after-self-inside.result) (sym c.deref.ensures) (ends_after c))
+      (ap (λ (t : Tracking). t.state) (c.step-decided.ensures.state k.0 k.1));
+}
+
+pub returns-clause-pushed : goal.returns-clause-pushed
+returns-clause-pushed c =
+    rw (← c.self.view_is) (push_is
+    (record {
+      colour = c.self.inside.colour;
+      call_hang = c.self.inside.hang.frames;
+      window = c.self.inside.recent.value;
+      state = c.self.inside.track.state;
+      left = c.self.inside.hang.left;
+      lc = c.self.inside.hang.link_control;
+    })
+    c.self.inside.track c.step-decided.new.self c.args.slot.now c.hear-heard.result c.deref.result.now
+    c.step-decided.result c.slot_out-out.result c.role_of.result
+    c.advance.new.self.frames c.advance.new.self.left c.move_on.new.window c.advance.new.self.link_control
+    (record {
+      colour_is = c.self.invariant.0.same;
+      state_is = refl;
+      window_is = c.deref.ensures ∙ window_after c.self.inside.recent.value c.deref_mut.result.now c.move_on.new.window
+          c.hear-heard.result c.deref_mut.ensures.value c.move_on.ensures.moved;
+      hears = record { by_fields = c.hear-heard.ensures.heard; damaged = c.hear-heard.ensures.damaged };
+      says = c.step-decided.ensures.out;
+      steps = c.step-decided.ensures.state;
+      gives = c.slot_out-out.ensures.out;
+      role_is = c.role_of.ensures.role;
+    })
+    c.advance.ensures.frames (sym c.deref.ensures) c.advance.ensures.left c.advance.ensures.link_control)
