@@ -64,7 +64,11 @@ fn fields_of(octets: [u8; 8]) -> Fields
 }
 
 /// Reads so many octets, and keeps the first of them in the place that is given for them, since they are many.
-fn read_octets<S: Source>(source: &mut S, count: u16, octets: &mut Octets) -> Result<(), RecordFault>
+fn read_octets<S: Source>(
+    source: &mut S,
+    count: u16,
+    octets: &mut Octets,
+) -> Result<(), RecordFault>
     requires well { S.has_failed source.old ≡ false }
     requires empty { octets.old ≡ [] }
     ensures octets { OnOk result ((all : List ℕ) × (length all ≡ count)
