@@ -10,7 +10,7 @@ use Rattle.dmr_arq.specs.declared.sender.Held.{Held}
 use Rattle.dmr_arq.specs.declared.sender.Phase.{Phase}
 use Rattle.dmr_arq.specs.declared.sender.Phase.TheVariants.{Due, Sending, Waiting}
 use Rattle.dmr_arq.specs.declared.sender.Route.{Route}
-use Rattle.dmr_arq.specs.declared.sender.SenderState.{SenderState}
+use Rattle.dmr_arq.specs.Sender.{SenderState}
 use Rattle.dmr_arq.specs.declared.serials.Selection.{Selection}
 use Rattle.dmr_arq.specs.declared.table.Entry.{Entry}
 use Rattle.dmr_arq.specs.Completed.{sources, last}

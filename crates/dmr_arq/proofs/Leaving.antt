@@ -22,7 +22,7 @@ use Rattle.dmr_arq.specs.declared.sender.Held.{Held}
 use Rattle.dmr_arq.specs.declared.sender.Phase.{Phase}
 use Rattle.dmr_arq.specs.declared.sender.Phase.TheVariants as phase
 use Rattle.dmr_arq.specs.declared.sender.Route.{Route}
-use Rattle.dmr_arq.specs.declared.sender.SenderState.{SenderState}
+use Rattle.dmr_arq.specs.Sender.{SenderState}
 use Rattle.dmr_arq.specs.declared.serials.Selection.{Selection}
 use Rattle.dmr_arq.specs.declared.table.Entry.{Entry}
 use Rattle.dmr_arq.proofs.Counting.{length_serials}

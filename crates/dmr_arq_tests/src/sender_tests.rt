@@ -42,10 +42,10 @@ fn begins(burst: &Option<GateBurst>) -> bool {
 fn busy_sender(rt: HostRuntime) {
     let mut sender = Sender::new(1);
     assert!(rt; sender.is_idle());
-    assert!(rt; sender.offer(one_block(7), ROUTE).is_ok());
+    assert!(rt; sender.offer(&one_block(7), ROUTE).is_ok());
     assert!(rt; !sender.is_idle());
-    let refused = sender.offer(one_block(8), ROUTE);
-    assert!(rt; refused == Err(Busy(one_block(8), ROUTE)));
+    let refused = sender.offer(&one_block(8), ROUTE);
+    assert!(rt; refused == Err(Busy));
     assert!(rt; !sender.is_begun());
     for left in [3, 2] {
         let preamble = GateBurst::Preamble { left, route: ROUTE };
@@ -66,7 +66,7 @@ fn busy_sender(rt: HostRuntime) {
 #[test]
 fn unanswered_try(rt: HostRuntime) {
     let mut sender = Sender::new(1);
-    assert!(rt; sender.offer(two_blocks(), ROUTE).is_ok());
+    assert!(rt; sender.offer(&two_blocks(), ROUTE).is_ok());
     for frame in 5..16u32 {
         sender.tick();
         let burst = sender.next_burst();
@@ -86,7 +86,7 @@ fn unanswered_try(rt: HostRuntime) {
 #[test]
 fn four_tries(rt: HostRuntime) {
     let mut sender = Sender::new(1);
-    assert!(rt; sender.offer(two_blocks(), ROUTE).is_ok());
+    assert!(rt; sender.offer(&two_blocks(), ROUTE).is_ok());
     for frame in 5..101u32 {
         sender.tick();
         assert_eq!(rt;
@@ -105,7 +105,7 @@ fn four_tries(rt: HostRuntime) {
 #[test]
 fn answer_in_the_last_frame(rt: HostRuntime) {
     let mut sender = Sender::new(1);
-    assert!(rt; sender.offer(two_blocks(), ROUTE).is_ok());
+    assert!(rt; sender.offer(&two_blocks(), ROUTE).is_ok());
     for frame in 5..29u32 {
         sender.tick();
         assert_eq!(rt; begins(&sender.next_burst()), frame == 5);
@@ -120,7 +120,7 @@ fn answer_in_the_last_frame(rt: HostRuntime) {
 #[test]
 fn late_answer(rt: HostRuntime) {
     let mut sender = Sender::new(1);
-    assert!(rt; sender.offer(two_blocks(), ROUTE).is_ok());
+    assert!(rt; sender.offer(&two_blocks(), ROUTE).is_ok());
     for frame in 5..79u32 {
         if frame == 30 {
             sender.answer(&ACK);
@@ -155,7 +155,7 @@ fn send(sender: &mut Sender, bursts: u8) -> Option<(bool, u8)> {
 #[test]
 fn selective_answers(rt: HostRuntime) {
     let mut sender = Sender::new(1);
-    assert!(rt; sender.offer(two_blocks(), ROUTE).is_ok());
+    assert!(rt; sender.offer(&two_blocks(), ROUTE).is_ok());
     assert!(rt; send(&mut sender, 5) == Some((true, 2)));
     for (flags, full) in [(0, false), (3, true)] {
         sender.answer(&Answer {
@@ -171,7 +171,7 @@ fn selective_answers(rt: HostRuntime) {
 #[test]
 fn cut_partial_tries(rt: HostRuntime) {
     let mut sender = Sender::new(1);
-    assert!(rt; sender.offer(two_blocks(), ROUTE).is_ok());
+    assert!(rt; sender.offer(&two_blocks(), ROUTE).is_ok());
     assert!(rt; send(&mut sender, 5) == Some((true, 2)));
     sender.answer(&Answer {
         verdict: Verdict::Selective,
@@ -197,7 +197,7 @@ fn unconfirmed_send(rt: HostRuntime) {
     };
     let mut sender = Sender::new(1);
     let packet = split_packet(&DATAGRAM, Rate::Half, false);
-    assert!(rt; sender.offer(packet, route).is_ok());
+    assert!(rt; sender.offer(&packet, route).is_ok());
     assert_eq!(rt; sender.blocks(), 1);
     for left in [3, 2] {
         let preamble = GateBurst::Preamble { left, route };
@@ -241,7 +241,7 @@ fn number_of_next(rt: &impl Abort, sender: &mut Sender, destination: u32) -> u8
         destination,
         ..ROUTE
     };
-    assert!(rt; sender.offer(one_block(7), route).is_ok());
+    assert!(rt; sender.offer(&one_block(7), route).is_ok());
     let mut number = 8;
     for _ in 0..4u8 {
         if let Some(GateBurst::Header(Header::Confirmed(header))) = sender.next_burst() {

@@ -85,7 +85,7 @@ fn first_ack_lost(rt: HostRuntime) {
     let mut sender = Sender::new(1);
     let mut receiver = Receiver::new(2);
     let mut delivered = 0;
-    assert!(rt; sender.offer(one_block(7), ROUTE).is_ok());
+    assert!(rt; sender.offer(&one_block(7), ROUTE).is_ok());
     assert!(rt; attempt(&mut sender, &mut receiver, true, &mut delivered).is_some());
     wait(&mut sender, 19);
     assert!(rt; sender.next_burst().is_none());
@@ -105,7 +105,7 @@ fn all_answers_lost(rt: HostRuntime) {
     let mut sender = Sender::new(1);
     let mut receiver = Receiver::new(2);
     let mut delivered = 0;
-    assert!(rt; sender.offer(one_block(7), ROUTE).is_ok());
+    assert!(rt; sender.offer(&one_block(7), ROUTE).is_ok());
     for _ in 0..4 {
         assert!(rt; attempt(&mut sender, &mut receiver, true, &mut delivered).is_some());
         assert!(rt; sender.outcome().is_none());
@@ -122,20 +122,20 @@ fn eighth_sequence_number(rt: HostRuntime) {
     let mut sender = Sender::new(1);
     let mut receiver = Receiver::new(2);
     let mut delivered = 0;
-    assert!(rt; sender.offer(one_block(0), ROUTE).is_ok());
+    assert!(rt; sender.offer(&one_block(0), ROUTE).is_ok());
     if let Some(answer) = attempt(&mut sender, &mut receiver, true, &mut delivered) {
         sender.answer(&answer);
     }
     assert!(rt; sender.outcome() == Some(Outcome::Delivered));
     for packet in 1..8 {
-        assert!(rt; sender.offer(one_block(packet), ROUTE).is_ok());
+        assert!(rt; sender.offer(&one_block(packet), ROUTE).is_ok());
         for _ in 0..4 {
             assert!(rt; attempt(&mut sender, &mut receiver, false, &mut delivered).is_none());
             wait(&mut sender, 20);
         }
         assert!(rt; sender.outcome() == Some(Outcome::GivenUp));
     }
-    assert!(rt; sender.offer(one_block(8), ROUTE).is_ok());
+    assert!(rt; sender.offer(&one_block(8), ROUTE).is_ok());
     if let Some(answer) = attempt(&mut sender, &mut receiver, true, &mut delivered) {
         sender.answer(&answer);
     }
@@ -150,7 +150,7 @@ fn packet_of_127_blocks(rt: HostRuntime) {
     let mut receiver = Receiver::new(2);
     let mut delivered = 0;
     let packet = split_packet(&[5; 1266], Rate::Half, true);
-    assert!(rt; sender.offer(packet, ROUTE).is_ok());
+    assert!(rt; sender.offer(&packet, ROUTE).is_ok());
     assert_eq!(rt; sender.blocks(), 127);
     for left in [129, 128] {
         let preamble = GateBurst::Preamble { left, route: ROUTE };

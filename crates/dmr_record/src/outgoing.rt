@@ -63,11 +63,16 @@ fn fields_of(octets: [u8; 8]) -> Fields
     }
 }
 
-/// Reads so many octets, and keeps the first of them.
-fn read_octets<S: Source>(source: &mut S, count: u16) -> Result<Octets, RecordFault>
+/// Reads so many octets, and keeps the first of them in the place that is given for them, since they are many.
+fn read_octets<S: Source>(
+    source: &mut S,
+    count: u16,
+    octets: &mut Octets,
+) -> Result<(), RecordFault>
     requires well { S.has_failed source.old ≡ false }
-    ensures octets { IfOk result (λ octets. (all : List ℕ) × (length all ≡ count)
-        × (octets ≡ take DATAGRAM_LIMIT all) × Consumes (S.left source.old) (S.left source.new) all) }
+    requires empty { octets.old ≡ [] }
+    ensures octets { OnOk result ((all : List ℕ) × (length all ≡ count)
+        × (octets.new ≡ take DATAGRAM_LIMIT all) × Consumes (S.left source.old) (S.left source.new) all) }
     ensures well { OnOk result (S.has_failed source.new ≡ false) }
     ensures part { OnErr result ((part : List ℕ) × (length part < count)
         × Consumes (S.left source.old) (S.left source.new) part) }
@@ -75,7 +80,6 @@ fn read_octets<S: Source>(source: &mut S, count: u16) -> Result<Octets, RecordFa
     ensures cut { IfErr result (λ e. is_of_end e ≡ true → IsAtEnd (S.left source.new)) }
     ensures device { IfErr result (λ e. S.has_failed source.new ≡ is_device_fault e) }
 {
-    let mut octets = Octets::new();
     let mut left = count as usize;
     let mut chunk = [0u8; 256];
     while left > 0 {
@@ -87,7 +91,7 @@ fn read_octets<S: Source>(source: &mut S, count: u16) -> Result<Octets, RecordFa
         octets.keep(&chunk[..most]);
         left -= most;
     }
-    Ok(octets)
+    Ok(())
 }
 
 /// Reads the fields behind a tag.
@@ -171,13 +175,14 @@ pub fn read_outgoing<S: Source>(
     if fields.frame < last {
         return Err(RecordFault::FrameOrder);
     }
-    let octets = read_octets(source, fields.length)?;
-    Ok(Some(Outgoing {
+    let mut outgoing = Outgoing {
         frame: fields.frame,
         slot: fields.slot,
         confirmed: mode.confirmed,
         full: mode.full,
         length: fields.length,
-        octets,
-    }))
+        octets: Octets::new(),
+    };
+    read_octets(source, fields.length, &mut outgoing.octets)?;
+    Ok(Some(outgoing))
 }

@@ -53,7 +53,7 @@ impl Lines {
     ghost use Rattle.dmr_gateway.specs.Received.{IsFitReceived};
     ghost use Rattle.dmr_station.specs.Frames.{settings_of, start, IsAsked, outcomes_of, outcomes_told};
 
-    /// Lines and a gateway that have heard nothing. They take memory here alone, once for each slot, and then once for the
+    /// Lines and a gateway that have heard nothing. They take memory here alone, for each slot, and then for the
     /// gateway.
     pub(crate) fn new(alloc: Global, config: &Config) -> Result<Lines, AllocError>
         ensures start { IfOk result (λ lines. lines ≡ start (settings_of config.now)) }

@@ -68,7 +68,7 @@ impl Station {
     ghost use Rattle.dmr_station.specs.Frames.{settings_of};
     ghost use Rattle.dmr_station.specs.Station.{fresh, IsOffered, IsExchanged, taken_once, counts_of_gateway};
 
-    /// A station that has heard and sent nothing. It takes memory here alone, once for each slot's line, and once for each slot of
+    /// A station that has heard and sent nothing. It takes memory here alone, for each slot's line, and for each slot of
     /// the gateway.
     pub fn new(alloc: Global, config: &Config) -> Result<Station, AllocError>
         ensures fresh { IfOk result (λ station. station ≡ fresh (settings_of config.now)) }

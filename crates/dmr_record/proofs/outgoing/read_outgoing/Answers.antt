@@ -40,19 +40,19 @@ returns-then-fields-last-clause-fault g c =
       (c.if-before-ge-RECORD_LIMIT.false, f, fit, c.in-Some-mode_named.ensures.place, c.if-fields-last.true, refl),
     )
 
-pub returns-in_err-octets-clause-fault : goal.returns-in_err-octets-clause-fault
-returns-in_err-octets-clause-fault g c =
-    let p = err_from_is_err_and c.from_residual-in_err-octets.result c.from_residual-in_err-octets.ensures.1 in
+pub returns-in_err-read_octets-clause-fault : goal.returns-in_err-read_octets-clause-fault
+returns-in_err-read_octets-clause-fault g c =
+    let p = err_from_is_err_and c.from_residual-in_err-read_octets.result c.from_residual-in_err-read_octets.ensures.1 in
     let octet = rw c.in-Some.is at c.in_ok-tag.ensures.octet in
     let read = c.in_ok-fields.fields in
     let f : Fields = record { frame = read.frame; slot = read.slot; mode = read.mode; count = read.length } in
     let fit : Fit f = record { frame = search rules; count = search rules } in
-    let (part, fewer, took) = c.in_err-octets.ensures.part in
+    let (part, fewer, took) = c.in_err-read_octets.ensures.part in
     let fields = tagged _ _ _ _ 2 (field_octets f) c.if-tag-ne-OUTGOING.false octet c.in_ok-fields.ensures.fields in
     rw (p.1, p.2) (
       2 ∷ (field_octets f ++ part),
       Consumes-trans _ _ _ (2 ∷ field_octets f) part fields took,
       ShowsOutgoingFault-part _ _ _ _ (2 ∷ (field_octets f ++ part)) c.if-before-ge-RECORD_LIMIT.false (λ e. (cc))
-          c.in_err-octets.ensures.cause
+          c.in_err-read_octets.ensures.cause
           (inr (inr (f, part, fit, c.in-Some-mode_named.ensures.place, c.if-fields-last.false, fewer, refl))),
     )

@@ -6,4 +6,4 @@ use Rattle.dmr_arq.proofs.sender.Sender.offer.Goals as goal
 pub invariant_of-self : goal.invariant_of-self
 invariant_of-self c =
     subst IsFitSender (sym c.offer.ensures.state)
-    (offered_fit c.args.packet c.args.route c.self.inside.state c.requires.packet c.requires.route c.self.invariant)
+    (offered_fit c.args.packet.now c.args.route c.self.inside.state c.requires.packet c.requires.route c.self.invariant)

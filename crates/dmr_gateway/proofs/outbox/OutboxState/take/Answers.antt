@@ -8,7 +8,7 @@ use Rattle.dmr_gateway.proofs.outbox.OutboxState.take.Goals as goal
 pub returns-in-Some-clause-kept : goal.returns-in-Some-clause-kept
 returns-in-Some-clause-kept c =
     record {
-      queue = subst (λ (b : Buffer Queued). All IsFitQueued b.items) (sym c.pop.ensures.rest)
+      queue = subst (λ (b : Buffer Queued). All IsFitQueued b.items) (sym c.drop_first.ensures.rest)
           (All-drop IsFitQueued 1 c.args.self.now.queue.items c.requires.kept.queue);
       owed = c.requires.kept.owed;
     }
