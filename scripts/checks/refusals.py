@@ -140,7 +140,7 @@ def check_words(report):
             ran = report.call(*words[:at], *words[at + 2 :])
             is_told = ran.status == 2 and ran.out == b"" and f"  --{name} <" in ran.err.decode()
             report.expect(f"no --{name}", is_told, ran)
-    for words in ([], ["walk"], ["slot"], ["slot", it.IDLE, it.IDLE], ["--quiet"]):
+    for words in ([], ["walk"], ["slot"], ["slot", it.IDLE, it.IDLE], ["show"], ["show", "-", "-"], ["--quiet"]):
         ran = report.call(*words)
         is_told = ran.status == 2 and ran.out == b"" and b"Usage: dmrgate" in ran.err
         report.expect(f"words {words}", is_told, ran)

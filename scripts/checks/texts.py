@@ -32,29 +32,29 @@ def help_of(report, *words):
 
 
 def check_help(report):
-    """The options of the program, of run and of slot."""
-    top, run, slot = help_of(report), help_of(report, "run"), help_of(report, "slot")
-    usages = "dmrgate <COMMAND>", "dmrgate run [OPTIONS] --uplink <FILE>", "dmrgate slot <HEX>"
-    for text, usage in zip((top, run, slot), usages):
+    """The options of the program, of run, of slot and of show."""
+    top, run, slot, show = (help_of(report, *words) for words in ([], ["run"], ["slot"], ["show"]))
+    usages = "dmrgate <COMMAND>", "dmrgate run [OPTIONS] --uplink <FILE>", "dmrgate slot <HEX>", "dmrgate show [OPTIONS] <FILE>"
+    for text, usage in zip((top, run, slot, show), usages):
         report.expect(f"help has the usage {usage}", f"\nUsage: {usage}" in text, text)
     commands = set(re.findall(r"^  ([a-z]+)  ", top, re.MULTILINE))
-    report.expect("the commands", commands == {"run", "slot", "help"}, commands)
+    report.expect("the commands", commands == {"run", "slot", "show", "help"}, commands)
     defaults = {"--colour": "1", "--call-hang": "3", "--channel-hang": "5", "--queue": "9"}
     report.expect("the defaults", defaults_in(run) == defaults, defaults_in(run))
     for words in ("60 ms", "1 to 16777215", "0 to 15", "1 to 64", "0 to 65535", "Status 0", "Example", "docs/protocol.md"):
         report.expect(f"help of run has {words!r}", words in run, run)
     report.expect("--color is hidden", "--color " not in run, run)
-    for words in (["help"], ["help", "run"], ["help", "slot"]):
+    for words in (["help"], ["help", "run"], ["help", "slot"], ["help", "show"]):
         ran = report.call(*words)
-        report.expect(f"{words} is --help", ran.status == 0 and ran.out.decode() in (top, run, slot), ran)
+        report.expect(f"{words} is --help", ran.status == 0 and ran.out.decode() in (top, run, slot, show), ran)
     options = re.compile(r"^Options:\n((?: .*\n)+)", re.MULTILINE)
-    return [options_in(options.search(text)[1]) for text in (top, run, slot)]
+    return [options_in(options.search(text)[1]) for text in (top, run, slot, show)]
 
 
-def check_manual(report, top, run, slot, version):
+def check_manual(report, wanted, version):
     text = (report.top / MANUAL).read_text()
     plain = text.replace("\\-", "-")
-    report.expect("the manual's options", options_in(plain) == top | run | slot, options_in(plain) ^ (top | run | slot))
+    report.expect("the manual's options", options_in(plain) == wanted, options_in(plain) ^ wanted)
     report.expect("the manual's version", f'"{version}"' in text, version)
     told = dict(re.findall(r"^\.BI (--[a-z-]+) .*\n.*; (\d+) where it is left out\.$", plain, re.MULTILINE))
     defaults = defaults_in(report.call("run", "--help").out.decode())
@@ -71,28 +71,32 @@ def offered(report, *words):
     return set(ran.stdout.split())
 
 
-def check_completions(report, top, run, slot):
+def check_completions(report, top, run, slot, show):
     for words, wanted in (
-        (["dmrgate", ""], {"run", "slot", "help"} | top),
+        (["dmrgate", ""], {"run", "slot", "show", "help"} | top),
         (["dmrgate", "-"], top),
-        (["dmrgate", "s"], {"slot"}),
+        (["dmrgate", "s"], {"slot", "show"}),
         (["dmrgate", "run", ""], run),
         (["dmrgate", "run", "--c"], {"--colour", "--call-hang", "--channel-hang"}),
         (["dmrgate", "run", "--uplink", "READ"], {"README.md"}),
         (["dmrgate", "run", "--llid", ""], set()),
         (["dmrgate", "slot", "-"], slot),
-        (["dmrgate", "help", ""], {"run", "slot"}),
+        (["dmrgate", "show", "-"], show),
+        (["dmrgate", "show", "READ"], {"README.md"}),
+        (["dmrgate", "show", "--slot", ""], set()),
+        (["dmrgate", "help", ""], {"run", "slot", "show"}),
     ):
         had = offered(report, *words)
         report.expect(f"bash offers for {words}", had == wanted, had ^ wanted)
     text = (report.top / ZSH).read_text()
     begin = text.index("    run)")
-    parts = [text[:begin], *re.split(r"^    (?:slot|help)\)$", text[begin:], flags=re.MULTILINE)]
-    for name, part, wanted in zip(("the program", "run", "slot"), parts, (top, run, slot)):
+    parts = [text[:begin], *re.split(r"^    (?:slot|show|help)\)$", text[begin:], flags=re.MULTILINE)]
+    for name, part, wanted in zip(("the program", "run", "slot", "show"), parts, (top, run, slot, show)):
         report.expect(f"zsh's options of {name}", options_in(part) == wanted, options_in(part) ^ wanted)
     lines = (report.top / FISH).read_text().splitlines()
     everywhere = {"--help"}
-    for name, mark, wanted in (("the program", "__fish_use_subcommand", top), ("run", "from run'", run)):
+    marks = ("the program", "__fish_use_subcommand", top), ("run", "from run'", run), ("show", "from show'", show)
+    for name, mark, wanted in marks:
         had = everywhere | {f"--{word}" for line in lines if mark in line for word in re.findall(r" -l ([a-z-]+)", line)}
         report.expect(f"fish's options of {name}", had == wanted, had ^ wanted)
     for shell, file in (("zsh", ZSH), ("fish", FISH), ("bash", BASH)):
@@ -126,11 +130,10 @@ def check_readme(report):
             ran = shell(re.search(r"^    (\{ printf .* > mine\.dmru)$", text, re.MULTILINE)[1], room.path)
             mine = (room.path / "mine.dmru").read_bytes()
             report.expect("a recording by hand", mine == recordings.ONE_CSBK, mine)
-        shown = re.search(r"^    (python3 - downlink\.dmrd <<'END'\n(?:    .*\n)*?    END)$", text, re.MULTILINE)[1]
-        ran = shell(re.sub(r"^    ", "", shown, flags=re.MULTILINE), room.path)
-        lines = "6 1  data BS, colour 1, type 3, information 000000000000000000005A5A\n"
-        lines += "6 2  data BS, colour 1, type 9, information FF83DF1732094ED1E7CD8A91\n"
-        report.expect("a downlink looked at", ran.stdout == lines, ran)
+        shown = re.search(r"^    \$ (\./dmrgate show .*)\n((?:    .*\n)+)", text, re.MULTILINE)
+        ran = shell(shown[1], room.path)
+        lines = re.sub(r"^    ", "", shown[2], flags=re.MULTILINE)
+        report.expect("the listing of the README", (ran.returncode, ran.stdout) == (0, lines), ran)
         for name in ("one.dmru", "two.dmru"):
             (room.path / name).write_bytes(recordings.ONE_CSBK)
         room.uplink.unlink()
@@ -142,11 +145,11 @@ def check_readme(report):
 
 
 def check(report):
-    top, run, slot = check_help(report)
+    top, run, slot, show = check_help(report)
     ran = report.call("--version")
     version = ran.out.decode().strip()
     is_version = re.fullmatch(r"dmrgate \d+\.\d+\.\d+", version) and ran.status == 0 and ran.err == b""
     report.expect("the version", is_version, ran)
-    check_manual(report, top, run, slot, version)
-    check_completions(report, top, run, slot)
+    check_manual(report, top | run | slot | show, version)
+    check_completions(report, top, run, slot, show)
     check_readme(report)

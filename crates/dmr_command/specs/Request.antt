@@ -10,7 +10,8 @@ use Rattle.dmr_gateway.specs.Config.{fault_of}
 use Rattle.dmr_gateway.specs.declared.config.Config.{Config}
 use Rattle.dmr_gateway.specs.declared.config.ConfigFault.{ConfigFault}
 use Rattle.dmr_command.specs.declared.request.Request.{Request}
-use Rattle.dmr_command.specs.declared.request.Request.TheVariants.{Slot, Run}
+use Rattle.dmr_command.specs.declared.request.Request.TheVariants.{Slot, Run, Show}
+use Rattle.dmr_show.specs.declared.filter.Filter.{Filter}
 
 -- the text that an option was given, or has where it is left out
 abbrev pub text_of : Found → Text → Text
@@ -53,10 +54,32 @@ pub record AreSettingsOf (found : Found) (config : Result Config ConfigFault) : 
   pub valid : OnOk config (fault_of colour llid call_hang channel_hang queue ≡ None)
   pub fault : IfErr config (λ e. fault_of colour llid call_hang channel_hang queue ≡ Some e)
 
--- What a command with these options asks for: `run` for a run, and any other for the burst of `slot`.
+-- the number of so many bits that the text of an option spells, where the option is given
+pub record IsGivenBy (width : ℕ) (found : Found) (option : Text) (number : Option ℕ) : Type 0 where
+  pub left_out : one_text found option ≡ None → number ≡ None
+  pub given : (text : Text) → one_text found option ≡ Some text
+      → IsNumeral 10 (without_leading_plus text) → digits_value 10 (without_leading_plus text) < 2 ^ width
+      → number ≡ Some (digits_value 10 (without_leading_plus text))
+
+-- Each part of a filter is the number of the option of its name, where that is given.
+pub record IsFilterOf (found : Found) (filter : Filter) : Type 0 where
+  pub slot : IsGivenBy 8 found (codes "slot") filter.slot
+  pub from : IsGivenBy 32 found (codes "from") filter.from
+  pub to : IsGivenBy 32 found (codes "to") filter.to
+
+-- What a command with these options asks for: `run` for a run, `show` for a listing, and any other for the burst of `slot`.
 abbrev pub IsAskedBy : Option (Text × Found) → Request → Type 0
 IsAskedBy None (Slot burst) = burst.now ≡ []
 IsAskedBy None (Run config places) = ⊥
-IsAskedBy (Some command) (Slot burst) = (command.0 ≡ codes "run" → ⊥) × (burst.now ≡ text_of command.1 (codes "burst"))
+IsAskedBy None (Show name filter) = ⊥
+IsAskedBy (Some command) (Slot burst) = (command.0 ≡ codes "run" → ⊥) × (command.0 ≡ codes "show" → ⊥)
+    × (burst.now ≡ text_of command.1 (codes "burst"))
 IsAskedBy (Some command) (Run config places) =
     (command.0 ≡ codes "run") × AreSettingsOf command.1 config × ArePlacesOf command.1 places
+IsAskedBy (Some command) (Show name filter) =
+    (command.0 ≡ codes "show") × (name.now ≡ text_of command.1 (codes "file")) × IsFilterOf command.1 filter
+
+-- a file is to be listed
+abbrev pub IsShow : Request → Type 0
+IsShow (Show name filter) = Unit {0}
+IsShow request = ⊥

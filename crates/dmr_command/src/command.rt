@@ -17,6 +17,13 @@ none.dmro --downlink out.dmrd --received in.dmri --llid 1\n\nThe files are descr
 const ABOUT_SLOTS: &str =
     "Example:\n  dmrgate slot 53C25EABA8671DC7383BD936065DFF57D75DF5D92BF6E465171B48CA6D4FC610B4";
 
+/// What help says behind the options of `show`.
+const ABOUT_LISTINGS: &str =
+    "A file is one of the four of a run, told by its first octets. Each burst or record has a line: seconds, frame and slot, and \
+what it is; silence has none. The last line counts all that the file holds.\n\nStatus 0: the file is whole; 1: it is at fault, \
+which is told on standard error with the octet at which its record begins; 2: the command line.\n\nExample:\n  dmrgate show \
+uplink.dmru --slot 1 --from 100 --to 199\n\nThe files are described in docs/protocol.md.";
+
 /// An option that takes the path of a file.
 fn file<'a>(alloc: Global, name: &'a str, help: &'a str) -> Arg<'a> {
     Arg::new(alloc, name)
@@ -119,15 +126,37 @@ fn slot_command<'a>(alloc: Global) -> Result<Command<'a>, AllocError> {
         .arg(burst)
 }
 
+/// `show`, with its file and the lines that are asked for.
+fn show_command<'a>(alloc: Global) -> Result<Command<'a>, AllocError> {
+    let file = Arg::new(alloc, "file")
+        .value_name("FILE")
+        .help("The file to list; - is standard input")
+        .required(true)
+        .action(ArgAction::Set);
+    let slot = number(alloc, "slot", "The slot alone, 1 or 2");
+    let slot = slot.value_parser(value_parser!(u8).range(1..3));
+    let from = number(alloc, "from", "The first frame that has lines");
+    let to = number(alloc, "to", "The last frame that has lines");
+    Command::new(alloc, "show")
+        .about("Lists what a file holds")
+        .after_help(ABOUT_LISTINGS)
+        .arg(file)?
+        .arg(slot)?
+        .arg(from.value_name("FRAME").value_parser(value_parser!(u32)))?
+        .arg(to.value_name("FRAME").value_parser(value_parser!(u32)))
+}
+
 /// The whole command line.
 pub(crate) fn command<'a>(alloc: Global) -> Result<Command<'a>, AllocError> {
     let run = run_command(alloc)?;
     let slot = slot_command(alloc)?;
+    let show = show_command(alloc)?;
     Command::new(alloc, "dmrgate")
         .about("A two-slot DMR repeater with an IP data gateway, run on recordings")
         .version(VERSION)
         .bin_name("dmrgate")?
         .subcommand_required(true)
         .subcommand(run)?
-        .subcommand(slot)
+        .subcommand(slot)?
+        .subcommand(show)
 }

@@ -1,8 +1,9 @@
 //! The command line of `dmrgate`: what its words ask for, and doing that.
 //!
-//! `request_of` reads the words, by a command line parser whose texts are its own; `obey` does what they ask for, on a system
-//! (`dmr_files`), and prints to two sinks (`dmr_record`): what was asked for to the first, errors to the second. `program` is
-//! both on the system that it runs on. `specs/Request.antt` says which option each place and each setting comes from.
+//! `request_of` reads the words, by a command line parser whose texts are its own, and `fulfil` does what they ask for, on a system
+//! (`dmr_files`), and prints to two sinks (`dmr_record`): what was asked for to the first, errors to the second. `obey` is both,
+//! and `program` is that on the system that it runs on. `specs/Request.antt` says which option each place and each setting comes
+//! from.
 #![tactic(auto)]
 
 mod command;
@@ -10,6 +11,6 @@ mod obeying;
 mod process;
 mod request;
 
-pub use obeying::obey;
+pub use obeying::{fulfil, obey};
 pub use process::program;
 pub use request::{Request, request_of};

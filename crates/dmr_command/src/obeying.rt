@@ -1,12 +1,16 @@
 //! Doing what the words of a command line ask for.
 ghost use Rattle.std.specs.Prelude.{◌≡◌, ◌≤◌, ◌⊎◌, false, true};
+ghost use Rattle.dmr_report.specs.Line.{PutsError};
 ghost use Rattle.dmr_report.specs.declared.status.TheConstants.{FAILURE, SUCCESS, USAGE};
+ghost use Rattle.dmr_show.specs.Showing.{TellsFault};
+ghost use Rattle.dmr_command.specs.Request.{IsShow};
 
 use crate::request::{Request, request_of};
 use clap::Error;
-use dmr_files::{System, run_places};
+use dmr_files::{OpenFault, Place, System, open_source, run_places};
 use dmr_record::Sink;
-use dmr_report::{RunEnd, SUCCESS, USAGE, print_end, print_error, print_slot, print_text};
+use dmr_report::{FAILURE, RunEnd, SUCCESS, USAGE, print_end, print_error, print_slot, print_text};
+use dmr_show::{Filter, show};
 use std::alloc::Global;
 use std::convert::AsStr;
 
@@ -28,6 +32,92 @@ fn print_answer<K: Sink, E: Sink>(alloc: Global, answer: &Error, out: &mut K, er
     }
 }
 
+/// Tells that there is no memory.
+fn print_want_of_memory<E: Sink>(err: &mut E)
+    requires err { E.has_failed err.old ≡ false }
+    ensures error { E.has_failed err.new ≡ false → PutsError (E.held err.old) (E.held err.new) }
+{
+    let _failure = print_error(err, "out of memory", FAILURE);
+}
+
+/// Tells that a file can't be opened.
+fn print_cannot_open<E: Sink>(alloc: Global, name: &str, err: &mut E)
+    requires err { E.has_failed err.old ≡ false }
+    ensures error { E.has_failed err.new ≡ false → PutsError (E.held err.old) (E.held err.new) }
+{
+    match format!(in alloc; "{name}: cannot open") {
+        Ok(text) => {
+            let _failure = print_error(err, text.as_str(), FAILURE);
+        }
+        Err(_) => print_want_of_memory(err),
+    }
+}
+
+/// Lists the file of this name, as far as it can be read.
+fn show_file<S: System, K: Sink, E: Sink>(
+    alloc: Global,
+    system: &S,
+    name: &str,
+    filter: Filter,
+    out: &mut K,
+    err: &mut E,
+) -> u8
+    requires out { K.has_failed out.old ≡ false }
+    requires err { E.has_failed err.old ≡ false }
+    ensures alone { (err.new ≡ err.old)
+        ⊎ TellsFault result (K.has_failed out.new) (E.has_failed err.new) (E.held err.old) (E.held err.new) }
+    ensures success { result ≡ SUCCESS → err.new ≡ err.old }
+    ensures status { result ≤ 1 }
+    ensures out_failed { K.has_failed out.new ≡ true → result ≡ FAILURE }
+    ensures err_failed { E.has_failed err.new ≡ true → result ≡ FAILURE }
+{
+    match open_source(system, alloc, Place::named(name)) {
+        Ok(mut source) => show(alloc, name, filter, &mut source, out, err),
+        Err(OpenFault::CannotOpen) => {
+            print_cannot_open(alloc, name, err);
+            FAILURE
+        }
+        Err(OpenFault::Memory) => {
+            print_want_of_memory(err);
+            FAILURE
+        }
+    }
+}
+
+/// Does what is asked for, and answers the exit status.
+pub fn fulfil<S: System, K: Sink, E: Sink>(
+    alloc: Global,
+    request: Request<'_>,
+    system: &S,
+    out: &mut K,
+    err: &mut E,
+) -> u8
+    requires out { K.has_failed out.old ≡ false }
+    requires err { E.has_failed err.old ≡ false }
+    // What is printed goes to one of the two, which of them the status tells.
+    ensures alone { (IsShow request.entry → ⊥) → (out.new ≡ out.old) ⊎ (err.new ≡ err.old) }
+    // A listing goes to the first; where it ends at a fault, a line of error goes to the second.
+    ensures listing { IsShow request.entry → (err.new ≡ err.old)
+        ⊎ TellsFault result (K.has_failed out.new) (E.has_failed err.new) (E.held err.old) (E.held err.new) }
+    ensures success { result ≡ SUCCESS → err.new ≡ err.old }
+    ensures usage { result ≡ USAGE → out.new ≡ out.old }
+    ensures status { result ≤ 2 }
+    ensures out_failed { K.has_failed out.new ≡ true → result ≡ FAILURE }
+    ensures err_failed { E.has_failed err.new ≡ true → result ≡ FAILURE }
+{
+    match request {
+        Request::Slot(burst) => print_slot(burst, out, err),
+        Request::Run { config, places } => {
+            let end = match config {
+                Ok(config) => run_places(system, alloc, config, &places),
+                Err(fault) => RunEnd::Setting(fault),
+            };
+            print_end(&end, out, err)
+        }
+        Request::Show { name, filter } => show_file(alloc, system, name, filter, out, err),
+    }
+}
+
 /// Does what the words of a command line ask for, of which the first is the program's name, and answers the exit status.
 pub fn obey<T: AsStr, S: System, K: Sink, E: Sink>(
     alloc: Global,
@@ -38,8 +128,10 @@ pub fn obey<T: AsStr, S: System, K: Sink, E: Sink>(
 ) -> u8
     requires out { K.has_failed out.old ≡ false }
     requires err { E.has_failed err.old ≡ false }
-    // What is printed goes to one of the two, which of them the status tells.
-    ensures alone { (out.new ≡ out.old) ⊎ (err.new ≡ err.old) }
+    // What is printed goes to one of the two, which of them the status tells; a listing that ends at a fault goes to the first, and
+    // its line of error to the second.
+    ensures alone { (out.new ≡ out.old) ⊎ (err.new ≡ err.old)
+        ⊎ TellsFault result (K.has_failed out.new) (E.has_failed err.new) (E.held err.old) (E.held err.new) }
     ensures success { result ≡ SUCCESS → err.new ≡ err.old }
     ensures usage { result ≡ USAGE → out.new ≡ out.old }
     ensures status { result ≤ 2 }
@@ -47,14 +139,7 @@ pub fn obey<T: AsStr, S: System, K: Sink, E: Sink>(
     ensures err_failed { E.has_failed err.new ≡ true → result ≡ FAILURE }
 {
     match request_of(alloc, words) {
-        Ok(Request::Slot(burst)) => print_slot(burst, out, err),
-        Ok(Request::Run { config, places }) => {
-            let end = match config {
-                Ok(config) => run_places(system, alloc, config, &places),
-                Err(fault) => RunEnd::Setting(fault),
-            };
-            print_end(&end, out, err)
-        }
+        Ok(request) => fulfil(alloc, request, system, out, err),
         Err(answer) => print_answer(alloc, &answer, out, err),
     }
 }

@@ -1,12 +1,13 @@
 //! What the words of a command line ask for.
 ghost use Rattle.std.specs.Prelude.{◌≡◌, option_map};
 ghost use Rattle.clap.specs.Words.{found_of};
-ghost use Rattle.dmr_command.specs.Request.{ArePlacesOf, AreSettingsOf, IsAskedBy, IsNumberOf, IsPlaceOf, text_of};
+ghost use Rattle.dmr_command.specs.Request.{ArePlacesOf, AreSettingsOf, IsAskedBy, IsFilterOf, IsNumberOf, IsPlaceOf, text_of};
 
 use crate::command::command;
 use clap::{ArgMatches, Error};
 use dmr_files::{Place, Places};
 use dmr_gateway::{Config, ConfigFault};
+use dmr_show::Filter;
 use std::alloc::Global;
 use std::convert::AsStr;
 
@@ -19,6 +20,11 @@ pub enum Request<'a> {
     Run {
         config: Result<Config, ConfigFault>,
         places: Places<'a>,
+    },
+    /// To list the file of this name, as far as a filter lets its lines pass.
+    Show {
+        name: &'a str,
+        filter: Filter,
     },
 }
 
@@ -91,6 +97,17 @@ fn config_of(run: &ArgMatches<'_>) -> Result<Config, ConfigFault>
     )
 }
 
+/// The lines that a command line of `show` asks for.
+fn filter_of(show: &ArgMatches<'_>) -> Filter
+    ensures filter { IsFilterOf (found_of show.now) result }
+{
+    Filter {
+        slot: show.get_one::<u8>("slot"),
+        from: show.get_one::<u32>("from"),
+        to: show.get_one::<u32>("to"),
+    }
+}
+
 /// What a command with its options asks for.
 pub(crate) fn request_by<'a>(command: Option<(&'a str, &ArgMatches<'a>)>) -> Request<'a>
     ensures asked { IsAskedBy (option_map (λ c. (c.0.now, found_of c.1.now)) command.entry) result }
@@ -99,6 +116,10 @@ pub(crate) fn request_by<'a>(command: Option<(&'a str, &ArgMatches<'a>)>) -> Req
         Some(("run", run)) => Request::Run {
             config: config_of(run),
             places: places_of(run),
+        },
+        Some(("show", show)) => Request::Show {
+            name: text_of(show, "file"),
+            filter: filter_of(show),
         },
         Some((_, slot)) => Request::Slot(text_of(slot, "burst")),
         // Not reached, since a command is required. No burst has no digits.

@@ -15,7 +15,7 @@
 //! (`specs/Fragments.antt`), what a CACH announces (`specs/Activity.antt`), which bits are wrong (`specs/Wrong.antt`), and what is
 //! counted (`specs/Summaries.antt`). Of a whole file they say that each burst or record has a line, in order and once, and that a
 //! fault is told exactly where the octets show it (`specs/Recordings.antt` and `Listings`, `OutgoingListings`, `ReceivedListings`;
-//! `laws` has the places of the lines). What the texts are is left open by them, and is tested. No command lists a file yet.
+//! `laws` has the places of the lines). What the texts are is left open by them, and is tested.
 #![tactic(auto)]
 
 mod activity;
@@ -56,6 +56,3 @@ pub use slot_view::SlotView;
 pub use summary::{BurstCounts, RecordingSummary};
 pub use voice_place::{VoicePlace, VoicePlaces};
 pub use wrong::Wrong;
-
-#[cfg(test)]
-mod tests;

@@ -1,5 +1,5 @@
 //! A listing of a whole recording.
-ghost use Rattle.std.specs.Prelude.{◌≡◌, ◌*◌, ◌∷◌, [], Option, List, Bool, false, true, length, IfOk, IfErr, OnOk, OnErr};
+ghost use Rattle.std.specs.Prelude.{◌≡◌, ◌*◌, ◌∷◌, [], ℕ, Option, List, Bool, false, true, length, IfOk, IfErr, OnOk, OnErr};
 ghost use Rattle.std.specs.Io.KnownBytes.{IsAtEnd};
 ghost use Rattle.dmr_record.specs.Devices.{failed_after};
 ghost use Rattle.dmr_record.specs.Faults.{is_of_end, is_device_fault};
@@ -24,11 +24,15 @@ pub trait BurstLines {
     /// Whether it has failed.
     ghost has_failed: { Self → Bool };
 
+    /// What no line changes of it, such as the name of a sink that it holds and prints to.
+    ghost kept: { Self → ℕ };
+
     /// Takes the line of a burst. At an `Err` it didn't, and has failed from then on.
     fn put(&mut self, burst: &RecordedBurst, line: &BurstLine) -> Result<(), DeviceFault>
         ensures line { OnOk result (Gains (given self.old) (given self.new) (line.now ∷ [])) }
         ensures none { OnErr result (Gains (given self.old) (given self.new) []) }
-        ensures failure { has_failed self.new ≡ failed_after (has_failed self.old) result };
+        ensures failure { has_failed self.new ≡ failed_after (has_failed self.old) result }
+        ensures kept { kept self.new ≡ kept self.old };
 }
 
 /// Why a listing stopped.
@@ -69,6 +73,7 @@ pub fn list_recording<S: Source, L: BurstLines>(
     ensures lines { IfErr result (λ e. IfOutput e (L.has_failed lines.new ≡ true)) }
     ensures others { IfErr result (λ e. IfFile e (λ fault. L.has_failed lines.new ≡ false)) }
     ensures well { OnOk result ((S.has_failed source.new ≡ false) × (L.has_failed lines.new ≡ false)) }
+    ensures kept { L.kept lines.new ≡ L.kept lines.old }
 {
     let mut view = RecordingView::new();
     let mut octet = HEAD_OCTETS;

@@ -21,11 +21,15 @@ pub trait OutgoingLines {
     /// Whether it has failed.
     ghost has_failed: { Self → Bool };
 
+    /// What no line changes of it, such as the name of a sink that it holds and prints to.
+    ghost kept: { Self → ℕ };
+
     /// Takes the line of a record. At an `Err` it didn't, and has failed from then on.
     fn put(&mut self, outgoing: &Outgoing) -> Result<(), DeviceFault>
         ensures line { OnOk result (Gains (given self.old) (given self.new) (outgoing.now ∷ [])) }
         ensures none { OnErr result (Gains (given self.old) (given self.new) []) }
-        ensures failure { has_failed self.new ≡ failed_after (has_failed self.old) result };
+        ensures failure { has_failed self.new ≡ failed_after (has_failed self.old) result }
+        ensures kept { kept self.new ≡ kept self.old };
 }
 
 /// How many octets stand in a record before its datagram.
@@ -56,6 +60,7 @@ pub fn list_outgoing<S: Source, L: OutgoingLines>(
     ensures lines { IfErr result (λ e. IfOutput e (L.has_failed lines.new ≡ true)) }
     ensures others { IfErr result (λ e. IfFile e (λ fault. L.has_failed lines.new ≡ false)) }
     ensures well { OnOk result ((S.has_failed source.new ≡ false) × (L.has_failed lines.new ≡ false)) }
+    ensures kept { L.kept lines.new ≡ L.kept lines.old }
 {
     let mut count = 0;
     let mut last = 0;

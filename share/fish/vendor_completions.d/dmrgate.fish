@@ -2,10 +2,11 @@
 complete -c dmrgate -f
 complete -c dmrgate -n __fish_use_subcommand -a run -d 'Repeat a recording of the uplink into the downlink'
 complete -c dmrgate -n __fish_use_subcommand -a slot -d 'Say what one burst is'
+complete -c dmrgate -n __fish_use_subcommand -a show -d 'List what a file holds'
 complete -c dmrgate -n __fish_use_subcommand -a help -d 'Print help'
 complete -c dmrgate -n __fish_use_subcommand -s V -l version -d 'Print the version'
 complete -c dmrgate -s h -l help -d 'Print help'
-complete -c dmrgate -n '__fish_seen_subcommand_from help' -a 'run slot'
+complete -c dmrgate -n '__fish_seen_subcommand_from help' -a 'run slot show'
 complete -c dmrgate -n '__fish_seen_subcommand_from run' -l uplink -rF -d 'The recording of the uplink, to read'
 complete -c dmrgate -n '__fish_seen_subcommand_from run' -l outgoing -rF -d 'The datagrams to send, to read'
 complete -c dmrgate -n '__fish_seen_subcommand_from run' -l downlink -rF -d 'The downlink, to write'
@@ -15,3 +16,7 @@ complete -c dmrgate -n '__fish_seen_subcommand_from run' -l colour -x -d 'The co
 complete -c dmrgate -n '__fish_seen_subcommand_from run' -l call-hang -x -d 'Frames of 60 ms that a call is held'
 complete -c dmrgate -n '__fish_seen_subcommand_from run' -l channel-hang -x -d 'Frames of 60 ms that the channel stays on the air'
 complete -c dmrgate -n '__fish_seen_subcommand_from run' -l queue -x -d 'Datagrams that may wait in a slot, 1 to 64'
+complete -c dmrgate -n '__fish_seen_subcommand_from show' -F
+complete -c dmrgate -n '__fish_seen_subcommand_from show' -l slot -x -a '1 2' -d 'The slot alone'
+complete -c dmrgate -n '__fish_seen_subcommand_from show' -l from -x -d 'The first frame that has lines'
+complete -c dmrgate -n '__fish_seen_subcommand_from show' -l to -x -d 'The last frame that has lines'

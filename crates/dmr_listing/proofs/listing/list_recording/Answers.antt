@@ -20,6 +20,7 @@ loop-slot-preserved-in-None g c =
     record {
       source = c.in-Ok-Some.ensures.well;
       lines = inv.lines;
+      kept = inv.kept;
       few = omega (arith, below, before, later);
       room = omega (arith, inv.room, short, later);
       so_far = (
@@ -63,6 +64,7 @@ loop-slot-preserved g c =
     record {
       source = c.in-Ok-Some.ensures.well;
       lines = search rules;
+      kept = c.put.ensures.kept ∙ inv.kept;
       few = omega (arith, below, before, later);
       room = omega (arith, inv.room, short, later);
       so_far = (

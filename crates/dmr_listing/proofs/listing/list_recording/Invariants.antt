@@ -9,6 +9,7 @@ abbrev pub invariant-loop-slot : goal.invariant-loop-slot
 invariant-loop-slot g l = record {
   source : g.S.Source.has_failed l.source ≡ false;
   lines : g.L.BurstLines.has_failed l.lines ≡ false;
+  kept : g.L.BurstLines.kept l.lines ≡ g.L.BurstLines.kept l.initial.lines;
   few : l.view.slots ≤ most_slots_of l.recording;
   room : l.octet ≤ 8 + 37 * l.view.slots;
   so_far : (slots : List Slot) × (length slots ≡ l.view.slots) × (l.octet ≡ octet_behind (spelling l.recording) slots)

@@ -32,6 +32,7 @@ loop-record-preserved g c =
     record {
       source = c.in-Ok-Some.ensures.well;
       lines = search rules;
+      kept = c.put.ensures.kept ∙ inv.kept;
       few = omega (arith, below);
       room = omega (arith, inv.room, from, long, short);
       so_far = (

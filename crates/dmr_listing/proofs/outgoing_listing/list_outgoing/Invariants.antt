@@ -10,6 +10,7 @@ abbrev pub invariant-loop-record : goal.invariant-loop-record
 invariant-loop-record g l = record {
   source : g.S.Source.has_failed l.source ≡ false;
   lines : g.L.OutgoingLines.has_failed l.lines ≡ false;
+  kept : g.L.OutgoingLines.kept l.lines ≡ g.L.OutgoingLines.kept l.initial.lines;
   few : l.count ≤ RECORD_LIMIT;
   room : l.octet ≤ 8 + 65544 * l.count;
   so_far : (sendings : List Sending) × (length sendings ≡ l.count) × (last_frame 0 sendings ≡ l.last)

@@ -42,6 +42,7 @@ loop-received-preserved g c =
     record {
       source = c.in-Ok-Some.ensures.well;
       lines = search rules;
+      kept = c.put.ensures.kept ∙ inv.kept;
       few = omega (arith, below);
       room = omega (arith, inv.room, from, whole, short);
       so_far = (

@@ -9,6 +9,7 @@ abbrev pub invariant-loop-received : goal.invariant-loop-received
 invariant-loop-received g l = record {
   source : g.S.Source.has_failed l.source ≡ false;
   lines : g.L.ReceivedLines.has_failed l.lines ≡ false;
+  kept : g.L.ReceivedLines.kept l.lines ≡ g.L.ReceivedLines.kept l.initial.lines;
   few : l.count ≤ most_receipts;
   room : l.octet ≤ 8 + 65547 * l.count;
   so_far : (receipts : List Receipt) × (length receipts ≡ l.count) × (last_fields None receipts ≡ last_read l.last)

@@ -1,13 +1,12 @@
 //! The lines of bursts, and the places of superframes.
-use crate::control_block::ControlBlock;
-use crate::link_control::LinkControl;
-use crate::{
-    BurstCounts, BurstLine, BurstLines, FaultLine, ListingEnd, OutgoingLine, Place, ReceivedLine,
-    RecordedBurst, Recording, RecordingSummary, SlotView, VoicePlace, VoicePlaces, list_recording,
-};
 use dmr_burst::{Emb, Side};
 use dmr_csbk::Csbk;
 use dmr_link::FullLc;
+use dmr_listing::{
+    BurstCounts, BurstLine, BurstLines, Contents, FaultLine, ListingEnd, OutgoingLine, Place,
+    ReceivedLine, RecordedBurst, Recording, RecordingSummary, SlotView, VoicePlace, VoicePlaces,
+    list_recording,
+};
 use dmr_record::{DeviceFault, FromRead, Received, ReceivedKind, RecordFault, read_outgoing};
 use dmr_report::Reading;
 use hex::FromHex;
@@ -203,8 +202,8 @@ fn lines_of_bursts(rt: HostRuntime) -> Result<(), Fail> {
 }
 
 /// A link control of an opcode, all options of a call set, from 2 to 1.
-fn link_control(flco: u8) -> LinkControl {
-    LinkControl(FullLc {
+fn link_control(flco: u8) -> Contents {
+    Contents::LinkControl(FullLc {
         protect: false,
         reserved: false,
         flco,
@@ -214,8 +213,8 @@ fn link_control(flco: u8) -> LinkControl {
 }
 
 /// A control block of an opcode and a feature set.
-fn control_block(code: u8, fid: u8) -> ControlBlock {
-    ControlBlock(Csbk {
+fn control_block(code: u8, fid: u8) -> Contents {
+    Contents::ControlBlock(Csbk {
         last: true,
         protect: false,
         code,
@@ -295,6 +294,8 @@ impl BurstLines for Taken {
     ghost given = { λ taken. None };
 
     ghost has_failed = { λ taken. taken.is_failed };
+
+    ghost kept = { λ taken. 0 };
 
     fn put(&mut self, _burst: &RecordedBurst, line: &BurstLine) -> Result<(), DeviceFault> {
         if self.room == 0 || writeln!(self.text, "{line}").is_err() {

@@ -1,0 +1,107 @@
+//! A file, shown.
+ghost use Rattle.std.specs.Prelude.{◌≡◌, ◌≤◌, ◌⊎◌, false, true, length, IfOk, IfErr, OnOk};
+ghost use Rattle.dmr_listing.specs.Endings.{IfFile, IfOutput};
+ghost use Rattle.dmr_report.specs.Line.{PutsError};
+ghost use Rattle.dmr_report.specs.declared.status.TheConstants.{FAILURE, SUCCESS};
+ghost use Rattle.dmr_show.specs.Showing.{IsShownWhole, TellsFault};
+
+use crate::file_listing::list_file;
+use crate::filter::Filter;
+use crate::text_lines::TextLines;
+use dmr_listing::{FaultLine, ListingEnd};
+use dmr_record::{OCTET_LIMIT, Sink, Source};
+use dmr_report::{FAILURE, SUCCESS, print_error};
+use std::alloc::{AllocError, Global};
+
+/// How many octets the longest line has at most: a received record that is no datagram, in digits, behind its other columns.
+const LONGEST_LINE: usize = 2 * OCTET_LIMIT + 100;
+
+/// Prints the listing of a file to a sink.
+fn list_to<S: Source, K: Sink>(
+    source: &mut S,
+    filter: Filter,
+    room: &mut [u8],
+    text: &mut String,
+    out: &mut K,
+) -> Result<(), ListingEnd>
+    requires source { S.has_failed source.old ≡ false }
+    requires out { K.has_failed out.old ≡ false }
+    requires room { 65535 ≤ length room.old }
+    ensures whole { OnOk result (IsShownWhole (S.left source.old) (S.left source.new)) }
+    ensures output { IfErr result (λ e. IfOutput e (K.has_failed out.new ≡ true)) }
+    ensures others { IfErr result (λ e. IfFile e (λ fault. K.has_failed out.new ≡ false)) }
+    ensures well { OnOk result (K.has_failed out.new ≡ false) }
+{
+    let mut lines = TextLines::new(out, filter, text);
+    list_file(source, room, &mut lines)
+}
+
+/// Tells that there is no memory.
+fn print_want_of_memory<E: Sink>(err: &mut E)
+    requires err { E.has_failed err.old ≡ false }
+    ensures error { E.has_failed err.new ≡ false → PutsError (E.held err.old) (E.held err.new) }
+{
+    let _failure = print_error(err, "out of memory", FAILURE);
+}
+
+/// Tells a fault of a file.
+fn print_fault<E: Sink>(alloc: Global, name: &str, fault: &FaultLine, err: &mut E)
+    requires err { E.has_failed err.old ≡ false }
+    ensures error { E.has_failed err.new ≡ false → PutsError (E.held err.old) (E.held err.new) }
+{
+    match format!(in alloc; "{name}: {fault}") {
+        Ok(text) => {
+            let _failure = print_error(err, text.as_str(), FAILURE);
+        }
+        Err(_) => print_want_of_memory(err),
+    }
+}
+
+/// Room for the octets of a received record, and for the text of a line.
+fn room_of(alloc: Global) -> Result<(Vec<u8>, String), AllocError>
+    ensures octets { IfOk result (λ room. 65535 ≤ length room.0.items) }
+{
+    let octets = vec![in alloc; 0u8; OCTET_LIMIT]?;
+    let text = String::with_capacity(alloc, LONGEST_LINE)?;
+    Ok((octets, text))
+}
+
+/// Prints the listing of a file of any of the four formats to the first sink, as far as the file can be read, and answers the
+/// exit status. The source stands before the head. A fault of the file is told on the second sink, by the name of the file.
+pub fn show<S: Source, K: Sink, E: Sink>(
+    alloc: Global,
+    name: &str,
+    filter: Filter,
+    source: &mut S,
+    out: &mut K,
+    err: &mut E,
+) -> u8
+    requires source { S.has_failed source.old ≡ false }
+    requires out { K.has_failed out.old ≡ false }
+    requires err { E.has_failed err.old ≡ false }
+    // A file of one of the formats was read whole, head and all, and no error is told.
+    ensures whole { result ≡ SUCCESS → IsShownWhole (S.left source.old) (S.left source.new) }
+    ensures success { result ≡ SUCCESS → err.new ≡ err.old }
+    // Or its fault is told, unless what is listed can't be printed.
+    ensures fault { result ≡ FAILURE → K.has_failed out.new ≡ false
+        → TellsFault result (K.has_failed out.new) (E.has_failed err.new) (E.held err.old) (E.held err.new) }
+    ensures alone { (err.new ≡ err.old)
+        ⊎ TellsFault result (K.has_failed out.new) (E.has_failed err.new) (E.held err.old) (E.held err.new) }
+
+    ensures status { result ≤ 1 }
+    ensures out_failed { K.has_failed out.new ≡ true → result ≡ FAILURE }
+    ensures err_failed { E.has_failed err.new ≡ true → result ≡ FAILURE }
+{
+    let Ok((mut room, mut text)) = room_of(alloc) else {
+        print_want_of_memory(err);
+        return FAILURE;
+    };
+    match list_to(source, filter, room.as_mut_slice(), &mut text, out) {
+        Ok(()) => SUCCESS,
+        Err(ListingEnd::File(fault)) => {
+            print_fault(alloc, name, &fault, err);
+            FAILURE
+        }
+        Err(ListingEnd::Output) => FAILURE,
+    }
+}

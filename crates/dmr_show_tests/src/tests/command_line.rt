@@ -1,0 +1,113 @@
+//! The command line of `show`, over a system of one file.
+use dmr_command::{Request, obey, request_of};
+use dmr_files::{FileKind, Identity, Open, Place, StandardFiles, System};
+use dmr_record::ToWrite;
+use dmr_show::Filter;
+use std::io::{self, ErrorKind, Sink};
+use std::test::Fail;
+
+/// A system with a recording of no frames, by its name and on standard input.
+struct OneFile;
+
+impl System for OneFile {
+    type Input = &'static [u8];
+
+    type Output = Sink;
+
+    fn open_input(&self, place: Place<'_>) -> io::Result<Open<&'static [u8]>> {
+        match place {
+            Place::Path("up") | Place::Standard => {
+                let file = b"DMRU\x01\x00\x00\x00".as_slice();
+                let identity = Identity {
+                    device: 1,
+                    number: 1,
+                    kind: FileKind::Regular,
+                };
+                Ok(Open { file, identity })
+            }
+            Place::Path(_) => Err(io::Error::from(ErrorKind::NotFound)),
+        }
+    }
+
+    fn open_output(&self, _place: Place<'_>) -> io::Result<Open<Sink>> {
+        Err(io::Error::from(ErrorKind::NotFound))
+    }
+
+    fn empty(&self, _output: &Open<Sink>) -> io::Result<()> {
+        Ok(())
+    }
+
+    fn standard_files(&self) -> StandardFiles {
+        StandardFiles {
+            input: None,
+            output: None,
+            error: None,
+        }
+    }
+}
+
+#[test]
+fn lines_that_are_asked_for(rt: HostRuntime) -> Result<(), Fail> {
+    let words = ["dmrgate", "show", "up"];
+    let all = Filter {
+        slot: None,
+        from: None,
+        to: None,
+    };
+    let Request::Show { name, filter } = request_of(rt.alloc(), &words)? else {
+        return Err(Fail::from("no listing"));
+    };
+    assert!(rt; name == "up" && filter == all);
+    let words = [
+        "dmrgate",
+        "show",
+        "--to",
+        "9",
+        "--slot",
+        "2",
+        "-",
+        "--from",
+        "4294967295",
+    ];
+    let some = Filter {
+        slot: Some(2),
+        from: Some(4_294_967_295),
+        to: Some(9),
+    };
+    let Request::Show { name, filter } = request_of(rt.alloc(), &words)? else {
+        return Err(Fail::from("no listing"));
+    };
+    assert!(rt; name == "-" && filter == some);
+    for (option, value) in [
+        ("--slot", "0"),
+        ("--slot", "3"),
+        ("--from", "4294967296"),
+        ("--to", "-1"),
+    ] {
+        let words = ["dmrgate", "show", "up", option, value];
+        assert!(rt; request_of(rt.alloc(), &words).is_err(), "{option} {value}");
+    }
+    Ok(())
+}
+
+#[test]
+fn what_is_printed(rt: HostRuntime) {
+    let alloc = rt.alloc();
+    let listed =
+        "uplink recording, version 1\nframes 0 seconds 0.00 slot-1 0 slot-2 0 unreadable 0\n";
+    for (name, status, out, err) in [
+        ("up", 0, listed, ""),
+        ("-", 0, listed, ""),
+        ("nowhere", 1, "", "error: nowhere: cannot open\n"),
+    ] {
+        let mut output = ToWrite::new(Vec::new(alloc));
+        let mut errors = ToWrite::new(Vec::new(alloc));
+        let words = ["dmrgate", "show", name];
+        assert_eq!(rt;
+            obey(alloc, &words, &OneFile, &mut output, &mut errors),
+            status
+        );
+        assert!(rt; output.into_inner().as_slice() == out.as_bytes());
+        assert!(rt; errors.into_inner().as_slice() == err.as_bytes());
+    }
+}
