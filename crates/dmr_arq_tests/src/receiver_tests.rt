@@ -7,6 +7,7 @@ use dmr_arq::{Answer, Joined, Receiver, Verdict};
 use dmr_data::{
     Block, Confirmed, Header, Octets, Packet, Rate, ShortData, Unconfirmed, split_packet,
 };
+use dmr_test_values::DATAGRAM_BLOCK;
 use std::process::Abort;
 use std::test::Fail;
 
@@ -50,11 +51,6 @@ const SHORT: ShortData = ShortData {
     full: true,
     bit_padding: 15,
 };
-
-/// The twelve octets of a block that makes a packet: seven of the body, a pad octet, and the check.
-const DATAGRAM: [u8; 12] = [
-    0x12, 0x34, 0x00, 0x01, 0x00, 0x13, 0x9A, 0x00, 0x66, 0xC3, 0xEE, 0x66,
-];
 
 /// The header of a try from 2 to 1, of packet 0, without pad octets.
 fn header_of(full: bool, blocks: u8) -> Header
@@ -226,13 +222,13 @@ fn short_data_with_bit_padding(rt: HostRuntime) {
     assert!(rt; receiver.open() == Some(None));
     let block = Block {
         serial: None,
-        octets: Octets::from_slice(&DATAGRAM),
+        octets: Octets::from_slice(&DATAGRAM_BLOCK),
     };
     let out = receiver.place(Some(&block));
     assert!(rt; out.answer.is_none());
     let received = Joined {
         header: Header::ShortData(SHORT),
-        body: Octets::from_slice(&DATAGRAM[..7]),
+        body: Octets::from_slice(&DATAGRAM_BLOCK[..7]),
     };
     assert!(rt; out.delivered == Some(received));
 }
@@ -243,7 +239,7 @@ fn unconfirmed_packet_received(rt: HostRuntime) {
     let header = Header::Unconfirmed(ALONE);
     let block = Block {
         serial: None,
-        octets: Octets::from_slice(&DATAGRAM),
+        octets: Octets::from_slice(&DATAGRAM_BLOCK),
     };
     let mut receiver = Receiver::new(1);
     receiver.header(&header);
@@ -251,7 +247,7 @@ fn unconfirmed_packet_received(rt: HostRuntime) {
     let out = receiver.place(Some(&block));
     let received = Joined {
         header,
-        body: Octets::from_slice(&DATAGRAM[..7]),
+        body: Octets::from_slice(&DATAGRAM_BLOCK[..7]),
     };
     assert!(rt; out.delivered == Some(received));
     assert!(rt; out.answer.is_none());

@@ -7,6 +7,7 @@ use dmr_data::{
     ShortData, Status, Unconfirmed, block_info, block_read, header_info, header_read, join_packet,
     split_packet,
 };
+use dmr_test_values::DATAGRAM_BLOCK;
 use std::test::Fail;
 
 /// What is sent of ten octets, sealed as a data header.
@@ -236,31 +237,26 @@ fn no_word_of_a_block(rt: HostRuntime) {
     assert!(rt; block_read(&bits, Rate::Half, None) == Err(BlockFault::Bptc));
 }
 
-/// The twelve octets of the one block that a compressed datagram of seven octets makes at rate 1/2.
-const DATAGRAM: [u8; 12] = [
-    0x12, 0x34, 0x00, 0x01, 0x00, 0x13, 0x9A, 0x00, 0x66, 0xC3, 0xEE, 0x66,
-];
-
 #[test]
 fn join_refusals(rt: HostRuntime) {
     assert!(rt; join_packet(&[], 0) == Err(JoinFault::Short));
-    assert!(rt; join_packet(&DATAGRAM, 1) == Ok(Octets::from_slice(&DATAGRAM[..7])));
-    assert!(rt; join_packet(&DATAGRAM, 9) == Err(JoinFault::Pad));
-    let mut wrong = DATAGRAM;
+    assert!(rt; join_packet(&DATAGRAM_BLOCK, 1) == Ok(Octets::from_slice(&DATAGRAM_BLOCK[..7])));
+    assert!(rt; join_packet(&DATAGRAM_BLOCK, 9) == Err(JoinFault::Pad));
+    let mut wrong = DATAGRAM_BLOCK;
     wrong[11] = 0x67;
     assert!(rt; join_packet(&wrong, 1) == Err(JoinFault::Crc32));
-    assert!(rt; join_packet(&DATAGRAM, 1) == Ok(Octets::from_slice(&DATAGRAM[..7])));
+    assert!(rt; join_packet(&DATAGRAM_BLOCK, 1) == Ok(Octets::from_slice(&DATAGRAM_BLOCK[..7])));
 }
 
 #[test]
 fn datagram_in_a_block(rt: HostRuntime) {
-    let packet = split_packet(&DATAGRAM[..7], Rate::Half, false);
+    let packet = split_packet(&DATAGRAM_BLOCK[..7], Rate::Half, false);
     assert_eq!(rt; packet.pad, 1);
     let blocks = packet.blocks.as_slice();
     assert_eq!(rt; blocks.len(), 1);
     let block = Block {
         serial: None,
-        octets: Octets::from_slice(&DATAGRAM),
+        octets: Octets::from_slice(&DATAGRAM_BLOCK),
     };
     assert!(rt; packet.blocks.get(0) == Some(&block));
     assert!(rt; packet.blocks.get(1) == None);

@@ -4,20 +4,9 @@ use crate::traffic::{
 };
 use dmr_data::{Rate, split_packet};
 use dmr_gateway::{GatewayFault, Outcome};
+use dmr_test_values::{EMPTY_DATAGRAM, OTHER_TIME_TO_LIVE};
 use std::alloc::Global;
 use std::process::Abort;
-
-/// A datagram of 28 octets from radio 1 to radio 2, which has a compressed form.
-const DATAGRAM: [u8; 28] = [
-    0x45, 0x00, 0x00, 0x1C, 0x12, 0x34, 0x00, 0x00, 0x40, 0x11, 0x50, 0x9B, 0x0C, 0x00, 0x00, 0x01,
-    0x0C, 0x00, 0x00, 0x02, 0x13, 0x98, 0x13, 0x9A, 0x00, 0x08, 0xC0, 0xA9,
-];
-
-/// The same with another time to live, for which there is none.
-const OTHER_TIME_TO_LIVE: [u8; 28] = [
-    0x45, 0x00, 0x00, 0x1C, 0x12, 0x34, 0x00, 0x00, 0x3F, 0x11, 0x51, 0x9B, 0x0C, 0x00, 0x00, 0x01,
-    0x0C, 0x00, 0x00, 0x02, 0x13, 0x98, 0x13, 0x9A, 0x00, 0x08, 0xC0, 0xA9,
-];
 
 // A datagram for frame 5; a control block is repeated in frame 6 and cuts the try.
 #[test]
@@ -25,7 +14,7 @@ fn datagram_sent(rt: HostRuntime) {
     let mut gateway = gateway(&rt, rt.alloc());
     for (number, wanted) in b".....P.PPHB.....".iter().enumerate() {
         if number == 5 {
-            assert!(rt; gateway.offer(&outgoing(false, &DATAGRAM)).is_ok());
+            assert!(rt; gateway.offer(&outgoing(false, &EMPTY_DATAGRAM)).is_ok());
         }
         let repeated = if number == 6 { Some(control()) } else { None };
         let burst = frame(&mut gateway, repeated);
@@ -50,7 +39,7 @@ fn datagram_sent(rt: HostRuntime) {
 #[test]
 fn unconfirmed_header_octets(rt: HostRuntime) {
     let mut gateway = gateway(&rt, rt.alloc());
-    assert!(rt; gateway.offer(&outgoing(false, &DATAGRAM)).is_ok());
+    assert!(rt; gateway.offer(&outgoing(false, &EMPTY_DATAGRAM)).is_ok());
     let _ = frame(&mut gateway, None);
     let _ = frame(&mut gateway, None);
     let header = frame(&mut gateway, None);
@@ -78,16 +67,20 @@ fn full_queue(rt: HostRuntime) {
     let mut gateway = gateway(&rt, rt.alloc());
     for number in 0..9u8 {
         assert!(rt;
-            gateway.offer(&outgoing(false, &DATAGRAM)).is_ok(),
+            gateway.offer(&outgoing(false, &EMPTY_DATAGRAM)).is_ok(),
             "offer {number}"
         );
     }
-    let tenth = gateway.offer(&outgoing(false, &DATAGRAM));
+    let tenth = gateway.offer(&outgoing(false, &EMPTY_DATAGRAM));
     assert!(rt; tenth == Err(GatewayFault::QueueFull));
-    assert!(rt; gateway.offer(&outgoing_in(2, false, &DATAGRAM)).is_ok());
+    assert!(rt;
+        gateway
+            .offer(&outgoing_in(2, false, &EMPTY_DATAGRAM))
+            .is_ok()
+    );
     let burst = frame(&mut gateway, None);
     assert_eq!(rt; letter(&burst), b'P');
-    assert!(rt; gateway.offer(&outgoing(false, &DATAGRAM)).is_ok());
+    assert!(rt; gateway.offer(&outgoing(false, &EMPTY_DATAGRAM)).is_ok());
 }
 
 // The first of several faults is answered, and what is refused changes nothing.
@@ -96,11 +89,11 @@ fn refused_offers(rt: HostRuntime) {
     let mut gateway = gateway(&rt, rt.alloc());
     let long = gateway.offer(&outgoing(false, &[0x45; 1401]));
     assert!(rt; long == Err(GatewayFault::TooLong));
-    let mut elsewhere = DATAGRAM;
+    let mut elsewhere = EMPTY_DATAGRAM;
     elsewhere[16] = 10;
     let far = gateway.offer(&outgoing(false, &elsewhere));
     assert!(rt; far == Err(GatewayFault::NoRoute));
-    let mut group = DATAGRAM;
+    let mut group = EMPTY_DATAGRAM;
     group[16] = 225;
     group[19] = 9;
     let confirmed = gateway.offer(&outgoing(true, &group));
@@ -132,7 +125,7 @@ fn unanswered_try(rt: HostRuntime) {
     let mut gateway = gateway(&rt, rt.alloc());
     for (number, wanted) in b".....PPHBB......".iter().enumerate() {
         if number == 5 {
-            assert!(rt; gateway.offer(&outgoing(true, &DATAGRAM)).is_ok());
+            assert!(rt; gateway.offer(&outgoing(true, &EMPTY_DATAGRAM)).is_ok());
         }
         let burst = frame(&mut gateway, None);
         assert_eq!(rt; letter(&burst), *wanted, "frame {number}");
@@ -147,7 +140,7 @@ fn tries(rt: &impl Abort, alloc: Global, heard: u32, begins: &[u32], ends: u32, 
     let mut last = b'.';
     for number in 0..=ends {
         if number == 5 {
-            assert!(rt; gateway.offer(&outgoing(true, &DATAGRAM)).is_ok());
+            assert!(rt; gateway.offer(&outgoing(true, &EMPTY_DATAGRAM)).is_ok());
         }
         let repeated = if number == heard {
             Some(answered(0, 1, 0))
@@ -194,7 +187,7 @@ fn late_answer(rt: HostRuntime) {
 fn try_cut_at_each_place(rt: HostRuntime) {
     for out in 1..5u8 {
         let mut gateway = gateway(&rt, rt.alloc());
-        assert!(rt; gateway.offer(&outgoing(true, &DATAGRAM)).is_ok());
+        assert!(rt; gateway.offer(&outgoing(true, &EMPTY_DATAGRAM)).is_ok());
         for number in 0..out {
             assert!(rt; frame(&mut gateway, None).is_some(), "{number} of {out}");
         }
@@ -215,7 +208,7 @@ fn asked_again(rt: &impl Abort, alloc: Global, heard: u32) -> [u8; 10] {
     let mut header = [0; 10];
     for number in 0..36u32 {
         if number == 5 {
-            assert!(rt; gateway.offer(&outgoing(true, &DATAGRAM)).is_ok());
+            assert!(rt; gateway.offer(&outgoing(true, &EMPTY_DATAGRAM)).is_ok());
         }
         let repeated = if number == heard {
             Some(answered(2, 0, 1))

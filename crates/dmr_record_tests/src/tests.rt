@@ -1,11 +1,10 @@
 //! The formats by examples from outside, and devices that fail or go an octet at a time.
 
-mod devices;
 mod octets;
 mod outputs;
 
-use devices::{FailsAt, OneByOne, Silence};
 use dmr_record::*;
+use dmr_test_devices::{FailsAt, OneByOne, Silence};
 
 const CACH: [u8; 3] = [0x80, 0x0a, 0x20];
 

@@ -1,16 +1,16 @@
 //! Runs over memory: recordings from outside, files at fault, and devices that fail.
 ghost use Rattle.std.specs.Prelude.{◌≡◌, false};
 
-mod devices;
 mod gateway;
 mod recorded;
 mod samples;
 
-use devices::{FailsAt, OneByOne};
 use dmr_bits::Bits;
 use dmr_gateway::Config;
 use dmr_record::{FromRead, RecordFault, Sink, Source, ToWrite};
 use dmr_repeater::{RunFault, Stream, Summary, run};
+use dmr_test_devices::{FailsAt, OneByOne};
+use dmr_test_values::ONE_CSBK;
 use std::alloc::{AllocError, Global};
 use std::process::Abort;
 use std::test::Fail;
@@ -23,13 +23,6 @@ const DOWNLINK: [u8; 8] = *b"DMRD\x01\0\0\0";
 const OUTGOING: [u8; 8] = *b"DMRO\x01\0\0\0";
 
 const RECEIVED: [u8; 8] = *b"DMRI\x01\0\0\0";
-
-/// The burst of a block of ten zero octets, as a mobile station of colour code 1 sends it.
-const CSBK: [u8; 33] = [
-    0x00, 0x62, 0x00, 0x82, 0x01, 0x90, 0x01, 0x00, 0x04, 0x20, 0x04, 0xE0, 0x04, 0xCD, 0x5D, 0x7F,
-    0x77, 0xFD, 0x75, 0x7A, 0xC8, 0x18, 0x00, 0x28, 0x02, 0x50, 0x02, 0x80, 0x00, 0xC0, 0x12, 0x00,
-    0x22,
-];
 
 /// The same, behind its CACH, as a base station sends it.
 const REPEATED: [u8; 36] = [
@@ -123,7 +116,7 @@ fn outcome(
 
 #[test]
 fn one_csbk(rt: HostRuntime) -> Result<(), Fail> {
-    let uplink = joined(rt.alloc(), &[&UPLINK, &[1], &CSBK, &[0]])?;
+    let uplink = joined(rt.alloc(), &[&UPLINK, &[1], &ONE_CSBK, &[0]])?;
     let (answer, downlink, received) = outcome(&rt, rt.alloc(), &uplink, &OUTGOING);
     assert!(rt; answer == Ok(summary(7, 1)));
     let want = joined(
@@ -138,7 +131,7 @@ fn one_csbk(rt: HostRuntime) -> Result<(), Fail> {
 // Three wrong bits in the slot type, three in the sync, and all of the first row and R(3) of the information.
 #[test]
 fn damaged_csbk(rt: HostRuntime) -> Result<(), Fail> {
-    let mut burst = Bits::<264>::from_octets(&CSBK);
+    let mut burst = Bits::<264>::from_octets(&ONE_CSBK);
     for place in [98, 99, 100, 108, 109, 110] {
         burst.set(place, !burst.get(place));
     }
@@ -161,7 +154,7 @@ fn damaged_csbk(rt: HostRuntime) -> Result<(), Fail> {
 
 #[test]
 fn block_of_another_colour(rt: HostRuntime) -> Result<(), Fail> {
-    let uplink = joined(rt.alloc(), &[&UPLINK, &[1], &CSBK, &[0]])?;
+    let uplink = joined(rt.alloc(), &[&UPLINK, &[1], &ONE_CSBK, &[0]])?;
     let config = Config::new(2, 1, 3, 5, 9).expect(&rt, "the settings are in range");
     let mut downlink = ToWrite::new(Vec::new(rt.alloc()));
     let mut received = ToWrite::new(Vec::new(rt.alloc()));
@@ -182,7 +175,7 @@ fn block_of_another_colour(rt: HostRuntime) -> Result<(), Fail> {
 
 #[test]
 fn idle_for_the_channel_hang(rt: HostRuntime) -> Result<(), Fail> {
-    let uplink = joined(rt.alloc(), &[&UPLINK, &[0, 1], &CSBK, &[0; 14]])?;
+    let uplink = joined(rt.alloc(), &[&UPLINK, &[0, 1], &ONE_CSBK, &[0; 14]])?;
     let (answer, downlink, _) = outcome(&rt, rt.alloc(), &uplink, &OUTGOING);
     assert!(rt; answer == Ok(summary(14, 1)));
     // Six silent frames, one with the block in slot 2, five of idle, and two silent ones.
@@ -314,7 +307,7 @@ fn uplink_before_outgoing(rt: HostRuntime) -> Result<(), Fail> {
 
 #[test]
 fn cut_uplinks(rt: HostRuntime) -> Result<(), Fail> {
-    let uplink = joined(rt.alloc(), &[&UPLINK, &[1], &CSBK, &[0]])?;
+    let uplink = joined(rt.alloc(), &[&UPLINK, &[1], &ONE_CSBK, &[0]])?;
     for count in 0..44usize {
         let front = uplink.get(..count).unwrap_or(&[]);
         let (answer, _, _) = outcome(&rt, rt.alloc(), front, &OUTGOING);
@@ -346,7 +339,7 @@ fn cut_outgoing_files(rt: HostRuntime) -> Result<(), Fail> {
 
 #[test]
 fn one_octet_a_call(rt: HostRuntime) -> Result<(), Fail> {
-    let uplink = joined(rt.alloc(), &[&UPLINK, &[1], &CSBK, &[0; 19]])?;
+    let uplink = joined(rt.alloc(), &[&UPLINK, &[1], &ONE_CSBK, &[0; 19]])?;
     let outgoing = joined(rt.alloc(), &[&OUTGOING, &DATAGRAM])?;
     let (whole, downlink, received) = outcome(&rt, rt.alloc(), &uplink, &outgoing);
     let mut slow = OneByOne::new(&uplink);
@@ -359,7 +352,7 @@ fn one_octet_a_call(rt: HostRuntime) -> Result<(), Fail> {
 
 #[test]
 fn failing_reads(rt: HostRuntime) -> Result<(), Fail> {
-    let uplink = joined(rt.alloc(), &[&UPLINK, &[1], &CSBK, &[0; 19]])?;
+    let uplink = joined(rt.alloc(), &[&UPLINK, &[1], &ONE_CSBK, &[0; 19]])?;
     let outgoing = joined(rt.alloc(), &[&OUTGOING, &DATAGRAM])?;
     let (whole, downlink, _) = outcome(&rt, rt.alloc(), &uplink, &outgoing);
     let mut calls = 0;
@@ -401,7 +394,7 @@ fn failing_reads(rt: HostRuntime) -> Result<(), Fail> {
 
 #[test]
 fn failing_writes(rt: HostRuntime) -> Result<(), Fail> {
-    let uplink = joined(rt.alloc(), &[&UPLINK, &[1], &CSBK, &[0]])?;
+    let uplink = joined(rt.alloc(), &[&UPLINK, &[1], &ONE_CSBK, &[0]])?;
     let outgoing = joined(rt.alloc(), &[&OUTGOING, &DATAGRAM])?;
     let (whole, downlink, _) = outcome(&rt, rt.alloc(), &uplink, &outgoing);
     let mut calls = 0;

@@ -7,6 +7,7 @@ use dmr_bptc::bptc_encode;
 use dmr_burst::{Burst, Emb, Side, encode_burst};
 use dmr_link::{FullLc, LcUse, lc_info};
 use dmr_slot::{Channel, SlotLine, SlotOut};
+use dmr_test_values::{CALL_FIELDS, IDLE_BLOCK, IDLE_BURST, TERMINATOR_BLOCK};
 use std::alloc::{AllocError, Global};
 use std::test::Fail;
 
@@ -18,24 +19,6 @@ const CALL: FullLc = FullLc {
     fid: 0,
     body: [0, 0, 0, 1, 0, 0, 2],
 };
-
-/// The four embedded fields that carry it.
-const FIELDS: [u32; 4] = [0x0000_0000, 0x0009_0000, 0x0300_060A, 0x030F_060C];
-
-/// What its terminator says.
-const TERMINATOR_OCTETS: [u8; 12] = [0, 0, 0, 0, 0, 1, 0, 0, 2, 0x8D, 0x6A, 0x62];
-
-/// What an idle burst says.
-const IDLE_OCTETS: [u8; 12] = [
-    0xFF, 0x83, 0xDF, 0x17, 0x32, 0x09, 0x4E, 0xD1, 0xE7, 0xCD, 0x8A, 0x91,
-];
-
-/// The idle burst, as a base station sends it.
-const IDLE_BURST: [u8; 33] = [
-    0x53, 0xC2, 0x5E, 0xAB, 0xA8, 0x67, 0x1D, 0xC7, 0x38, 0x3B, 0xD9, 0x36, 0x06, 0x5D, 0xFF, 0x57,
-    0xD7, 0x5D, 0xF5, 0xD9, 0x2B, 0xF6, 0xE4, 0x65, 0x17, 0x1B, 0x48, 0xCA, 0x6D, 0x4F, 0xC6, 0x10,
-    0xB4,
-];
 
 /// A data burst.
 fn data(colour: u8, kind: u8, message: &Bits<96>) -> Burst
@@ -82,10 +65,10 @@ fn burst_of(letter: u8, colour: u8) -> Option<Burst>
         b'H' => Some(data(colour, 1, &lc_info(&CALL, LcUse::Header))),
         b'P' => Some(data(colour, 0, &Bits::<96>::zero())),
         b'A' | b'a' => Some(Burst::VoiceSync { vocoder }),
-        b'B' | b'b' => Some(voice(colour, 1, FIELDS[0], vocoder)),
-        b'C' | b'c' => Some(voice(colour, 3, FIELDS[1], vocoder)),
-        b'D' | b'd' => Some(voice(colour, 3, FIELDS[2], vocoder)),
-        b'E' | b'e' => Some(voice(colour, 2, FIELDS[3], vocoder)),
+        b'B' | b'b' => Some(voice(colour, 1, CALL_FIELDS[0], vocoder)),
+        b'C' | b'c' => Some(voice(colour, 3, CALL_FIELDS[1], vocoder)),
+        b'D' | b'd' => Some(voice(colour, 3, CALL_FIELDS[2], vocoder)),
+        b'E' | b'e' => Some(voice(colour, 2, CALL_FIELDS[3], vocoder)),
         b'F' | b'f' => Some(voice(colour, 0, 0, vocoder)),
         b'K' => Some(data(colour, 3, &Bits::<96>::zero().with_field(80, 16, 0x5A5A))),
         _ => None,
@@ -113,8 +96,8 @@ fn letter_of(burst: &Option<Burst>) -> u8 {
             return *letter;
         }
     }
-    let idle = Bits::<96>::from_octets(&IDLE_OCTETS);
-    if *burst == data(1, 2, &Bits::<96>::from_octets(&TERMINATOR_OCTETS)) {
+    let idle = Bits::<96>::from_octets(&IDLE_BLOCK);
+    if *burst == data(1, 2, &Bits::<96>::from_octets(&TERMINATOR_BLOCK)) {
         b'T'
     } else if *burst == data(1, 9, &idle) {
         b'I'
@@ -317,7 +300,7 @@ fn gateway_burst(rt: HostRuntime) {
 #[test]
 fn idle(rt: HostRuntime) {
     // The other tests tell it by the letter I.
-    let idle = data(1, 9, &Bits::<96>::from_octets(&IDLE_OCTETS));
+    let idle = data(1, 9, &Bits::<96>::from_octets(&IDLE_BLOCK));
     assert!(rt; encode_burst(&idle, Side::Bs) == IDLE_BURST);
     let mut channel = Channel::new(1, 2);
     assert_eq!(rt; channel_frame(&mut channel, b"..", b"K."), *b"KI");

@@ -2,6 +2,7 @@
 use dmr_bits::Bits;
 use dmr_burst::Emb;
 use dmr_link::FullLc;
+use dmr_test_values::{CALL_HEADER, CALL_TERMINATOR, ONE_CSBK, PRINTED_VOICE_BURST, REPEATED_CSBK};
 use dmr_voice::{Datum, Heard, hear};
 
 /// A call to talk group 1 from radio 2, no option set.
@@ -12,34 +13,6 @@ const GROUP_CALL: FullLc = FullLc {
     fid: 0,
     body: [0, 0, 0, 1, 0, 0, 2],
 };
-
-/// The voice LC header of that call, from a mobile station of colour code 1.
-const HEADER: [u8; 33] = [
-    0x00, 0x10, 0x01, 0x5E, 0x02, 0x88, 0x12, 0x38, 0x0E, 0x30, 0x44, 0x40, 0x04, 0x6D, 0x5D, 0x7F,
-    0x77, 0xFD, 0x75, 0x7E, 0x32, 0x2C, 0x03, 0x28, 0x01, 0x90, 0x07, 0xA0, 0x05, 0x41, 0x0D, 0x00,
-    0x55,
-];
-
-/// Its terminator.
-const TERMINATOR: [u8; 33] = [
-    0x00, 0x7F, 0x01, 0x8A, 0x02, 0x38, 0x12, 0x40, 0x0E, 0x40, 0x44, 0xE0, 0x04, 0xAD, 0x5D, 0x7F,
-    0x77, 0xFD, 0x75, 0x79, 0x67, 0x38, 0x00, 0x10, 0x06, 0xF0, 0x0B, 0xE0, 0x0D, 0x41, 0x14, 0x00,
-    0x66,
-];
-
-/// A CSBK of ten zero octets.
-const ONE_CSBK: [u8; 33] = [
-    0x00, 0x62, 0x00, 0x82, 0x01, 0x90, 0x01, 0x00, 0x04, 0x20, 0x04, 0xE0, 0x04, 0xCD, 0x5D, 0x7F,
-    0x77, 0xFD, 0x75, 0x7A, 0xC8, 0x18, 0x00, 0x28, 0x02, 0x50, 0x02, 0x80, 0x00, 0xC0, 0x12, 0x00,
-    0x22,
-];
-
-/// The same from a base station.
-const REPEATED_CSBK: [u8; 33] = [
-    0x00, 0x62, 0x00, 0x82, 0x01, 0x90, 0x01, 0x00, 0x04, 0x20, 0x04, 0xE0, 0x04, 0xCD, 0xFF, 0x57,
-    0xD7, 0x5D, 0xF5, 0xDA, 0xC8, 0x18, 0x00, 0x28, 0x02, 0x50, 0x02, 0x80, 0x00, 0xC0, 0x12, 0x00,
-    0x22,
-];
 
 /// A data header of ten zero octets, sealed as one.
 const DATA_HEADER: [u8; 33] = [
@@ -60,12 +33,6 @@ const IDLE_BURST: [u8; 33] = [
     0x53, 0xC2, 0x5E, 0xAB, 0xA8, 0x67, 0x1D, 0xC7, 0x38, 0x3B, 0xD9, 0x36, 0x06, 0x5D, 0x5D, 0x7F,
     0x77, 0xFD, 0x75, 0x79, 0x2B, 0xF6, 0xE4, 0x65, 0x17, 0x1B, 0x48, 0xCA, 0x6D, 0x4F, 0xC6, 0x10,
     0xB4,
-];
-
-/// A voice burst of colour code 1 with LCSS 1, all else of it zero.
-const PRINTED_VOICE_BURST: [u8; 33] = [
-    0, 0, 0, 0, 0, 0, 0, 0, 0, 0, 0, 0, 0, 0x01, 0x30, 0, 0, 0, 0x09, 0x10, 0, 0, 0, 0, 0, 0, 0, 0,
-    0, 0, 0, 0, 0,
 ];
 
 /// The burst with bits turned.
@@ -107,13 +74,13 @@ fn information(burst: &[u8; 33]) -> Bits<196> {
 fn voice_lc_header(rt: HostRuntime) {
     let datum = Some(Datum {
         kind: 1,
-        information: information(&HEADER),
+        information: information(&CALL_HEADER),
         link_control: Some(GROUP_CALL),
     });
-    let heard = hear(&Some(HEADER), 1);
+    let heard = hear(&Some(CALL_HEADER), 1);
     assert!(rt; heard.datum == datum);
     assert!(rt; !heard.voice);
-    let heard = hear(&Some(damaged(&HEADER)), 1);
+    let heard = hear(&Some(damaged(&CALL_HEADER)), 1);
     assert!(rt; heard.datum == datum);
     assert!(rt; !heard.voice);
 }
@@ -122,11 +89,11 @@ fn voice_lc_header(rt: HostRuntime) {
 fn terminator_with_lc(rt: HostRuntime) {
     let datum = Some(Datum {
         kind: 2,
-        information: information(&TERMINATOR),
+        information: information(&CALL_TERMINATOR),
         link_control: Some(GROUP_CALL),
     });
-    assert!(rt; hear(&Some(TERMINATOR), 1).datum == datum);
-    assert!(rt; hear(&Some(damaged(&TERMINATOR)), 1).datum == datum);
+    assert!(rt; hear(&Some(CALL_TERMINATOR), 1).datum == datum);
+    assert!(rt; hear(&Some(damaged(&CALL_TERMINATOR)), 1).datum == datum);
 }
 
 #[test]
@@ -154,7 +121,7 @@ fn data_header_by_its_check(rt: HostRuntime) {
 #[test]
 fn bursts_that_are_no_data(rt: HostRuntime) {
     // Of another colour code, idle, and from a base station.
-    assert!(rt; hear(&Some(HEADER), 2).datum == None);
+    assert!(rt; hear(&Some(CALL_HEADER), 2).datum == None);
     assert!(rt; hear(&Some(ONE_CSBK), 2).datum == None);
     assert!(rt; hear(&Some(IDLE_BURST), 1).datum == None);
     assert!(rt; hear(&Some(REPEATED_CSBK), 1).datum == None);

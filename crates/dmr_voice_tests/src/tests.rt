@@ -8,6 +8,7 @@ use dmr_bptc::bptc_encode;
 use dmr_burst::{Burst, Emb, Side, encode_burst};
 use dmr_embedded::embed;
 use dmr_link::{FullLc, LcUse, lc_info};
+use dmr_test_values::CALL_FIELDS;
 use dmr_voice::{Heard, Role, VoiceOut, VoiceTrack, hear};
 use std::alloc::{AllocError, Global};
 use std::process::Abort;
@@ -23,9 +24,6 @@ const GROUP: FullLc = FullLc {
     fid: 0,
     body: [0, 0, 0, 1, 0, 0, 2],
 };
-
-/// Its embedded fields.
-const GROUP_FIELDS: [u32; 4] = [0, 0x0009_0000, 0x0300_060A, 0x030F_060C];
 
 /// A talker alias.
 const ALIAS: FullLc = FullLc {
@@ -434,10 +432,10 @@ fn fields_of_late_call(carried: &[u32; 4]) -> [u32; 4] {
 // A late call knows its link control from its embedded word alone.
 #[test]
 fn embedded_group_call(rt: HostRuntime) {
-    let [b, c, d, e] = GROUP_FIELDS;
-    assert!(rt; fields_of_late_call(&GROUP_FIELDS) == GROUP_FIELDS);
+    let [b, c, d, e] = CALL_FIELDS;
+    assert!(rt; fields_of_late_call(&CALL_FIELDS) == CALL_FIELDS);
     // one wrong bit in each row
-    assert!(rt; fields_of_late_call(&[b, 0xFF09_0000, d, e]) == GROUP_FIELDS);
+    assert!(rt; fields_of_late_call(&[b, 0xFF09_0000, d, e]) == CALL_FIELDS);
     // two wrong bits in a row, two odd columns, and a wrong checksum
     let unreadable = [
         [0x8080_0000, c, d, e],
@@ -457,7 +455,7 @@ fn late_entry(rt: HostRuntime) -> Result<(), Fail> {
     send_superframe(&mut slots, known, Carried::Group, 0, ALL)?;
     send(&mut slots, b"T")?;
     expect(&rt, &slots, b"...AVVVVVAVVVVVT");
-    expect_fields(&rt, &slots, 4, &GROUP_FIELDS);
+    expect_fields(&rt, &slots, 4, &CALL_FIELDS);
     Ok(())
 }
 
@@ -530,7 +528,7 @@ fn damaged_embedded_word(rt: HostRuntime) -> Result<(), Fail> {
     send_superframe(&mut slots, Carried::Group, Carried::Alias, READABLE, ALL)?;
     send(&mut slots, b"T")?;
     expect(&rt, &slots, b"HAVVVVVAVVVVVT");
-    expect_fields(&rt, &slots, 2, &GROUP_FIELDS);
+    expect_fields(&rt, &slots, 2, &CALL_FIELDS);
     Ok(())
 }
 
@@ -548,7 +546,7 @@ fn late_call_without_link_control(rt: HostRuntime) -> Result<(), Fail> {
     send(&mut slots, b"......")?;
     expect(&rt, &slots, b"AVVVVVAVVVVV......");
     expect_fields(&rt, &slots, 1, &[0; 4]);
-    expect_fields(&rt, &slots, 7, &GROUP_FIELDS);
+    expect_fields(&rt, &slots, 7, &CALL_FIELDS);
     Ok(())
 }
 
@@ -560,7 +558,7 @@ fn talker_alias(rt: HostRuntime) -> Result<(), Fail> {
     send_superframe(&mut slots, Carried::Group, Carried::Alias, 0, ALL)?;
     send(&mut slots, b"T")?;
     expect(&rt, &slots, b"HAVVVVVAVVVVVT");
-    expect_fields(&rt, &slots, 2, &GROUP_FIELDS);
+    expect_fields(&rt, &slots, 2, &CALL_FIELDS);
     expect_fields(&rt, &slots, 8, &embed(&[4, 0, 0, 0, 0, 0, 0, 0, 0]));
     Ok(())
 }

@@ -2,23 +2,12 @@
 ghost use Rattle.std.specs.Prelude.{◌+◌, ◌≤◌, length};
 
 use dmr_ip::{Datagram, ExpandFault, IpFault, compress, expand};
+use dmr_test_values::{EMPTY_DATAGRAM, OTHER_TIME_TO_LIVE};
 use std::process::Abort;
 use std::test::Fail;
 
 // The datagrams were computed apart from this crate, by the formulas of RFC 791, RFC 768 and
 // RFC 1071.
-
-/// No data, from LLID 1 to LLID 2, ports 5016 and 5018.
-const DATAGRAM: [u8; 28] = [
-    0x45, 0x00, 0x00, 0x1c, 0x12, 0x34, 0x00, 0x00, 0x40, 0x11, 0x50, 0x9b, 0x0c, 0x00, 0x00, 0x01,
-    0x0c, 0x00, 0x00, 0x02, 0x13, 0x98, 0x13, 0x9a, 0x00, 0x08, 0xc0, 0xa9,
-];
-
-/// The same with time to live 63.
-const OTHER_TIME_TO_LIVE: [u8; 28] = [
-    0x45, 0x00, 0x00, 0x1c, 0x12, 0x34, 0x00, 0x00, 0x3f, 0x11, 0x51, 0x9b, 0x0c, 0x00, 0x00, 0x01,
-    0x0c, 0x00, 0x00, 0x02, 0x13, 0x98, 0x13, 0x9a, 0x00, 0x08, 0xc0, 0xa9,
-];
 
 /// Five octets of text, from 192.0.2.1 to 198.51.100.7.
 const ODD_LENGTH: [u8; 33] = [
@@ -90,14 +79,14 @@ const CUT_UDP: [u8; 24] = [
 
 #[test]
 fn compressed_datagram(rt: HostRuntime) -> Result<(), Fail> {
-    let datagram = Datagram::parse(&DATAGRAM)?;
+    let datagram = Datagram::parse(&EMPTY_DATAGRAM)?;
     let form = compress(&datagram, 1, 2, false).ok_or("no form")?;
     assert_eq!(rt;
         form.as_slice(),
         [0x12, 0x34, 0x00, 0x01, 0x00, 0x13, 0x9a].as_slice()
     );
     let expanded = expand(form.as_slice(), 1, 2, false)?;
-    assert_eq!(rt; expanded.octets(), DATAGRAM.as_slice());
+    assert_eq!(rt; expanded.octets(), EMPTY_DATAGRAM.as_slice());
     Ok(())
 }
 
@@ -145,14 +134,14 @@ fn other_time_to_live(rt: HostRuntime) -> Result<(), Fail> {
 #[test]
 fn parse_refusals(rt: HostRuntime) {
     let refused = |place: usize, octet: u8| {
-        let mut octets = DATAGRAM;
+        let mut octets = EMPTY_DATAGRAM;
         if place < 28 {
             octets[place] = octet;
         }
         Datagram::parse(&octets).err()
     };
     assert_eq!(rt;
-        Datagram::parse(&DATAGRAM[..27]).err(),
+        Datagram::parse(&EMPTY_DATAGRAM[..27]).err(),
         Some(IpFault::Length)
     );
     assert_eq!(rt; refused(0, 0x55), Some(IpFault::Version));
@@ -180,9 +169,9 @@ fn refusals_in_order(rt: HostRuntime) {
 fn good_octets_after_refused_ones(rt: HostRuntime) -> Result<(), Fail> {
     let form = [0x12, 0x34, 0x00, 0x01, 0x00, 0x13, 0x9a];
     for length in 0..28usize {
-        assert!(rt; Datagram::parse(DATAGRAM.get(..length).unwrap_or(&[])).is_err());
-        let datagram = Datagram::parse(&DATAGRAM)?;
-        assert_eq!(rt; datagram.octets(), DATAGRAM.as_slice());
+        assert!(rt; Datagram::parse(EMPTY_DATAGRAM.get(..length).unwrap_or(&[])).is_err());
+        let datagram = Datagram::parse(&EMPTY_DATAGRAM)?;
+        assert_eq!(rt; datagram.octets(), EMPTY_DATAGRAM.as_slice());
     }
     for refused in [
         [0x12, 0x34, 0x00, 0x81, 0x00, 0x13, 0x9a],
@@ -191,7 +180,7 @@ fn good_octets_after_refused_ones(rt: HostRuntime) -> Result<(), Fail> {
     ] {
         assert!(rt; expand(&refused, 1, 2, false).is_err());
         let expanded = expand(&form, 1, 2, false)?;
-        assert_eq!(rt; expanded.octets(), DATAGRAM.as_slice());
+        assert_eq!(rt; expanded.octets(), EMPTY_DATAGRAM.as_slice());
     }
     for length in 0..7usize {
         assert_eq!(rt;
@@ -199,7 +188,7 @@ fn good_octets_after_refused_ones(rt: HostRuntime) -> Result<(), Fail> {
             Some(ExpandFault::Short)
         );
         let expanded = expand(&form, 1, 2, false)?;
-        assert_eq!(rt; expanded.octets(), DATAGRAM.as_slice());
+        assert_eq!(rt; expanded.octets(), EMPTY_DATAGRAM.as_slice());
     }
     Ok(())
 }
@@ -234,7 +223,7 @@ fn ports_by_identifier(rt: HostRuntime) -> Result<(), Fail> {
 
 #[test]
 fn datagrams_and_their_changes(rt: HostRuntime) {
-    each_change(&rt, &DATAGRAM);
+    each_change(&rt, &EMPTY_DATAGRAM);
     each_change(&rt, &OTHER_TIME_TO_LIVE);
     each_change(&rt, &ODD_LENGTH);
     each_change(&rt, &WITH_SERVICE);

@@ -1,6 +1,6 @@
 //! The two files that a run writes, read again: cut to every length, with each of their octets bent, and past their limits.
-use super::devices::{FailsAt, OneByOne, Silence};
 use dmr_record::*;
+use dmr_test_devices::{FailsAt, OneByOne, Silence};
 
 /// The CACH of a repeated burst in slot 1, and the control signalling block that it stands before.
 const BLOCK: ([u8; 3], [u8; 33]) = (

@@ -1,10 +1,9 @@
 //! Data through a whole run: datagrams that the gateway sends, and packets and statuses that it receives.
 ghost use Rattle.std.specs.Prelude.{◌<◌};
 
-use super::devices::FailsAt;
 use super::recorded::{Sent, first_letters, octets_of, slots_of};
 use super::samples::{GATEWAY_SAMPLES, GatewaySample};
-use super::{CSBK, DATAGRAM, OUTGOING, RECEIVED, UPLINK, answer_of, joined, outcome, summary};
+use super::{DATAGRAM, OUTGOING, RECEIVED, UPLINK, answer_of, joined, outcome, summary};
 use dmr_bits::Bits;
 use dmr_bptc::{bptc_decode, bptc_encode};
 use dmr_burst::{Burst, Side, encode_burst, read_information};
@@ -12,6 +11,8 @@ use dmr_checks::{Mask, seal};
 use dmr_data::{Block, Octets, Packet, Rate, block_info, split_packet};
 use dmr_record::{FromRead, RecordFault, ToWrite};
 use dmr_repeater::{RunFault, Stream, Summary};
+use dmr_test_devices::FailsAt;
+use dmr_test_values::ONE_CSBK;
 use std::alloc::{AllocError, Global};
 use std::process::Abort;
 use std::test::Fail;
@@ -127,7 +128,7 @@ fn samples(rt: HostRuntime) -> Result<(), Fail> {
 // Slot 1 is silent up to the frame of the datagram: a preamble, the block that is repeated, two preambles, header and block.
 #[test]
 fn datagram_sent(rt: HostRuntime) -> Result<(), Fail> {
-    let uplink = joined(rt.alloc(), &[&UPLINK, &[1], &CSBK, &[0; 19]])?;
+    let uplink = joined(rt.alloc(), &[&UPLINK, &[1], &ONE_CSBK, &[0; 19]])?;
     let outgoing = joined(rt.alloc(), &[&OUTGOING, &DATAGRAM])?;
     let (answer, downlink, received) = outcome(&rt, rt.alloc(), &uplink, &outgoing);
     let want = Summary {

@@ -193,7 +193,7 @@ pub const SAMPLES: [Sample; 10] = [
         frames: 22,
     },
     Sample {
-        name: "csbk",
+        name: "one_csbk",
         uplink: "\
         444D525501000000010062008201900100042004E004CD5D7F77FD757AC81800280250028000C012002200\
         ",

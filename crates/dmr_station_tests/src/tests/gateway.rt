@@ -7,13 +7,8 @@ use dmr_burst::{Burst, Side, encode_burst, read_information};
 use dmr_checks::{Mask, seal};
 use dmr_record::{Octets, Outgoing, ReceivedKind};
 use dmr_station::{Counts, SILENCE, Station, UplinkFrame};
+use dmr_test_values::EMPTY_DATAGRAM;
 use std::process::Abort;
-
-/// A datagram from radio 1 to radio 2, without data.
-const DATAGRAM: [u8; 28] = [
-    0x45, 0x00, 0x00, 0x1C, 0x12, 0x34, 0x00, 0x00, 0x40, 0x11, 0x50, 0x9B, 0x0C, 0x00, 0x00, 0x01,
-    0x0C, 0x00, 0x00, 0x02, 0x13, 0x98, 0x13, 0x9A, 0x00, 0x08, 0xC0, 0xA9,
-];
 
 /// A status of radio 3 for radio 1, of ports 1 and 2, and 5, as a mobile station of colour code 1 sends it.
 fn status_burst() -> [u8; 33] {
@@ -32,7 +27,7 @@ fn status_burst() -> [u8; 33] {
 /// Offers so many octets of the datagram, for slot 2.
 pub fn offer(rt: &impl Abort, station: &mut Station, count: u16, confirmed: bool) {
     let mut octets = Octets::new();
-    octets.keep(DATAGRAM.get(..usize::from(count)).unwrap_or(&[]));
+    octets.keep(EMPTY_DATAGRAM.get(..usize::from(count)).unwrap_or(&[]));
     assert!(rt; station.counts().offered < 1_000_000);
     station.offer(&Outgoing {
         frame: 0,

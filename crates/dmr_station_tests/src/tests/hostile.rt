@@ -14,6 +14,7 @@ use dmr_csbk::csbk_read;
 use dmr_embedded::{embed, extract};
 use dmr_link::{LcUse, lc_read};
 use dmr_station::SILENCE;
+use dmr_test_values::IDLE_BLOCK;
 use std::test::Fail;
 
 /// How many frames are taken that may have a burst.
@@ -21,11 +22,6 @@ const FRAMES: u32 = 10_000;
 
 /// The burst of a slot of the downlink, where it isn't silent.
 type Sent = Option<[u8; 33]>;
-
-/// What an idle burst says.
-const IDLE_OCTETS: [u8; 12] = [
-    0xFF, 0x83, 0xDF, 0x17, 0x32, 0x09, 0x4E, 0xD1, 0xE7, 0xCD, 0x8A, 0x91,
-];
 
 /// Numbers without a pattern: the upper bits of a linear congruential generator.
 #[derive(Drop)]
@@ -193,7 +189,7 @@ fn is_clean_information(kind: u8, information: &Bits<196>) -> bool {
         2 => lc_read(information, LcUse::Terminator).is_ok(),
         3 => csbk_read(information).is_ok(),
         6 => opens(&message.octets(), Mask::Header),
-        9 => message == Bits::<96>::from_octets(&IDLE_OCTETS),
+        9 => message == Bits::<96>::from_octets(&IDLE_BLOCK),
         _ => kind < 12,
     };
     sealed && bptc_encode(&message) == *information

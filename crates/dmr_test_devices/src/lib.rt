@@ -1,4 +1,8 @@
-//! Devices that fail, that go an octet at a time, and that never end.
+//! Devices for tests, over those of `dmr_record`: one that fails after so many calls, one that gives an octet a call, and silence
+//! without end.
+//!
+//! Only tests use it.
+#![tactic(auto)]
 
 ghost use Rattle.std.specs.Prelude.{◌≡◌, ◌||◌, None, false};
 
@@ -7,12 +11,13 @@ use dmr_record::{DeviceFault, Sink, Source};
 /// A device that fails after so many calls, and from then on.
 #[derive(Drop)]
 pub struct FailsAt<D> {
-    device: D,
-    calls: u64,
-    is_failed: bool,
+    pub device: D,
+    pub calls: u64,
+    pub is_failed: bool,
 }
 
 impl<D> FailsAt<D> {
+    /// Fails once so many calls are behind it.
     pub fn new(device: D, calls: u64) -> FailsAt<D>
         ensures device { result.device ≡ device }
         ensures well { result.is_failed ≡ false }
@@ -24,7 +29,10 @@ impl<D> FailsAt<D> {
         }
     }
 
-    pub fn into_inner(self) -> D {
+    /// The device behind it.
+    pub fn into_inner(self) -> D
+        ensures device { result ≡ self.device }
+    {
         let FailsAt {
             device,
             calls: _,
@@ -72,6 +80,7 @@ pub struct OneByOne<'a> {
 }
 
 impl<'a> OneByOne<'a> {
+    /// Gives these octets.
     pub fn new(octets: &'a [u8]) -> OneByOne<'a> {
         OneByOne { octets, at: 0 }
     }
