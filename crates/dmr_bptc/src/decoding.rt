@@ -16,7 +16,7 @@ use dmr_codes::{BlockCode, Hamming13, Hamming15};
 
 /// The information of 196 bits as they were received, reserved bits ignored. Each column is replaced by the word
 /// within one bit where there is one, and then each row; where all rows and columns are words then, they hold the
-/// information, and else there is none. ETSI TS 102 361-1, annex B.1; the order of corrections is this project's own.
+/// information, and else there is none. ETSI TS 102 361-1, annex B.1.1; the order of corrections is this project's own.
 pub fn bptc_decode(bits: &Bits<196>) -> Option<Bits<96>>
     ensures decoded { IsDecoded bits.now result }
     ensures undone { (word : List Bool) → IsProductWord word → IsDamaged word bits.now

@@ -1,4 +1,4 @@
--- A control signalling block in its 96 bits.
+-- A control signalling block in its 96 bits. ETSI TS 102 361-1, clause 7.2.
 use Rattle.std.specs.Prelude.{◌≡◌, ◌<◌, List, Bool, ◌∷◌, ◌++◌, length, take, All, Some, None}
 use Rattle.dmr_bits.specs.Bits.{bits_of, bits_of_octets, octets_of}
 use Rattle.dmr_bptc.specs.Decoding.{IsDecoded}

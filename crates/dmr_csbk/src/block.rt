@@ -43,6 +43,7 @@ fn field_list(csbk: &Csbk) -> Bits<80>
 }
 
 /// The 96 bits of a block, which a data burst of type 3 carries: its fields, sealed under the CSBK's mask.
+/// ETSI TS 102 361-1, clause 7.2.
 pub fn csbk_info(csbk: &Csbk) -> Bits<96>
     requires fits { csbk.now.code < 64 }
     ensures block { IsBlock csbk.now result }
@@ -62,7 +63,7 @@ fn fields_of(message: &Bits<96>) -> Csbk
     csbk_fields!(read_fields, reader, Csbk)
 }
 
-/// The block that the information of a data burst of type 3 holds.
+/// The block that the information of a data burst of type 3 holds. ETSI TS 102 361-1, clause 7.2.
 pub fn csbk_read(bits: &Bits<196>) -> Result<Csbk, CsbkFault>
     // A block is what the product code's bits say, and they are sealed.
     ensures block { IfOk result (λ csbk. (message : List Bool) × IsDecoded bits.now (Some message) × IsBlock csbk message) }

@@ -11,7 +11,7 @@ pub const DOWN_ACT: u8 = 56;
 /// The opcode of the preamble, which announces blocks that follow (ETSI TS 102 361-2, clause 7.1.2).
 pub const PREAMBLE: u8 = 61;
 
-/// The body of BS_Dwn_Act, behind its sixteen reserved bits.
+/// The body of BS_Dwn_Act, behind its sixteen reserved bits. ETSI TS 102 361-2, clause 7.1.2.
 #[derive(Clone, Copy, Debug, PartialEq, Eq)]
 pub struct BsDownAct {
     /// The base station that is asked, an address of 24 bits.
@@ -20,7 +20,7 @@ pub struct BsDownAct {
     pub source: u32,
 }
 
-/// The body of a preamble.
+/// The body of a preamble. ETSI TS 102 361-2, clause 7.1.2.
 #[derive(Clone, Copy, Debug, PartialEq, Eq)]
 pub struct Preamble {
     /// The blocks that follow are of a packet; else they are CSBKs.

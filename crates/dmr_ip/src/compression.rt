@@ -43,7 +43,7 @@ pub fn compress(
 ///
 /// The tests go in this order: five octets, the opcode bits, the address identifiers, the port
 /// identifiers, the ports that are spelled out, the length of the datagram. A port that has an
-/// identifier may be spelled out too.
+/// identifier may be spelled out too. ETSI TS 102 361-3, with this project's own identifiers.
 pub fn expand(
     octets: &[u8],
     source: u32,

@@ -1,4 +1,4 @@
--- A full link control and its 72 bits.
+-- A full link control and its 72 bits. ETSI TS 102 361-1, clause 7.1.
 use Rattle.std.specs.Prelude.{◌≡◌, ◌<◌, List, Bool, ◌∷◌, ◌++◌, length, All}
 use Rattle.dmr_bits.specs.Bits.{bits_of, bits_of_octets}
 use Rattle.dmr_link.specs.declared.full_lc.FullLc.{FullLc}

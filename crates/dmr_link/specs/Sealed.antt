@@ -1,4 +1,4 @@
--- A full link control in its 96 bits, sealed for a use.
+-- A full link control in its 96 bits, sealed for a use. ETSI TS 102 361-1, annexes B.3.6 and B.3.12.
 use Rattle.std.specs.Prelude.{◌≡◌, ◌≤◌, ℕ, List, Bool, ◌++◌, length, take, drop, map, bit_xor, Some, None}
 use Rattle.dmr_bits.specs.Bits.{octets_of}
 use Rattle.dmr_bptc.specs.Decoding.{IsDecoded}

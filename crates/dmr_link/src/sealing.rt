@@ -6,7 +6,7 @@ use crate::full_lc::FullLc;
 use dmr_bits::Bits;
 use dmr_rs::rs_parity;
 
-/// What a full link control is sent as. Each use has a mask of its own for the parity (ETSI TS 102 361-1, annex B.3).
+/// What a full link control is sent as. Each use has a mask of its own for the parity (ETSI TS 102 361-1, annex B.3.12).
 #[derive(Clone, Copy, Debug, PartialEq, Eq, Drop)]
 pub enum LcUse {
     /// A voice LC header, a data burst of type 1.

@@ -22,7 +22,7 @@ pub enum CallKind {
     UnitToUnit,
 }
 
-/// The link control of a voice call.
+/// The link control of a voice call. ETSI TS 102 361-2, clause 7.1.1.
 #[derive(Clone, Copy, Debug, PartialEq, Eq)]
 pub struct VoiceLc {
     /// Whether the target is a talk group or a radio.

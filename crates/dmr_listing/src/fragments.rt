@@ -49,7 +49,7 @@ impl Fragments {
     }
 
     /// The link control that the newest four frames carry, where they say that they carry one and it can be read.
-    /// ETSI TS 102 361-1, clause 7.1.3.2.
+    /// ETSI TS 102 361-1, clause 7.1.3.
     pub(crate) fn link_control(&self) -> Option<FullLc>
         ensures carried { IsEmbedded self.now result }
     {

@@ -30,6 +30,7 @@ slot_octets slot = slot_tag slot ∷ slot_body slot
 abbrev pub Frame : Type 0
 Frame = List Slot
 
+-- It has two slots, each silence or a burst.
 abbrev pub IsFrame : Frame → Type 0
 IsFrame frame = (length frame ≡ 2) × AllByRecursion IsSilenceOrBurst frame
 

@@ -1,4 +1,4 @@
--- Words of the Reed-Solomon code (12,9).
+-- Words of the Reed-Solomon code (12,9). ETSI TS 102 361-1, annex B.3.6.
 use Rattle.std.specs.Prelude.{◌≡◌, ℕ, zero, suc, ◌+◌, ◌==◌, ◌<◌, ◌≤◌, List, [], ◌∷◌, fold, bit_xor, if◌then◌else◌}
 use Rattle.dmr_bits.specs.Polynomials.{IsMultiple}
 use Rattle.dmr_rs.specs.Field.{times, octet_field}

@@ -19,7 +19,7 @@ fn next_register(register: [Octet; 3], octet: Octet) -> [Octet; 3]
 }
 
 /// The three octets that complete nine octets to a word.
-/// Source: ETSI TS 102 361-1, annex B.3.
+/// Source: ETSI TS 102 361-1, annex B.3.6.
 pub fn rs_parity(octets: &[u8; 9]) -> [u8; 3]
     ensures word { IsRsWord (octets.now ++ result) }
     ensures only { (parity : List ℕ) → length parity ≡ 3 → IsRsWord (octets.now ++ parity) → parity ≡ result }
@@ -48,7 +48,7 @@ fn value_at(octets: &[u8], x: Octet) -> Octet
 }
 
 /// The word that differs from twelve octets in at most one.
-/// Source: ETSI TS 102 361-1, annex B.3.
+/// Source: ETSI TS 102 361-1, annex B.3.6.
 pub fn rs_correct(octets: &[u8; 12]) -> Option<[u8; 12]>
     ensures within { IfSome result (λ word. IsRsWord word × (octet_distance word octets.now ≤ 1)) }
     ensures only { (word : List ℕ) → length word ≡ 12 → IsRsWord word → octet_distance word octets.now ≤ 1

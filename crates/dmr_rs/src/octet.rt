@@ -7,7 +7,7 @@ use std::marker::Model;
 use std::ops::{Add, Mul};
 
 /// An octet as an element of the field of 256 with the polynomial x^8 + x^4 + x^3 + x^2 + 1.
-/// Source: ETSI TS 102 361-1, annex B.3.
+/// Source: ETSI TS 102 361-1, annex B.3.6.
 #[derive(Clone, Copy, Debug, PartialEq, Eq, Drop)]
 pub struct Octet {
     value: u8,

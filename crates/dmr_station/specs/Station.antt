@@ -59,6 +59,7 @@ after_offer gate refused s =
       counts = record s.counts { refused = s.counts.refused + refused };
     }
 
+-- That goes by the rules of the gateway.
 pub record IsOffered (before : State) (o : Outgoing) (after : State) : Type 0 where
   pub result : Result (Unit {0}) GatewayFault
   pub gate : Gate
