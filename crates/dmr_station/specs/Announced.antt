@@ -36,7 +36,7 @@ abbrev pub deciding : List (List SlotOut) → List SlotOut → List SlotOut
 deciding [] outs = outs
 deciding (last ∷ back) outs = if length back % 2 == 0 then last else outs
 
--- Frame by frame, after those in back.
+-- Frame by frame, after those before them with the newest first: each has the message for the frame that decides it.
 abbrev pub AreAnnounced : List (List SlotOut) → List (List SlotOut) → List Message → Type 0
 AreAnnounced back [] [] = Unit {0}
 AreAnnounced back [] (m ∷ messages) = ⊥

@@ -32,6 +32,7 @@ frames_in (a ∷ first) (b ∷ second) = (a ∷ b ∷ []) ∷ frames_in first se
 abbrev pub slots_of : List (List (Option DownlinkBurst)) → List (Option DownlinkBurst)
 slots_of frames = flat_map (λ frame. frame) frames
 
+-- The slot sends what its line repeats; a silent one doesn't, nor does one with the call hang, the gateway's burst or idle.
 abbrev pub is_repeated : Option DownlinkBurst → Bool
 is_repeated None = false
 is_repeated (Some d) = d.is_repeated
@@ -48,6 +49,7 @@ claims_in [] gates = []
 claims_in (outs ∷ more) [] = []
 claims_in (outs ∷ more) (gate ∷ gates) = claims_of outs gate ∷ claims_in more gates
 
+-- What goes out frame by frame: its bursts, each with whether its line repeats it and with the message of its frame.
 abbrev pub marked_frames : List Message → List (List SlotOut) → List (List (Option Burst)) → List (List (Option DownlinkBurst))
 marked_frames [] outs bursts = []
 marked_frames (m ∷ messages) [] bursts = []

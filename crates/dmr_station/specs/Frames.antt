@@ -29,6 +29,7 @@ pub record Settings : Type 0 where
   pub llid : ℕ
   pub queue : ℕ
 
+-- What the rules go by, of the settings that a run was configured with.
 abbrev pub settings_of : Config → Settings
 settings_of config =
     record {
@@ -84,6 +85,7 @@ abbrev pub marked : Message → SlotOut → Option Burst → Option DownlinkBurs
 marked m out None = None
 marked m out (Some burst) = Some (record { burst = burst; is_repeated = is_some out.repeated; message = m })
 
+-- What goes out in the slots of one frame: each burst with whether its line repeats it, and all with the frame's message.
 abbrev pub marked_slots : Message → List SlotOut → List (Option Burst) → List (Option DownlinkBurst)
 marked_slots m [] bursts = []
 marked_slots m (out ∷ outs) [] = []
@@ -103,9 +105,11 @@ pub record Counts : Type 0 where
   pub given_up : ℕ
   pub refused : ℕ
 
+-- Before the first frame: no record, no packet and no offer is counted.
 abbrev pub nothing_counted : Counts
 nothing_counted = record { received = 0; delivered = 0; sent = 0; given_up = 0; refused = 0 }
 
+-- What two stretches of frames count together, number by number.
 abbrev pub added : Counts → Counts → Counts
 added a b =
     record {
@@ -116,16 +120,18 @@ added a b =
       refused = a.refused + b.refused;
     }
 
+-- Both packets were delivered, or both were sent, or both were given up.
 abbrev pub is_outcome : Outcome → Outcome → Bool
 is_outcome Delivered Delivered = true
 is_outcome Sent Sent = true
 is_outcome GivenUp GivenUp = true
 is_outcome outcome other = false
 
--- how many of these outcomes are this one
+-- How many of these outcomes are this one.
 abbrev pub outcome_count : Outcome → List Outcome → ℕ
 outcome_count outcome outcomes = count_by (is_outcome outcome) outcomes
 
+-- What one frame counts: its records, its packets by what became of them, and the offers that it refused.
 abbrev pub counted : FrameGiven → Counts
 counted given =
     record {
@@ -136,6 +142,7 @@ counted given =
       refused = given.refused;
     }
 
+-- What these frames count together.
 abbrev pub all_counted : List FrameGiven → Counts
 all_counted [] = nothing_counted
 all_counted (given ∷ more) = added (counted given) (all_counted more)
@@ -165,24 +172,28 @@ pub record IsAsked (before : Memory) (frame : List (Option (List ℕ))) (sending
   pub announces : IsAnnounced before.kept (first ∷ second ∷ []) message after.kept
   pub marks : sending ≡ marked_slots message (first ∷ second ∷ []) bursts
 
--- what a gateway that was asked gives, and what it keeps then
+-- What the gateway received in this frame and what isn't taken yet: that of slot 1, and then that of slot 2.
 abbrev pub received_of : Gate → List Received
 received_of g = all_received g.first ++ all_received g.second
 
+-- What became of packets and isn't told yet: of one in slot 1, and then of one in slot 2.
 abbrev pub outcomes_of : Gate → List Outcome
 outcomes_of g = option_to_list (side_outcome g.first) ++ option_to_list (side_outcome g.second)
 
+-- What a frame gives of a gateway that was asked for its bursts, where it refused so many datagrams.
 abbrev pub given_of : ℕ → Gate → FrameGiven
 given_of refused g = record { received = received_of g; outcomes = outcomes_of g; refused = refused }
 
--- after all that it received is taken, and after what became of its packets is told
+-- The gateway once all that it received is taken: no status and no packet is left in either slot.
 abbrev pub received_taken : Gate → Gate
 received_taken g =
     record g { first = record g.first { status = None; packet = None }; second = record g.second { status = None; packet = None } }
 
+-- The gateway once it is told in both slots what became of a packet.
 abbrev pub outcomes_told : Gate → Gate
 outcomes_told g = record g { first = side_told g.first; second = side_told g.second }
 
+-- What is remembered once all that the gateway received is taken, and what became of packets is told.
 abbrev pub taken_of : Memory → Memory
 taken_of m = record m { gate = received_taken (outcomes_told m.gate) }
 
@@ -199,6 +210,8 @@ pub record IsPassed (before : Memory) (offered : List Outgoing) (frame : List (O
 
 -- 3. Frame after frame, each with the datagrams that are offered in it.
 
+-- Each frame goes by what the frames before it left: these datagrams are offered, this goes out, and this is given; and what is
+-- remembered behind the last of them.
 abbrev pub ArePassed : Memory → List (List Outgoing) → List (List (Option (List ℕ))) → List (List (Option DownlinkBurst)) →
     List FrameGiven → Memory → Type 0
 ArePassed m [] [] [] [] after = after ≡ m

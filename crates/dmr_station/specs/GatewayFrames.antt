@@ -30,6 +30,7 @@ pub record IsReadFrom (o : Outgoing) (s : Sending) : Type 0 where
   pub fields : sending_of o s.datagram ≡ s
   pub keeps : Keeps o s.datagram
 
+-- The records that were read stand one by one for those of the outgoing file, and there are as many.
 abbrev pub AreReadFrom : List Outgoing → List Sending → Type 0
 AreReadFrom records sendings = Pairwise IsReadFrom records sendings
 
@@ -46,7 +47,7 @@ abbrev pub by_frame : ℕ → ℕ → List Sending → List (List Sending)
 by_frame frame zero sendings = []
 by_frame frame (suc count) sendings = filter (λ s. s.frame == frame) sendings ∷ by_frame (frame + 1) count sendings
 
--- the fault that a datagram has of its own
+-- The fault that a datagram has of its own, whatever waits in its slot.
 abbrev pub fault_of : Sending → Option GatewayFault
 fault_of s = offer_fault s.confirmed s.full (length s.datagram) s.datagram
 
@@ -56,10 +57,12 @@ OffersOne (Some fault) llid s packets Rest = Rest packets
 OffersOne None llid s packets Rest =
     (q : Queued) × (later : List Queued) × IsPacketFor llid s.confirmed s.full s.datagram q × (packets ≡ q ∷ later) × Rest later
 
+-- The packets that are offered for these datagrams, in their order: one of each that has no fault of its own.
 abbrev pub Offers : ℕ → List Sending → List Queued → Type 0
 Offers llid [] packets = packets ≡ []
 Offers llid (s ∷ sendings) packets = OffersOne (fault_of s) llid s packets (Offers llid sendings)
 
+-- How many of these datagrams have a fault of their own.
 abbrev pub faults_in : List Sending → ℕ
 faults_in sendings = count_by (λ s. is_some (fault_of s)) sendings
 
@@ -98,12 +101,13 @@ AreGiven s slot back offers outs givens = ⊥
 
 -- 3. Both slots.
 
--- the bursts that the gateway has for both slots, frame by frame
+-- The bursts that the gateway has for slot 1 and for slot 2, frame by frame.
 abbrev pub gates_of : List Given → List Given → List (List (Option Burst))
 gates_of [] second = []
 gates_of (a ∷ first) [] = []
 gates_of (a ∷ first) (b ∷ second) = (a.burst ∷ b.burst ∷ []) ∷ gates_of first second
 
+-- The record of the received file for what was received in a frame: its frame, slot, kind, source and octets.
 abbrev pub receipt_of : ℕ → Received → Receipt
 receipt_of frame r = record { frame = frame; slot = r.slot; kind = r.kind; source = r.source; octets = r.octets }
 
@@ -114,17 +118,19 @@ receipts_of frame (a ∷ first) [] = []
 receipts_of frame (a ∷ first) (b ∷ second) =
     map (receipt_of frame) (a.received ++ b.received) ++ receipts_of (frame + 1) first second
 
--- what became of packets, one after another
+-- What became of packets in one slot, frame after frame.
 abbrev pub outcomes_of : List Given → List Outcome
 outcomes_of givens = flat_map (λ g. option_to_list g.outcome) givens
 
+-- How many packets of one slot ended so, over all its frames.
 abbrev pub outcomes_in : Outcome → List Given → ℕ
 outcomes_in outcome givens = outcome_count outcome (outcomes_of givens)
 
+-- How many datagrams one slot refused, over all its frames.
 abbrev pub refused_in : List Given → ℕ
 refused_in givens = sum (map (λ g. g.refused) givens)
 
--- What the frames count.
+-- What the frames count of the gateway, over both slots.
 abbrev pub counts_of : List Given → List Given → Counts
 counts_of first second =
     record {

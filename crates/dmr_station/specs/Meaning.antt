@@ -28,6 +28,7 @@ use Rattle.dmr_station.specs.GatewayFrames.{IsGatewayOf}
 abbrev pub line_of_meaning : Settings → List Cell → List (Option (List ℕ)) → List LineOut
 line_of_meaning s cells slots = lines s.call_hang [] (replicate 6 Nothing ++ meant cells slots)
 
+-- What the line of a slot gives, as bursts of the own colour code, is the line of what was sent in the slot.
 abbrev pub IsLineOfWhatIsMeant : Settings → List Cell → List (Option (List ℕ)) → List SlotOut → Type 0
 IsLineOfWhatIsMeant s cells slots outs = AreSlotOuts s.colour (line_of_meaning s cells slots) outs
 

@@ -10,7 +10,7 @@ use Rattle.dmr_station.specs.Announced.{IsFitMessage}
 use Rattle.dmr_station.specs.declared.announcing.Message.{Message}
 use Rattle.dmr_station.specs.declared.sending.DownlinkBurst.{DownlinkBurst}
 
--- the numbers of a burst fit their bits, where the slot isn't silent
+-- The numbers of a burst and of its message fit their bits, where the slot isn't silent.
 abbrev pub FitsItsFields : Option DownlinkBurst → Type 0
 FitsItsFields slot = IfSome slot (λ d. IsBurst d.burst × IsFitMessage d.message)
 
@@ -32,10 +32,11 @@ AreCachs busy fragments cachs =
     (place : ℕ) → IsCach busy (place % 2 == 1) (lcss_of place) (slice_index_or fragments (place % 4) [])
     (bits_of_octets (slice_index_or cachs (place % 4) []))
 
--- Those of a message.
+-- The four CACHs of a message, each in its place.
 abbrev pub CarryMessage : Bool → Message → List (List ℕ) → Type 0
 CarryMessage busy m cachs = (place : ℕ) → IsCachOf busy m place (slice_index_or cachs (place % 4) [])
 
+-- Each of these numbers is an octet: below 256.
 abbrev pub AreOctets : List ℕ → Type 0
 AreOctets octets = All (λ octet. octet < 256) octets
 
@@ -46,11 +47,12 @@ pub record IsSentBurst (place : ℕ) (d : DownlinkBurst) (cach burst : List ℕ)
   pub burst_octets : AreOctets burst
   pub encodes : IsEncoding d.burst Bs (bits_of_octets burst)
 
+-- What one slot sends, with its CACH, as the record in this place of the downlink; a silent slot is a record of silence.
 abbrev pub IsSentAs : ℕ → Option DownlinkBurst → Option (List ℕ × List ℕ) → Type 0
 IsSentAs place (Some d) sent = IsSomeAnd sent (λ s. IsSentBurst place d s.0 s.1)
 IsSentAs place None sent = sent ≡ None
 
--- slots one after the other, from a record's place on
+-- What slots send one after the other, as the records from this place of the downlink on.
 abbrev pub AreSentAs : ℕ → List (Option DownlinkBurst) → List (Option (List ℕ × List ℕ)) → Type 0
 AreSentAs place [] [] = Unit {0}
 AreSentAs place [] (sent ∷ more) = ⊥

@@ -37,6 +37,7 @@ abbrev pub counts_of_gateway : StationCounts → Counts
 counts_of_gateway c =
     record { received = c.received; delivered = c.delivered; sent = c.sent; given_up = c.given_up; refused = c.refused }
 
+-- What a station is between two frames, of what it remembers and of the program's counters.
 abbrev pub state_of : Memory → StationCounts → State
 state_of m c =
     record { memory = m; frames = c.frames; repeated = c.repeated; offered = c.offered; counts = counts_of_gateway c }
@@ -45,12 +46,13 @@ state_of m c =
 abbrev pub fresh : Settings → State
 fresh s = record { memory = start s; frames = 0; repeated = 0; offered = 0; counts = nothing_counted }
 
+-- What the rules go by in a station, of what it remembers.
 abbrev pub settings_in : State → Settings
 settings_in state = settings_remembered state.memory
 
 -- 2. One frame.
 
--- A datagram is offered to the gateway, and counted where it is refused.
+-- The station once a datagram was offered, which left its gateway so and was refused so many times, once or not at all.
 abbrev pub after_offer : Gate → ℕ → State → State
 after_offer gate refused s =
     record s {
@@ -59,19 +61,19 @@ after_offer gate refused s =
       counts = record s.counts { refused = s.counts.refused + refused };
     }
 
--- That goes by the rules of the gateway.
+-- A datagram is offered, and the station goes on by what the gateway makes of it: it takes the packet, or refuses it.
 pub record IsOffered (before : State) (o : Outgoing) (after : State) : Type 0 where
   pub result : Result (Unit {0}) GatewayFault
   pub gate : Gate
   pub offer : IsOffer (fault_of o) o result before.memory.gate gate
   pub state : after ≡ after_offer gate (refusal result) before
 
--- datagrams, one after another
+-- Datagrams are offered, one after another.
 abbrev pub AreOffered : State → List Outgoing → State → Type 0
 AreOffered before [] after = after ≡ before
 AreOffered before (o ∷ more) after = (next : State) × IsOffered before o next × AreOffered next more after
 
--- What became of packets is counted.
+-- The counts once it is told that this became of packets.
 abbrev pub with_outcomes : List Outcome → Counts → Counts
 with_outcomes outcomes c =
     record c {
@@ -95,14 +97,16 @@ pub record IsExchanged (before : State) (frame : List (Option (List ℕ))) (reco
   pub offered : after.offered ≡ before.offered
   pub counts : after.counts ≡ with_outcomes (outcomes_of asked.gate) before.counts
 
--- What the gateway received is taken, one after another, and counted.
+-- The station once so many records were taken of what its gateway received, which left the gateway so.
 abbrev pub with_received : Gate → ℕ → State → State
 with_received gate count s =
     record s { memory = record s.memory { gate = gate }; counts = record s.counts { received = s.counts.received + count } }
 
+-- The station once the next record of what the gateway received is taken and counted, where there is one.
 abbrev pub taken_once : State → State
 taken_once s = with_received (after_received s.memory.gate) (length (option_to_list (next_received s.memory.gate))) s
 
+-- The station once all records of what the gateway received are taken and counted.
 abbrev pub all_taken : State → State
 all_taken s = with_received (received_taken s.memory.gate) (length (received_of s.memory.gate)) s
 
@@ -118,6 +122,8 @@ pub record IsWithinFrames (s : State) : Type 0 where
 
 -- 3. Frame after frame, each with the datagrams that are offered in it.
 
+-- Each frame goes by what the frames before it left: these datagrams are offered, these records are given, and this was received,
+-- which is all taken before the next frame.
 abbrev pub AreExchanged : State → List (List Outgoing) → List (List (Option (List ℕ))) → List (List (Option (List ℕ × List ℕ))) →
     List (List Received) → State → Type 0
 AreExchanged before [] [] [] [] after = after ≡ before
