@@ -10,13 +10,16 @@ use Rattle.std.proofs.lemmas.Nat.Bits.{bit_at_cat_low}
 use Rattle.dmr_bits.specs.Bits.{number_of, bits_of}
 use Rattle.dmr_bits.specs.Words.{word_bits, bits_of_words, word_at, words_of, IsPacked, unpacked, packed}
 
+-- the bits of a number in a width are as many as the width says
 pub length-bits_of : (width n : ℕ) → length (bits_of width n) ≡ width
 length-bits_of zero n = refl
 length-bits_of (suc width) n = ap suc (length-bits_of width n)
 
+-- two to the power of one more is twice as much
 pub pow_suc : (k : ℕ) → 2 ^ suc k ≡ 2 * 2 ^ k
 pow_suc k = grind arith
 
+-- bits read on behind a number: it moves up a place for each of them, and the number that they spell is added
 pub number_from : (n : ℕ) (xs : List Bool) → fold (λ m b. 2 * m + cond b 1 0) n xs ≡ n * 2 ^ length xs + number_of xs
 number_from n [] = omega arith
 number_from n (true ∷ xs) =
@@ -24,6 +27,7 @@ number_from n (true ∷ xs) =
 number_from n (false ∷ xs) =
     rw pow_suc (omega (arith, number_from (2 * n + 0) xs, number_from (2 * 0 + 0) xs))
 
+-- a bit in front of others: where it is a one, it adds two to the power of how many they are to the number that they spell
 pub number_of-cons : (x : Bool) (xs : List Bool) → number_of (x ∷ xs) ≡ cond x 1 0 * 2 ^ length xs + number_of xs
 number_of-cons x xs = number_from (2 * 0 + cond x 1 0) xs ∙ (let e : 2 * 0 + cond x 1 0 ≡ cond x 1 0 = omega arith in rw e refl)
 
@@ -36,11 +40,13 @@ bits_of_above (suc width) high n k h =
     cc
 
 -- ---- a number in a field is read back
+-- a number below two is one where its lowest bit is a one, and else zero
 pub one_bit : (q : ℕ) → q < 2 → cond (q % 2 == 1) 1 0 ≡ q
 one_bit zero h = refl
 one_bit (suc zero) h = refl
 one_bit (suc (suc q)) h = absurd (omega arith)
 
+-- the bits of a number that fits their width spell that number
 pub number_of-bits_of : (width n : ℕ) → n < 2 ^ width → number_of (bits_of width n) ≡ n
 number_of-bits_of zero n h = omega arith
 number_of-bits_of (suc width) n h =
@@ -54,14 +60,17 @@ number_of-bits_of (suc width) n h =
     number_of-cons (q % 2 == 1) (bits_of width n)
     ∙ rw (length-bits_of, low, number_of-bits_of width r below, one_bit q high) parts
 
+-- a word has 64 bits
 pub length-word_bits : (word : ℕ) → length (word_bits word) ≡ 64
 unfolding word_bits
 length-word_bits word = length-bits_of 64 word
 
+-- the bits of words are those of the first word, and then those of the others
 pub bits_of_words-cons : (w : ℕ) (ws : List ℕ) → bits_of_words (w ∷ ws) ≡ word_bits w ++ bits_of_words ws
 unfolding bits_of_words
 bits_of_words-cons w ws = flat_map-cons word_bits w ws
 
+-- no words have no bits
 pub bits_of_words-none : bits_of_words [] ≡ []
 unfolding bits_of_words
 bits_of_words-none = refl
@@ -79,10 +88,12 @@ word_of (w ∷ ws) (suc i) h =
     ∙ ap (drop (64 * i)) (drop_at (word_bits w) (bits_of_words ws) 64 (length-word_bits w)))
     ∙ word_of ws i (omega arith)
 
+-- the 64 bits of a word below 2^64 spell that word
 number_of-word_bits : (word : ℕ) → word < 2 ^ 64 → number_of (word_bits word) ≡ word
 unfolding word_bits
 number_of-word_bits word h = number_of-bits_of 64 word h
 
+-- words below 2^64 are read back from their bits
 pub words_of-bits : (ws : List ℕ) → All (λ word. word < 2 ^ 64) ws → words_of (length ws) (bits_of_words ws) ≡ ws
 unfolding words_of
 words_of-bits ws small =
