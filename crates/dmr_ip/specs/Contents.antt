@@ -23,10 +23,11 @@ pub record FitsDatagram (c : Contents) : Type 0 where
   pub payload : AreOctets c.payload
   pub room : 28 + length c.payload ≤ 1400
 
--- The address of a radio is 12.x.y.z, and that of a group 225.x.y.z, where x.y.z is the LLID.
+-- The IPv4 address of a radio: 12.x.y.z, where x.y.z is its LLID.
 abbrev pub radio_address : ℕ → ℕ
 radio_address llid = 12 * 2 ^ 24 + llid
 
+-- The IPv4 address that a packet is for: 225.x.y.z for a group, and 12.x.y.z for a radio, where x.y.z is its LLID.
 abbrev pub address : Bool → ℕ → ℕ
 address group llid = if group then 225 * 2 ^ 24 + llid else radio_address llid
 
@@ -52,10 +53,12 @@ pseudo_header total source destination =
 abbrev pub sent_checksum : ℕ → ℕ
 sent_checksum sum = if sum == 0 then 0xffff else sum
 
--- A checksum is computed with a checksum of 0 in its place.
+-- The checksum of an IPv4 header with these fields, computed with a checksum of 0 in its place.
 abbrev pub ip_checksum : (total identification source destination : ℕ) → ℕ
 ip_checksum total identification source destination = checksum (ip_header 0 total identification source destination)
 
+-- The checksum of a UDP header with these fields, as it is sent: computed over the pseudo header, the UDP header with a checksum
+-- of 0 in its place, and the payload.
 abbrev pub udp_checksum : (total source destination source_port destination_port : ℕ) → List ℕ → ℕ
 udp_checksum total source destination source_port destination_port payload =
     let udp = udp_header 0 total source_port destination_port ++ payload in

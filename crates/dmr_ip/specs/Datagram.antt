@@ -13,30 +13,37 @@ number_at octets place = 256 * slice_index octets place + slice_index octets (pl
 
 -- 1. Fields of the IPv4 header (RFC 791), by octet.
 
+-- The version of IP: the high four bits of octet 0.
 abbrev pub version : List ℕ → ℕ
 version octets = slice_index octets 0 / 16
 
+-- How many words of four octets the IPv4 header has: the low four bits of octet 0.
 abbrev pub header_words : List ℕ → ℕ
 header_words octets = slice_index octets 0 % 16
 
+-- How many octets the datagram has by its IPv4 header: octets 2 and 3.
 abbrev pub total_length : List ℕ → ℕ
 total_length octets = number_at octets 2
 
--- Behind two other flags: whether more fragments follow, and the offset of this one in 13 bits.
+-- The flag that more fragments follow, the lowest of the three flags in octet 6: 1 where it is set.
 abbrev pub more_fragments : List ℕ → ℕ
 more_fragments octets = number_at octets 6 / 2 ^ 13 % 2
 
+-- Where in the whole datagram a fragment begins: the 13 bits of octets 6 and 7 behind the flags, 0 for the first fragment.
 abbrev pub fragment_offset : List ℕ → ℕ
 fragment_offset octets = number_at octets 6 % 2 ^ 13
 
+-- What the datagram carries, by octet 9: 17 says that it is UDP.
 abbrev pub protocol : List ℕ → ℕ
 protocol octets = slice_index octets 9
 
 -- 2. Fields of the UDP header (RFC 768), behind an IPv4 header of five words.
 
+-- How many octets the UDP header and its payload have by that header: octets 24 and 25.
 abbrev pub udp_length : List ℕ → ℕ
 udp_length octets = number_at octets 24
 
+-- The checksum of the UDP header, of octets 26 and 27: 0 says that there is none.
 abbrev pub udp_checksum : List ℕ → ℕ
 udp_checksum octets = number_at octets 26
 
@@ -68,19 +75,24 @@ pub record IsDatagram (octets : List ℕ) : Type 0 where
 
 -- 4. The tests of a parser, each of octets that passed those before it.
 
+-- There are 20 to 1,400 octets, and as many as the IPv4 header says.
 abbrev pub has_length : List ℕ → Bool
 has_length octets =
     nat_le 20 (length octets) && nat_le (length octets) 1400 && (total_length octets == length octets)
 
+-- The words of the IPv4 header add up to FFFF in one's complement.
 abbrev pub has_header_sum : List ℕ → Bool
 has_header_sum octets = ones_complement_sum (take 20 octets) == 0xffff
 
+-- The datagram is not a fragment: no more fragments follow, and its offset is 0.
 abbrev pub is_whole : List ℕ → Bool
 is_whole octets = (more_fragments octets == 0) && (fragment_offset octets == 0)
 
+-- There are at least 28 octets, and behind the 20 of the IPv4 header as many as the UDP header says.
 abbrev pub has_udp_length : List ℕ → Bool
 has_udp_length octets = nat_le 28 (length octets) && (udp_length octets == length octets - 20)
 
+-- There is no UDP checksum, or the words that it covers add up to FFFF in one's complement.
 abbrev pub has_udp_sum : List ℕ → Bool
 has_udp_sum octets =
     (udp_checksum octets == 0)

@@ -67,9 +67,11 @@ pub record Writes (octets : List ℕ) (source destination : ℕ) (group : Bool) 
 abbrev pub opcode_bit : List ℕ → ℕ → ℕ
 opcode_bit octets place = slice_index octets place / 128
 
+-- The port identifier of the source: the low seven bits of octet 3.
 abbrev pub source_identifier : List ℕ → ℕ
 source_identifier octets = slice_index octets 3 % 128
 
+-- The port identifier of the destination: the low seven bits of octet 4.
 abbrev pub destination_identifier : List ℕ → ℕ
 destination_identifier octets = slice_index octets 4 % 128
 
@@ -77,7 +79,7 @@ destination_identifier octets = slice_index octets 4 % 128
 abbrev pub port_length : ℕ → ℕ
 port_length identifier = if identifier == 0 then 2 else 0
 
--- And both of them.
+-- How many octets both ports have behind the identifiers.
 abbrev pub ports_length : List ℕ → ℕ
 ports_length octets = port_length (source_identifier octets) + port_length (destination_identifier octets)
 
@@ -86,13 +88,15 @@ abbrev pub port_from : ℕ → List ℕ → ℕ
 port_from identifier octets =
     if identifier == 0 then number_at octets 0 else if identifier == 1 then 5016 else 5017
 
--- The octets behind the identifiers, those behind the source port, and those behind both ports.
+-- The octets behind the identification and the identifiers, which have five.
 abbrev pub behind_identifiers : List ℕ → List ℕ
 behind_identifiers octets = drop 5 octets
 
+-- The octets behind the source port, or behind the identifiers where that port isn't spelled out.
 abbrev pub behind_source_port : List ℕ → List ℕ
 behind_source_port octets = drop (port_length (source_identifier octets)) (behind_identifiers octets)
 
+-- The octets behind both ports, so far as these are spelled out: the payload.
 abbrev pub behind_ports : List ℕ → List ℕ
 behind_ports octets = drop (port_length (destination_identifier octets)) (behind_source_port octets)
 
