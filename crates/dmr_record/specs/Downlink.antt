@@ -10,6 +10,7 @@ use Rattle.dmr_record.specs.Head.{head_octets}
 abbrev pub Sent : Type 0
 Sent = Option (List ℕ × List ℕ)
 
+-- The slot is silence, or it has a CACH of three octets and a burst of 33.
 abbrev pub IsSent : Sent → Type 0
 IsSent None = Unit {0}
 IsSent (Some sent) = (length sent.0 ≡ 3) × (length sent.1 ≡ 33)

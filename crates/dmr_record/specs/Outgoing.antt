@@ -48,6 +48,7 @@ pub record IsSending (s : Sending) : Type 0 where
 abbrev pub mode_of : Bool → Bool → ℕ
 mode_of confirmed full = (if confirmed then 1 else 0) + (if full then 2 else 0)
 
+-- the fields of this record: its frame, its slot, its mode, and how many octets its datagram has
 abbrev pub fields_of : Sending → Fields
 fields_of s =
     record { frame = s.frame; slot = s.slot; mode = mode_of s.confirmed s.full; count = length s.datagram }

@@ -24,6 +24,7 @@ pub record IsReceipt (r : Receipt) : Type 0 where
   pub source : r.source < 2 ^ 24
   pub octets : length r.octets < 2 ^ 16
 
+-- the octet of a kind: 00 for a datagram, 01 for short data, and 02 for a status
 abbrev pub kind_octet : ReceivedKind → ℕ
 kind_octet Datagram = 0
 kind_octet ShortData = 1
@@ -93,6 +94,7 @@ abbrev pub Follows : Option Fields → Fields → Type 0
 Follows None f = Unit {0}
 Follows (Some last) f = IsBehind last f
 
+-- the fields of this record: its frame, its slot, the number of its kind, its source, and how many octets came
 abbrev pub fields_of : Receipt → Fields
 fields_of r = record { frame = r.frame; slot = r.slot; kind = kind_octet r.kind; source = r.source; count = length r.octets }
 
@@ -105,6 +107,7 @@ AreInOrder last (r ∷ rest) = Follows last (fields_of r) × AreInOrder (Some (f
 abbrev pub fields_read : Received → Fields
 fields_read r = record { frame = r.frame; slot = r.slot; kind = kind_octet r.kind; source = r.source; count = r.length }
 
+-- the fields of the last record that was read, where one was
 abbrev pub last_read : Option Received → Option Fields
 last_read None = None
 last_read (Some r) = Some (fields_read r)

@@ -10,6 +10,7 @@ use Rattle.dmr_record.specs.Head.{head_octets}
 abbrev pub Slot : Type 0
 Slot = Option (List ℕ)
 
+-- The slot is silence, or a burst of 33 octets.
 abbrev pub IsSilenceOrBurst : Slot → Type 0
 IsSilenceOrBurst None = Unit {0}
 IsSilenceOrBurst (Some burst) = length burst ≡ 33
@@ -19,10 +20,12 @@ abbrev pub slot_tag : Slot → ℕ
 slot_tag None = 0
 slot_tag (Some burst) = 1
 
+-- what stands behind the tag of a slot: nothing for silence, or else the octets of its burst
 abbrev pub slot_body : Slot → List ℕ
 slot_body None = []
 slot_body (Some burst) = burst
 
+-- the octets of a slot: its tag, and then its burst where it has one
 abbrev pub slot_octets : Slot → List ℕ
 slot_octets slot = slot_tag slot ∷ slot_body slot
 
@@ -30,10 +33,11 @@ slot_octets slot = slot_tag slot ∷ slot_body slot
 abbrev pub Frame : Type 0
 Frame = List Slot
 
--- It has two slots, each silence or a burst.
+-- A frame has two slots, each silence or a burst.
 abbrev pub IsFrame : Frame → Type 0
 IsFrame frame = (length frame ≡ 2) × AllByRecursion IsSilenceOrBurst frame
 
+-- the octets of a frame: those of slot 1, and then those of slot 2
 abbrev pub frame_octets : Frame → List ℕ
 frame_octets frame = flat_map slot_octets frame
 
