@@ -16,6 +16,7 @@ abbrev pub IsBurstOf : Recording → RecordedBurst → Type 0
 IsBurstOf Uplink b = (b.cach ≡ None) × (length b.burst ≡ 33)
 IsBurstOf Downlink b = ((cach : List ℕ) × (b.cach ≡ Some cach) × (length cach ≡ 3)) × (length b.burst ≡ 33)
 
+-- A slot of this recording is silence, or a burst of it.
 abbrev pub IsSlotOf : Recording → Slot → Type 0
 IsSlotOf recording None = Unit {0}
 IsSlotOf recording (Some b) = IsBurstOf recording b

@@ -5,6 +5,7 @@ use Rattle.dmr_listing.specs.declared.summary.BurstCounts.{BurstCounts}
 use Rattle.dmr_report.specs.declared.reading.Reading.{Reading}
 use Rattle.dmr_report.specs.declared.reading.Reading.TheVariants.{Unreadable}
 
+-- whether a burst read as nothing: it is of no known kind, or too damaged
 abbrev pub is_unreadable : Reading → Bool
 is_unreadable Unreadable = true
 is_unreadable reading = false
@@ -13,6 +14,7 @@ is_unreadable reading = false
 abbrev pub more : Bool → ℕ → ℕ
 more holds count = min (count + (if holds then 1 else 0)) (2 ^ 32 - 1)
 
+-- the counts before the first line: no burst in slot 1 or slot 2, and none that is unreadable
 abbrev pub none_counted : BurstCounts
 none_counted = record { slot_1 = 0; slot_2 = 0; unreadable = 0 }
 
