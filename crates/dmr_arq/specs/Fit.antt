@@ -23,7 +23,7 @@ pub record IsFitRoute (route : Route) : Type 0 where
   pub destination : route.destination < 2 ^ 24
   pub sap : route.sap < 2 ^ 4
 
--- and the number of a packet three
+-- An answer has addresses of 24 bits, a service access point of four and the number of its packet in three.
 pub record IsFitAnswer (answer : Answer) : Type 0 where
   pub from : answer.from < 2 ^ 24
   pub to : answer.to < 2 ^ 24
@@ -47,22 +47,29 @@ IsFitGateBurst (burst.Block block rate) = IsFit rate block.serial block.octets
 abbrev pub IsOfferedPacket : Packet → Type 0
 IsOfferedPacket packet = (body : List ℕ) × IsWrittenPacket body packet
 
+-- What an open try is of fits its fields: a try of a confirmed packet keeps its header, and one of a packet without confirmation
+-- keeps nothing.
 abbrev pub IsFitKind : Kind → Type 0
 IsFitKind Single = Unit {0}
 IsFitKind (InProgress h) = IsFitHeader (header.Confirmed h)
 IsFitKind (Repeat h) = IsFitHeader (header.Confirmed h)
 
+-- All that a receiver keeps fits its fields: its LLID of 24 bits, the header of the packet in progress, and what the open try is
+-- of.
 pub record IsFitReceiver (r : ReceiverState) : Type 0 where
   pub llid : r.llid < 2 ^ 24
   pub packet : IfSome r.packet (λ p. IsFitHeader p.header)
   pub attempt : IfSome r.attempt (λ a. IsFitKind a.kind)
 
+-- The packet in hand is the one that is sent for some body, and fits: its route, its number of three bits, and at most 127 blocks
+-- of it in a try.
 pub record IsFitHeld (h : Held) : Type 0 where
   pub packet : IsOfferedPacket h.packet
   pub route : IsFitRoute h.route
   pub number : h.number < 2 ^ 3
   pub serials : length h.selection.serials ≤ 127
 
+-- All that a sender keeps fits its fields: its LLID of 24 bits, and the packet in hand, where there is one.
 pub record IsFitSender (s : SenderState) : Type 0 where
   pub llid : s.llid < 2 ^ 24
   pub held : IfSome s.held IsFitHeld
