@@ -46,8 +46,8 @@ offer_calls None packet route s calls =
     else calls
 offer_calls (Some h) packet route s calls = calls
 
--- The confirmed packets that were taken in hand, with one more where this event is an offer of one and the sender had none in
--- hand. No other event adds to them.
+-- The confirmed packets that were taken in hand, with one more where this event is an offer of one and the sender had no packet
+-- in hand. No other event adds to them.
 abbrev pub with_call : SenderEvent → SenderState → List Entry → List Entry
 with_call (Offers packet route) s calls = offer_calls s.held packet route s calls
 with_call Sends s calls = calls

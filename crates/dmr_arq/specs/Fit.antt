@@ -30,7 +30,7 @@ pub record IsFitAnswer (answer : Answer) : Type 0 where
   pub sap : answer.sap < 2 ^ 4
   pub number : answer.number < 2 ^ 3
 
--- what a place of a try gives
+-- What a place of a try gives fits its fields: the header of the packet that is delivered, and the answer, where there are any.
 pub record IsFitReceiverOut (out : ReceiverOut) : Type 0 where
   pub delivered : IfSome out.delivered (λ joined. IsFitHeader joined.header)
   pub answer : IfSome out.answer IsFitAnswer
@@ -61,8 +61,8 @@ pub record IsFitReceiver (r : ReceiverState) : Type 0 where
   pub packet : IfSome r.packet (λ p. IsFitHeader p.header)
   pub attempt : IfSome r.attempt (λ a. IsFitKind a.kind)
 
--- The packet in hand is the one that is sent for some body, and fits: its route, its number of three bits, and at most 127 blocks
--- of it in a try.
+-- The packet in hand fits: it is the packet that is sent for some body, its route fits, its number has three bits, and a try of
+-- it has at most 127 blocks.
 pub record IsFitHeld (h : Held) : Type 0 where
   pub packet : IsOfferedPacket h.packet
   pub route : IsFitRoute h.route
