@@ -18,7 +18,7 @@ use Rattle.dmr_arq.specs.Sender.{SenderState}
 
 -- 1. What goes out.
 
--- an address has 24 bits, the service access point four
+-- A route has an address of 24 bits, and a service access point of four.
 pub record IsFitRoute (route : Route) : Type 0 where
   pub destination : route.destination < 2 ^ 24
   pub sap : route.sap < 2 ^ 4
@@ -43,7 +43,7 @@ IsFitGateBurst (burst.Block block rate) = IsFit rate block.serial block.octets
 
 -- 2. What is offered, and what is kept.
 
--- the packet that is sent for some body
+-- A packet is the one that is sent for some body.
 abbrev pub IsOfferedPacket : Packet → Type 0
 IsOfferedPacket packet = (body : List ℕ) × IsWrittenPacket body packet
 
