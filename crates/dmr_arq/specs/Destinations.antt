@@ -19,6 +19,7 @@ pub data SenderEvent : Type 0 where
   Cuts : SenderEvent
   Tells : SenderEvent
 
+-- What a sender keeps after it has seen this event.
 abbrev pub seen : SenderEvent → SenderState → SenderState
 seen (Offers packet route) s = offered packet route s
 seen Sends s = sent s
@@ -27,12 +28,12 @@ seen Ticks s = ticked s
 seen Cuts s = cut_of s
 seen Tells s = outcome_taken s
 
--- after all events, the newest of them first
+-- What a sender with this LLID keeps after all events, the newest of them first.
 abbrev pub sender_after : ℕ → List SenderEvent → SenderState
 sender_after llid [] = record { llid = llid; table = []; held = None; outcome = None }
 sender_after llid (newest ∷ earlier) = seen newest (sender_after llid earlier)
 
--- the number of the packet in hand
+-- The number of the packet in hand, 0 where there is none.
 abbrev pub number_in_hand : Option Held → ℕ
 number_in_hand None = 0
 number_in_hand (Some h) = h.number
@@ -45,6 +46,8 @@ offer_calls None packet route s calls =
     else calls
 offer_calls (Some h) packet route s calls = calls
 
+-- The confirmed packets that were taken in hand, with one more where this event is an offer of one and the sender had no packet
+-- in hand. No other event adds to them.
 abbrev pub with_call : SenderEvent → SenderState → List Entry → List Entry
 with_call (Offers packet route) s calls = offer_calls s.held packet route s calls
 with_call Sends s calls = calls
@@ -62,7 +65,8 @@ calls_of llid (newest ∷ earlier) = with_call newest (sender_after llid earlier
 abbrev pub IsCalledLast : ℕ → ℕ → List Entry → Type 0
 IsCalledLast destination number calls = IsHeardLast (record { llid = destination; number = number }) calls
 
--- One more than that number, modulo 8, where there is one; else 0.
+-- The next number of a destination: one more, modulo 8, than that of the last confirmed packet to it, or 0 where there is none,
+-- or at least 64 other destinations have had one since.
 abbrev pub IsNextNumber : ℕ → List Entry → ℕ → Type 0
 IsNextNumber destination calls number =
     ((last : ℕ) × IsCalledLast destination last calls × (number ≡ (last + 1) % 8))
