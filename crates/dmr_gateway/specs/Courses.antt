@@ -76,7 +76,7 @@ IsNotDue Ready = ⊥
 IsNotDue (Begun first) = ⊥
 IsNotDue (Awaits ended) = Unit {0}
 
--- No try is due or begun, of the packet in hand or for want of one.
+-- No try is due or begun: no packet is in hand, or the one in hand awaits an answer.
 abbrev pub HasNoTryDue : Option Hand → Type 0
 HasNoTryDue None = Unit {0}
 HasNoTryDue (Some h) = IsNotDue h.stage
