@@ -37,11 +37,11 @@ abbrev pub is_answer : Sends → Bool
 is_answer (Answers due) = true
 is_answer (Tries packet route number selection) = false
 
--- In the newest frame it is cut, since that isn't free, or replaced, an answer by one that is due.
+-- An attempt is broken off in the newest frame: it is cut, since the frame isn't free, or replaced, an answer by one that is due.
 abbrev pub IsBrokenOff : Attempt → List Brings → Type 0
 IsBrokenOff a frames = (is_free frames ≡ false) ⊎ ((is_answer a.what ≡ true) × (has_due frames ≡ true))
 
--- So many of its bursts are out: these are all; or no frame has come since; or it was broken off in the next one.
+-- An attempt has ended with so many bursts out: these are all; or no frame has come since; or it was broken off in the next one.
 abbrev pub HasEnded : ℕ → List Brings → Attempt → ℕ → Type 0
 HasEnded llid frames a out =
     (out ≡ length (bursts_of llid a.what))

@@ -67,7 +67,7 @@ gives llid slot (Some joined) = packet_gives llid slot joined.header joined.body
 
 -- 3. What a status gives.
 
--- Of a status header for the gateway: both ports, and the status in two octets.
+-- The record of a status header for the gateway: both ports, and the status in two octets. Any other header gives none.
 abbrev pub status_gives : ℕ → ℕ → Option Header → Option Received
 status_gives llid slot None = None
 status_gives llid slot (Some (header.Status h)) =
