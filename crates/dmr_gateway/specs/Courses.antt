@@ -9,17 +9,17 @@ use Rattle.dmr_gateway.specs.Attempts.{at_place, bursts_of}
 
 -- 1. The frames of a run, by their numbers.
 
--- those up to one of them, which is the newest then
+-- The frames up to frame k, which is the newest of them then.
 abbrev pub up_to : ℕ → List Brings → List Brings
 up_to k [] = []
 up_to k (newest ∷ earlier) = if length earlier == k then newest ∷ earlier else up_to k earlier
 
--- whether the newest is free
+-- Whether the newest of these frames is free.
 abbrev pub is_free : List Brings → Bool
 is_free [] = false
 is_free (newest ∷ earlier) = newest.free
 
--- and whether an answer is due in it
+-- Whether an answer is due in the newest of these frames.
 abbrev pub has_due : List Brings → Bool
 has_due [] = false
 has_due (newest ∷ earlier) = is_some newest.due
@@ -32,15 +32,16 @@ pub record StandsIn (limit llid : ℕ) (a : Attempt) (burst : Option SlotBurst) 
 
 -- 2. An attempt, and all of them.
 
+-- Whether a slot sends an answer, and not a try of a packet.
 abbrev pub is_answer : Sends → Bool
 is_answer (Answers due) = true
 is_answer (Tries packet route number selection) = false
 
--- In the newest frame it is cut, since that isn't free, or replaced, an answer by one that is due.
+-- An attempt is broken off in the newest frame: it is cut, since the frame isn't free, or replaced, an answer by one that is due.
 abbrev pub IsBrokenOff : Attempt → List Brings → Type 0
 IsBrokenOff a frames = (is_free frames ≡ false) ⊎ ((is_answer a.what ≡ true) × (has_due frames ≡ true))
 
--- So many of its bursts are out: these are all; or no frame has come since; or it was broken off in the next one.
+-- An attempt has ended with so many bursts out: these are all; or no frame has come since; or it was broken off in the next one.
 abbrev pub HasEnded : ℕ → List Brings → Attempt → ℕ → Type 0
 HasEnded llid frames a out =
     (out ≡ length (bursts_of llid a.what))
@@ -56,6 +57,7 @@ pub record HasCourse (limit llid : ℕ) (frames : List Brings) (a : Attempt) : T
   pub sends : (k : ℕ) → k < out → StandsIn limit llid a (at_place (bursts_of llid a.what) k) (up_to (a.first + k) frames)
   pub ended : HasEnded llid frames a out
 
+-- The attempts up to frame f, the newest of them first: the one that stands in frame f joins them where f is its first.
 abbrev pub joined_by : ℕ → Option Attempt → List Attempt → List Attempt
 joined_by f None begun = begun
 joined_by f (Some a) begun = if a.first == f then a ∷ begun else begun
@@ -68,16 +70,18 @@ all_attempts limit llid (newest ∷ earlier) =
 
 -- 3. Frames in which nothing goes out.
 
+-- A packet in this stage has no try to send: its last try is out, and it awaits an answer.
 abbrev pub IsNotDue : Stage → Type 0
 IsNotDue Ready = ⊥
 IsNotDue (Begun first) = ⊥
 IsNotDue (Awaits ended) = Unit {0}
 
+-- No try is due or begun: no packet is in hand, or the one in hand awaits an answer.
 abbrev pub HasNoTryDue : Option Hand → Type 0
 HasNoTryDue None = Unit {0}
 HasNoTryDue (Some h) = IsNotDue h.stage
 
--- no answer is held, and no try is due
+-- Nothing is to be sent: no answer is held, and no try is due.
 abbrev pub HasNothingDue : Ledger → Type 0
 HasNothingDue l = (l.owing ≡ None) × HasNoTryDue l.hand
 
@@ -91,5 +95,6 @@ pub record AreAttempts (limit llid : ℕ) (frames : List Brings) : Type 0 where
   pub silent : (attempts limit llid frames).stands ≡ None → (attempts limit llid frames).burst ≡ None
   pub idle : is_free frames ≡ true → (attempts limit llid frames).stands ≡ None → HasNothingDue (attempts limit llid frames).ledger
 
+-- Whatever frames bring, with whatever LLID and room in the queue, attempts have their courses in them.
 abbrev pub AttemptsStand : Type 0
 AttemptsStand = (limit llid : ℕ) (frames : List Brings) → AreAttempts limit llid frames

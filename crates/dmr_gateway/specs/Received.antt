@@ -22,31 +22,37 @@ pub record IsFitReceived (r : Received) : Type 0 where
 
 -- 2. What a packet gives.
 
+-- The record of a datagram of these octets, which came in this slot from this source.
 abbrev pub datagram_of : ℕ → ℕ → List ℕ → Received
 datagram_of slot source octets = record { slot = slot; kind = Datagram; source = source; octets = octets }
 
+-- The record of short data of these octets, which came in this slot from this source.
 abbrev pub short_data_of : ℕ → ℕ → List ℕ → Received
 short_data_of slot source octets = record { slot = slot; kind = ShortData; source = source; octets = octets }
 
--- A body that is a datagram as it is, of 1 to 1,400 octets.
+-- The record of a body that is a datagram as it is, of 1 to 1,400 octets; none of any other.
 abbrev pub plain_datagram : ℕ → ℕ → List ℕ → Option Received
 plain_datagram slot source body =
     if nat_lt 0 (length body) && nat_le (length body) 1400 then Some (datagram_of slot source body) else None
 
--- the datagram of which a body from this source is the compressed form
+-- The datagram of which a body from this source is the compressed form, or the fault of one that isn't.
 abbrev pub expansion : List ℕ → (source llid : ℕ) → Result (List ℕ) ExpandFault
 expansion body source llid = expand body source llid false
 
+-- The record of the datagram that a compressed form was expanded to; none where the octets are no such form.
 abbrev pub expanded : ℕ → ℕ → Result (List ℕ) ExpandFault → Option Received
 expanded slot source (Ok datagram) = Some (datagram_of slot source datagram)
 expanded slot source (Err fault) = None
 
--- what a packet of a service access point gives
+-- The record that a packet of this service access point gives: of a datagram as it is, or of an expanded one, and none of any
+-- other.
 abbrev pub service_gives : ℕ → ℕ → ℕ → ℕ → List ℕ → Option Received
 service_gives llid slot service source body =
     if service == ip_service then plain_datagram slot source body
     else (if service == compressed_service then expanded slot source (expansion body source llid) else None)
 
+-- The record that a completed packet gives, by its header: one of its service access point, or of short data. A header without a
+-- packet gives none.
 abbrev pub packet_gives : ℕ → ℕ → Header → List ℕ → Option Received
 packet_gives llid slot (header.Unconfirmed h) body = service_gives llid slot h.sap h.source body
 packet_gives llid slot (header.Confirmed h) body = service_gives llid slot h.sap h.source body
@@ -61,7 +67,7 @@ gives llid slot (Some joined) = packet_gives llid slot joined.header joined.body
 
 -- 3. What a status gives.
 
--- Of a status header for the gateway: both ports, and the status in two octets.
+-- The record of a status header for the gateway: both ports, and the status in two octets. Any other header gives none.
 abbrev pub status_gives : ℕ → ℕ → Option Header → Option Received
 status_gives llid slot None = None
 status_gives llid slot (Some (header.Status h)) =
