@@ -1,6 +1,5 @@
 -- Whichever slot hears and is asked first, the same comes of it.
-use Rattle.std.proofs.Common.{◌≡◌, ℕ, Bool, Option, refl, ◌∙◌, ap, subst}
-use Rattle.std.specs.Prelude.{◌↔◌}
+use Rattle.std.proofs.Common.{◌≡◌, Bool, Option, refl, ◌∙◌, ap, subst}
 use Rattle.dmr_burst.specs.declared.burst.Burst.{Burst}
 use Rattle.dmr_gateway.specs.declared.heard.Heard.{Heard}
 use Rattle.dmr_gateway.specs.BothSlots.{Turn, AreAskedInTurn, InEitherOrder}
