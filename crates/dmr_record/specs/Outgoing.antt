@@ -80,6 +80,10 @@ pub record Keeps (o : Outgoing) (datagram : List ℕ) : Type 0 where
   pub count : o.length ≡ length datagram
   pub front : o.octets ≡ take DATAGRAM_LIMIT datagram
 
+-- the record with none of its octets
+abbrev pub emptied : Outgoing → Outgoing
+emptied o = record o { octets = [] }
+
 -- Less than a whole record: nothing, or the tag and less than the fields, or less than the datagram behind
 -- fields that name a place and a frame in order.
 abbrev pub IsPartOfSending : ℕ → List ℕ → Type 0

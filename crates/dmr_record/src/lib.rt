@@ -31,7 +31,7 @@ pub use head::{
     read_head, write_head,
 };
 pub use octets::{DATAGRAM_LIMIT, Octets};
-pub use outgoing::{Outgoing, RECORD_LIMIT, read_outgoing};
+pub use outgoing::{Outgoing, RECORD_LIMIT, read_outgoing, read_outgoing_into};
 pub use received::{
     OCTET_LIMIT, RECEIVED_LIMIT, Received, ReceivedKind, read_received, write_received,
 };

@@ -43,6 +43,13 @@ impl Octets {
         self.kept.as_slice()
     }
 
+    /// Leaves none of the octets.
+    pub(crate) fn clear(&mut self)
+        ensures value { self.new ≡ [] }
+    {
+        self.kept.clear();
+    }
+
     /// Puts octets at the end, as far as there is room.
     pub fn keep(&mut self, octets: &[u8])
         ensures value { self.new ≡ take DATAGRAM_LIMIT (self.old ++ octets.now) }

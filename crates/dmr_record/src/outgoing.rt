@@ -5,20 +5,20 @@ ghost use Rattle.std.specs.Prelude.{take, false, true, IfOk, IfErr, OnOk, OnErr,
 ghost use Rattle.std.specs.Io.KnownBytes.{Consumes, IsAtEnd};
 ghost use Rattle.dmr_record.specs.Faults.{is_of_end, is_device_fault};
 ghost use Rattle.dmr_record.specs.Outgoing.{field_octets, mode_of, IsPlace, Keeps};
-ghost use Rattle.dmr_record.specs.Outgoing.{IsSending, sending_of, sending_octets, ShowsOutgoingFault};
+ghost use Rattle.dmr_record.specs.Outgoing.{IsSending, emptied, sending_of, sending_octets, ShowsOutgoingFault};
 
 use crate::device::Source;
 use crate::fault::RecordFault;
 use crate::octets::{DATAGRAM_LIMIT, Octets};
 use crate::tag::OUTGOING;
-use crate::transfer::{fill, fill_front, read_octet};
+use crate::transfer::{fill, fill_whole, read_octet};
 use byteorder::{BigEndian, ByteOrder};
 
 /// How many records an outgoing file has at most.
 pub const RECORD_LIMIT: u32 = 1 << 20;
 
 /// A datagram that is to be sent, with the first `DATAGRAM_LIMIT` of its octets.
-#[derive(Debug, Drop)]
+#[derive(Debug, Default, Drop)]
 pub struct Outgoing {
     /// The downlink frame in which it is offered.
     pub frame: u32,
@@ -76,6 +76,7 @@ fn read_octets<S: Source>(
     ensures well { OnOk result (S.has_failed source.new ≡ false) }
     ensures part { OnErr result ((part : List ℕ) × (length part < count)
         × Consumes (S.left source.old) (S.left source.new) part) }
+    ensures emptied { OnErr result (octets.new ≡ []) }
     ensures cause { IfErr result (λ e. (e ≡ RecordFault.CutRecord) ⊎ (e ≡ RecordFault.Read)) }
     ensures cut { IfErr result (λ e. is_of_end e ≡ true → IsAtEnd (S.left source.new)) }
     ensures device { IfErr result (λ e. S.has_failed source.new ≡ is_device_fault e) }
@@ -84,9 +85,9 @@ fn read_octets<S: Source>(
     let mut chunk = [0u8; 256];
     while left > 0 {
         let most = left.min(256);
-        let came = fill_front(source, &mut chunk, most)?;
-        if came < most {
-            return Err(RecordFault::CutRecord);
+        if let Err(fault) = fill_whole(source, &mut chunk, most) {
+            octets.clear();
+            return Err(fault);
         }
         octets.keep(&chunk[..most]);
         left -= most;
@@ -135,9 +136,7 @@ fn mode_named(slot: u8, mode: u8) -> Option<Mode>
 /// Reads the next record of an outgoing file behind its head. It answers `None` at the end of the source.
 ///
 /// `before` is the number of records that were read before it, and `last` the frame of the last of them, or 0.
-/// A record past `RECORD_LIMIT` is `TooLong` as soon as its first octet is there, whatever that is. Then the
-/// first octet is tested; the slot and the mode, and then the order of the frames, once the fields are there; and
-/// then the octets are read.
+/// The octets are tested as `read_outgoing_into` tests them.
 pub fn read_outgoing<S: Source>(
     source: &mut S,
     before: u32,
@@ -159,8 +158,46 @@ pub fn read_outgoing<S: Source>(
     // `Read` is told exactly where the device failed.
     ensures device { IfErr result (λ e. S.has_failed source.new ≡ is_device_fault e) }
 {
+    let mut outgoing = Outgoing::default();
+    let is_read = read_outgoing_into(source, &mut outgoing, before, last)?;
+    Ok(is_read.then_some(outgoing))
+}
+
+/// Reads the next record of an outgoing file behind its head into a place that is kept, since a record is large. It answers whether
+/// there was one: at the end of the source there is none. Where none is read, the place keeps all but its octets.
+///
+/// `before` is the number of records that were read before it, and `last` the frame of the last of them, or 0.
+/// A record past `RECORD_LIMIT` is `TooLong` as soon as its first octet is there, whatever that is. Then the
+/// first octet is tested; the slot and the mode, and then the order of the frames, once the fields are there; and
+/// then the octets are read.
+pub fn read_outgoing_into<S: Source>(
+    source: &mut S,
+    outgoing: &mut Outgoing,
+    before: u32,
+    last: u32,
+) -> Result<bool, RecordFault>
+    requires well { S.has_failed source.old ≡ false }
+    // A record is what the octets taken spell.
+    ensures sending { IfOk result (λ found. found ≡ true → (before < RECORD_LIMIT) × (last ≤ outgoing.new.frame)
+        × ((datagram : List ℕ) × Keeps outgoing.new datagram × IsSending (sending_of outgoing.new datagram)
+        × Consumes (S.left source.old) (S.left source.new) (sending_octets (sending_of outgoing.new datagram)))) }
+    // There is none only at the end.
+    ensures end { IfOk result (λ found. found ≡ false → Consumes (S.left source.old) (S.left source.new) []
+        × IsAtEnd (S.left source.new)) }
+    // Where none is read, the place keeps all but its octets.
+    ensures none { IfOk result (λ found. found ≡ false → outgoing.new ≡ emptied outgoing.old) }
+    ensures well { OnOk result (S.has_failed source.new ≡ false) }
+    // A fault is shown by the octets taken, all of this record.
+    ensures fault { IfErr result (λ e. (taken : List ℕ) × Consumes (S.left source.old) (S.left source.new) taken
+        × ShowsOutgoingFault RECORD_LIMIT before last e taken) }
+    ensures faulty { OnErr result (outgoing.new ≡ emptied outgoing.old) }
+    ensures cut { IfErr result (λ e. is_of_end e ≡ true → IsAtEnd (S.left source.new)) }
+    // `Read` is told exactly where the device failed.
+    ensures device { IfErr result (λ e. S.has_failed source.new ≡ is_device_fault e) }
+{
+    outgoing.octets.clear();
     let Some(tag) = read_octet(source)? else {
-        return Ok(None);
+        return Ok(false);
     };
     if before >= RECORD_LIMIT {
         return Err(RecordFault::TooLong);
@@ -175,14 +212,11 @@ pub fn read_outgoing<S: Source>(
     if fields.frame < last {
         return Err(RecordFault::FrameOrder);
     }
-    let mut outgoing = Outgoing {
-        frame: fields.frame,
-        slot: fields.slot,
-        confirmed: mode.confirmed,
-        full: mode.full,
-        length: fields.length,
-        octets: Octets::new(),
-    };
     read_octets(source, fields.length, &mut outgoing.octets)?;
-    Ok(Some(outgoing))
+    outgoing.frame = fields.frame;
+    outgoing.slot = fields.slot;
+    outgoing.confirmed = mode.confirmed;
+    outgoing.full = mode.full;
+    outgoing.length = fields.length;
+    Ok(true)
 }

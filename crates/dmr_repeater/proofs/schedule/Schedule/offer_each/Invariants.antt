@@ -5,8 +5,8 @@ use Rattle.dmr_record.specs.declared.outgoing.TheConstants.{RECORD_LIMIT}
 use Rattle.dmr_repeater.specs.Schedule.{OffersDue, waiting}
 use Rattle.dmr_repeater.proofs.schedule.Schedule.offer_each.Given as goal
 
-abbrev pub invariant-loop-record : goal.invariant-loop-record
-invariant-loop-record g l = record {
+abbrev pub invariant-loop-self : goal.invariant-loop-self
+invariant-loop-self g l = record {
   well : g.S.Source.has_failed l.source ≡ false;
   end : l.self.at_end ≡ true → IsAtEnd (g.S.Source.left l.source);
   offers : OffersDue l.frame l.fn.self l.self l.fn.station l.station (g.S.Source.left l.initial.source) (g.S.Source.left l.source);
@@ -15,5 +15,5 @@ invariant-loop-record g l = record {
   stays : l.fn.self.at_end ≡ true → l.self.at_end ≡ true;
 }
 
-abbrev pub decreases-loop-record : goal.decreases-loop-record
-decreases-loop-record g l = RECORD_LIMIT + length (waiting l.self) - l.self.records
+abbrev pub decreases-loop-self : goal.decreases-loop-self
+decreases-loop-self g l = RECORD_LIMIT + length (waiting l.self) - l.self.records

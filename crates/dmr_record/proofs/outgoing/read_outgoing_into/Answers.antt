@@ -4,7 +4,7 @@ use Rattle.std.proofs.KnownBytes.{Consumes-trans}
 use Rattle.dmr_record.specs.Outgoing.{Fields, field_octets, Fit}
 use Rattle.dmr_record.proofs.OutgoingLemmas.{ShowsOutgoingFault-part}
 use Rattle.dmr_record.proofs.Pieces.{tagged}
-use Rattle.dmr_record.proofs.outgoing.read_outgoing.Goals as goal
+use Rattle.dmr_record.proofs.outgoing.read_outgoing_into.Goals as goal
 
 pub returns-in_err-fields-clause-fault : goal.returns-in_err-fields-clause-fault
 returns-in_err-fields-clause-fault g c =
