@@ -134,7 +134,8 @@ nothing : (j : ℕ) (columns : List ℕ) (turn : List Bool) → weight turn ≤ 
 nothing j [] turn h = refl
 nothing j (c ∷ columns) [] h = refl
 nothing j (c ∷ columns) (true ∷ turn) h = absurd (omega (arith, weight-cons true turn))
-nothing j (c ∷ columns) (false ∷ turn) h = omega (arith, weight-cons false turn, nothing j columns turn (omega (arith, weight-cons false turn)))
+nothing j (c ∷ columns) (false ∷ turn) h =
+    omega (arith, weight-cons false turn, nothing j columns turn (omega (arith, weight-cons false turn)))
 
 -- ones in one place at most have no ones over any check, or those of the place's column
 lone : (columns : List ℕ) (turn : List Bool) → length turn ≡ length columns → weight turn ≤ 1
@@ -167,8 +168,8 @@ apart : (a b : Bool) (x y : ℕ) → a || b ≡ false → x ≡ y → (b ≡ fal
 apart true b x y e f = cc
 apart false b x y e f = (e, refl)
 
-pub no_word : (old : List Bool) (checks : ℕ) → length old ≡ 13 → AreFailing hamming13_columns old checks → is_of_no_row checks ≡ true
-    → (w : List Bool) → IsHamming13 w → 1 < distance w old
+pub no_word : (old : List Bool) (checks : ℕ) → length old ≡ 13 → AreFailing hamming13_columns old checks
+    → is_of_no_row checks ≡ true → (w : List Bool) → IsHamming13 w → 1 < distance w old
 no_word old checks long fail none w is =
     elim (cases_lt 1 (distance w old)) [
       | inl far ↦ far

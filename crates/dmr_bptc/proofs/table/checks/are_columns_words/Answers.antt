@@ -16,7 +16,8 @@ returns c =
       tells = (
         λ e k h. subst IsHamming13 (ap (λ l. column l k) c.table.view_is)
             (unfailing hamming13_columns (column (laid rows) k) (failing_in failing k) (length-column (laid rows) k)
-            (failing_column rows failing k c.table.invariant.long h c.failing_columns.ensures.value) (c.none_fails.ensures.tells.0 e k h)),
+            (failing_column rows failing k c.table.invariant.long h c.failing_columns.ensures.value)
+            (c.none_fails.ensures.tells.0 e k h)),
         λ words. c.none_fails.ensures.tells.1
             (λ k h. none_failing hamming13_columns (column (laid rows) k) (failing_in failing k)
             (failing_column rows failing k c.table.invariant.long h c.failing_columns.ensures.value)

@@ -1,5 +1,5 @@
-use Rattle.std.proofs.Common.{◌≡◌, ◌↔◌, ℕ, ◌+◌, ◌-◌, ◌/◌, ◌%◌, ◌^◌, ◌==◌, ◌<◌, Bool, true, false, List, zero, suc, get_or, refl, sym, ap}
-use Rattle.std.proofs.Common.{◌∙◌, arith, inl, inr, eqb, eqb-true}
+use Rattle.std.proofs.Common.{◌≡◌, ◌↔◌, ℕ, ◌+◌, ◌-◌, ◌/◌, ◌%◌, ◌^◌, ◌==◌, ◌<◌, Bool, true, false, List, zero, suc, get_or}
+use Rattle.std.proofs.Common.{refl, sym, ap, ◌∙◌, arith, inl, inr, eqb, eqb-true}
 use Rattle.std.specs.Prelude.{bit_and, bit_xor}
 use Rattle.std.proofs.lemmas.Bool.{agree_below_at, cases_eq, eq-eqb}
 use Rattle.std.proofs.lemmas.Nat.{and_le_l}

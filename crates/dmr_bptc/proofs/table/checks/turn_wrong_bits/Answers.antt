@@ -39,8 +39,8 @@ loop-row-preserved c =
     record {
       small = small_more rows i (bit_xor old columns)
           (xor_lt 15 old columns (c.loop-row.invariant.small i 0 below) c.columns_with.ensures.fits) c.loop-row.invariant.small;
-      turned = turned_more hamming13_columns before rows (failing_in c.args.failing.now) i columns below (c.loop-row.invariant.kept i (omega arith))
-          c.columns_with.ensures.value c.loop-row.invariant.turned;
+      turned = turned_more hamming13_columns before rows (failing_in c.args.failing.now) i columns below
+          (c.loop-row.invariant.kept i (omega arith)) c.columns_with.ensures.value c.loop-row.invariant.turned;
       kept = λ r h. get_or-set_other rows i r (bit_xor old columns) 0 (λ z. absurd (omega arith))
           ∙ c.loop-row.invariant.kept r (omega arith);
     }
