@@ -128,3 +128,13 @@ written_sum rows a b d e (suc (suc (suc zero))) long p q r s h =
     ∙ get_or-set_other (set rows 9 a) 10 9 b 0 (λ z. absurd (omega (arith, z)))
     ∙ get_or-set_same rows 9 a 0 (omega (arith, long)) ∙ p
 written_sum rows a b d e (suc (suc (suc (suc j)))) long p q r s h = absurd (omega arith)
+
+-- the sums of all checks
+pub four_sums : (rows : List ℕ) (a b d e : ℕ) → a ≡ sum_rows 0 hamming13_columns rows → b ≡ sum_rows 1 hamming13_columns rows
+    → d ≡ sum_rows 2 hamming13_columns rows → e ≡ sum_rows 3 hamming13_columns rows → (j : ℕ) → j < 4
+    → get_or (a ∷ b ∷ d ∷ e ∷ []) j 0 ≡ sum_rows j hamming13_columns rows
+four_sums rows a b d e p q r s zero h = p
+four_sums rows a b d e p q r s (suc zero) h = q
+four_sums rows a b d e p q r s (suc (suc zero)) h = r
+four_sums rows a b d e p q r s (suc (suc (suc zero))) h = s
+four_sums rows a b d e p q r s (suc (suc (suc (suc j)))) h = absurd (omega arith)

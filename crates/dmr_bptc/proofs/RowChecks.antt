@@ -1,15 +1,21 @@
--- Rows whose two halves have the same checks are words.
+-- The checks that fail in a row, from those of its two parts, and the cell that they correct.
 use Rattle.std.proofs.Common.{◌≡◌, ℕ, zero, suc, ◌+◌, ◌*◌, ◌/◌, ◌%◌, ◌^◌, ◌<◌, Bool, true, List, take, drop, refl, sym, ◌∙◌, ap}
 use Rattle.std.proofs.Common.{arith}
 use Rattle.std.proofs.Common.{get_or, eqb, eqb-true}
-use Rattle.std.proofs.lemmas.Bool.{agree_below_at}
-use Rattle.dmr_bits.specs.Bits.{bits_of}
-use Rattle.dmr_bits.proofs.Lists.{length-bits_of}
+use Rattle.std.specs.Prelude.{bit_xor, nat_lt}
+use Rattle.std.proofs.lemmas.Bool.{agree_below_at, ltb-true}
+use Rattle.std.proofs.lemmas.Nat.{xor_lt}
+use Rattle.std.proofs.lemmas.Nat.Bits.{bit_at_xor}
+use Rattle.dmr_bits.specs.Bits.{bits_of, number_of, xor_bits}
+use Rattle.dmr_bits.proofs.Lists.{bits_of_spelled}
 use Rattle.dmr_bits.proofs.Widths.{bits_of-take, bits_of-drop, bits_of-mod}
+use Rattle.dmr_bits.proofs.Sums.{bits_of_xor}
 use Rattle.dmr_codes.specs.Code.{ones_over}
 use Rattle.dmr_codes.specs.Words.{ones_over_split}
-use Rattle.dmr_codes.specs.Seven.{IsHamming15, hamming15_columns}
-use Rattle.dmr_bptc.specs.declared.table.row_checks.TheConstants.{FRONT_CHECKS, BACK_CHECKS}
+use Rattle.dmr_codes.specs.Seven.{hamming15_columns}
+use Rattle.dmr_bptc.specs.Sums.{AreFailing}
+use Rattle.dmr_bptc.proofs.Turning.{places_of}
+use Rattle.dmr_bptc.specs.declared.table.row_checks.TheConstants.{FRONT_CHECKS, BACK_CHECKS, CELLS}
 
 -- the checks with an odd number of ones, as the bits of a number
 abbrev checks : List ℕ → List Bool → ℕ
@@ -34,29 +40,51 @@ parts j n =
     ∙ ap {B = ℕ} (λ l. ones_over j (take 8 hamming15_columns) (bits_of 8 (n / 2 ^ 7)) + ones_over j (drop 8 hamming15_columns) l)
     (bits_of-drop 8 7 15 n refl ∙ sym (bits_of-mod 7 n))
 
-all_even : (u v w x a b c d : ℕ) → u % 2 + 2 * (v % 2) + 4 * (w % 2) + 8 * (x % 2) ≡ a % 2 + 2 * (b % 2) + 4 * (c % 2) + 8 * (d % 2)
-    → ((u + a) % 2 ≡ 0) × ((v + b) % 2 ≡ 0) × ((w + c) % 2 ≡ 0) × ((x + d) % 2 ≡ 0)
-all_even u v w x a b c d e = (omega (arith, e), omega (arith, e), omega (arith, e), omega (arith, e))
+-- a bit of the checks
+check_bit : (cs : List ℕ) (w : List Bool) (j : ℕ) → j < 4 → checks cs w / 2 ^ j % 2 ≡ ones_over j cs w % 2
+check_bit cs w zero h = omega arith
+check_bit cs w (suc zero) h = omega arith
+check_bit cs w (suc (suc zero)) h = omega arith
+check_bit cs w (suc (suc (suc zero))) h = omega arith
+check_bit cs w (suc (suc (suc (suc j)))) h = absurd (omega arith)
 
-pub row_word : (n : ℕ) → n < 2 ^ 15 → get_or FRONT_CHECKS (n / 2 ^ 7) 0 ≡ get_or BACK_CHECKS (n % 2 ^ 7) 0 → IsHamming15
-    (bits_of 15 n)
-row_word n small same =
-    let F : ℕ → ℕ = λ j. ones_over j (take 8 hamming15_columns) (bits_of 8 (n / 2 ^ 7)) in
-    let B : ℕ → ℕ = λ j. ones_over j (drop 8 hamming15_columns) (bits_of 7 (n % 2 ^ 7)) in
-    let both = all_even (F 0) (F 1) (F 2) (F 3) (B 0) (B 1) (B 2) (B 3)
-    (sym (front_is (n / 2 ^ 7) (omega arith)) ∙ same ∙ back_is (n % 2 ^ 7) (omega arith)) in
-    record { long = length-bits_of 15 n; even = each both.0 both.1 both.2 both.3 }
-  where
-    F : ℕ → ℕ
-    F j = ones_over j (take 8 hamming15_columns) (bits_of 8 (n / 2 ^ 7))
+checks_small : (cs : List ℕ) (w : List Bool) → checks cs w < 16
+checks_small cs w = omega arith
 
-    B : ℕ → ℕ
-    B j = ones_over j (drop 8 hamming15_columns) (bits_of 7 (n % 2 ^ 7))
+-- the checks that fail in a row are those that fail in one of its two parts
+pub row_failing : (n : ℕ) → n < 2 ^ 15
+    → AreFailing hamming15_columns (bits_of 15 n) (bit_xor (get_or FRONT_CHECKS (n / 2 ^ 7) 0) (get_or BACK_CHECKS (n % 2 ^ 7) 0))
+row_failing n small =
+    let front : ℕ = get_or FRONT_CHECKS (n / 2 ^ 7) 0 in
+    let back : ℕ = get_or BACK_CHECKS (n % 2 ^ 7) 0 in
+    let F : List Bool = bits_of 8 (n / 2 ^ 7) in
+    let B : List Bool = bits_of 7 (n % 2 ^ 7) in
+    let first : front ≡ checks (take 8 hamming15_columns) F = front_is (n / 2 ^ 7) (omega arith) in
+    let second : back ≡ checks (drop 8 hamming15_columns) B = back_is (n % 2 ^ 7) (omega arith) in
+    record {
+      small = xor_lt 4 front back (omega (arith, first, checks_small (take 8 hamming15_columns) F))
+          (omega (arith, second, checks_small (drop 8 hamming15_columns) B));
+      tied = λ j h.
+          let one : front / 2 ^ j % 2 ≡ ones_over j (take 8 hamming15_columns) F % 2 =
+          ap (λ m. m / 2 ^ j % 2) first ∙ check_bit (take 8 hamming15_columns) F j h in
+          let two : back / 2 ^ j % 2 ≡ ones_over j (drop 8 hamming15_columns) B % 2 =
+          ap (λ m. m / 2 ^ j % 2) second ∙ check_bit (drop 8 hamming15_columns) B j h in
+          omega (arith, bit_at_xor front back j, one, two, parts j n);
+    }
 
-    each : (F 0 + B 0) % 2 ≡ 0 → (F 1 + B 1) % 2 ≡ 0 → (F 2 + B 2) % 2 ≡ 0 → (F 3 + B 3) % 2 ≡ 0 → (j : ℕ) → j < 4
-        → ones_over j hamming15_columns (bits_of 15 n) % 2 ≡ 0
-    each p q r s zero h = omega (arith, parts 0 n, p)
-    each p q r s (suc zero) h = omega (arith, parts 1 n, q)
-    each p q r s (suc (suc zero)) h = omega (arith, parts 2 n, r)
-    each p q r s (suc (suc (suc zero))) h = omega (arith, parts 3 n, s)
-    each p q r s (suc (suc (suc (suc j)))) h = absurd (omega arith)
+-- the cell that is turned
+cell_is : (s : ℕ) → s < 16 → bits_of 15 (get_or CELLS s 0) ≡ places_of hamming15_columns s
+cell_is s h =
+    let turn : List Bool = places_of hamming15_columns s in
+    ap (bits_of 15) (eqb-true (get_or CELLS s 0) (number_of turn)
+    (agree_below_at (λ i. eqb (get_or CELLS i 0) (number_of (places_of hamming15_columns i))) (λ i. true) 16 s refl h))
+    ∙ bits_of_spelled 15 turn refl
+
+pub small_cell : (s : ℕ) → s < 16 → get_or CELLS s 0 < 2 ^ 15
+small_cell s h = ltb-true _ _ (agree_below_at (λ i. nat_lt (get_or CELLS i 0) (2 ^ 15)) (λ i. true) 16 s refl h)
+
+-- a row whose cell is turned
+pub turned_cell : (received s : ℕ) → s < 16
+    → bits_of 15 (bit_xor received (get_or CELLS s 0)) ≡ xor_bits (bits_of 15 received) (places_of hamming15_columns s)
+turned_cell received s h =
+    bits_of_xor 15 received (get_or CELLS s 0) ∙ ap (xor_bits (bits_of 15 received)) (cell_is s h)

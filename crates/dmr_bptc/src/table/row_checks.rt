@@ -1,7 +1,10 @@
-//! The checks of a row, by two tables.
-ghost use Rattle.std.specs.Prelude.{◌≡◌, ◌<◌, true};
-ghost use Rattle.dmr_codes.specs.Seven.{IsHamming15};
-ghost use Rattle.dmr_bptc.specs.Table.{row};
+//! The checks of a row, by two tables, and the cell that they correct.
+ghost use Rattle.std.specs.Prelude.{◌≡◌, ◌≢◌, ◌<◌, ◌^◌, ℕ, true};
+ghost use Rattle.dmr_bits.specs.Bits.{bits_of};
+ghost use Rattle.dmr_codes.specs.Seven.{IsHamming15, hamming15_columns};
+ghost use Rattle.dmr_bptc.specs.Decoding.{IsCorrected};
+ghost use Rattle.dmr_bptc.specs.Sums.{AreFailing};
+ghost use Rattle.dmr_bptc.specs.Table.{cell, row};
 
 use crate::table::Table;
 
@@ -29,12 +32,38 @@ const BACK_CHECKS: [u8; 128] = [
     8, 11, 10, 13, 12, 15, 14, 1, 0, 3, 2, 5, 4, 7, 6,
 ];
 
-/// Whether a row is a word.
+/// For the checks that fail in a row, as the bits of a number, the cell that takes part in just these, as the bit of a number.
+const CELLS: [u64; 16] = [
+    0x0, 0x1, 0x2, 0x10, 0x4, 0x100, 0x20, 0x400, 0x8, 0x4000, 0x200, 0x80, 0x40, 0x2000, 0x800,
+    0x1000,
+];
+
+/// Corrects one row, and answers whether it was a word.
 #[inline(always)]
-pub(crate) fn is_row_word(table: &Table, row_number: usize) -> bool
+pub(crate) fn correct_row(table: &mut Table, row_number: usize) -> bool
     requires inside { row_number < 13 }
-    ensures word { result ≡ true → IsHamming15 (row table.now row_number) }
+    ensures word { IsHamming15 (row table.new row_number) }
+    ensures same { result ≡ true → table.new ≡ table.old }
+    ensures corrected { IsCorrected IsHamming15 (row table.old row_number) (row table.new row_number) }
+    ensures kept { (r c : ℕ) → r < 13 → c < 15 → r ≢ row_number → cell table.new r c ≡ cell table.old r c }
 {
-    let number = table.rows[row_number];
-    FRONT_CHECKS[(number >> 7) as usize] == BACK_CHECKS[(number % 128) as usize]
+    let received = table.rows[row_number];
+    let failing = failing_checks(received);
+    // Most are words as they are received.
+    if failing == 0 {
+        return true;
+    }
+    table.rows[row_number] = received ^ CELLS[failing as usize];
+    false
+}
+
+/// The checks that fail in a row, as the bits of a number.
+#[inline(always)]
+fn failing_checks(received: u64) -> u8
+    requires small { received < 2 ^ 15 }
+    ensures failing { AreFailing hamming15_columns (bits_of 15 received) result }
+{
+    let front = FRONT_CHECKS[(received >> 7) as usize];
+    let back = BACK_CHECKS[(received % 128) as usize];
+    front ^ back
 }

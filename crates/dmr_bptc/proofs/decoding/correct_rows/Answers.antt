@@ -9,12 +9,11 @@ pub loop-row-preserved : goal.loop-row-preserved
 loop-row-preserved c =
     let before : List Bool = c.args.bits.now in
     let now : List Bool = c.loop-row.bits in
-    let after : List Bool = c.correct_row-was_word.new.bits in
+    let after : List Bool = c.correct_row-was_word.new.table in
     let i : ℕ = c.loop-row.row in
     record {
-      words = λ all. (let both = and_parts c.loop-row.all c.correct_row-was_word.result all in
-          rows_more now after i (omega arith) (c.loop-row.invariant.words both.0) (c.correct_row-was_word.ensures.word both.1)
-          c.correct_row-was_word.ensures.kept);
+      words = rows_more now after i (omega arith) c.loop-row.invariant.words c.correct_row-was_word.ensures.word
+          c.correct_row-was_word.ensures.kept;
       same = λ all r d h l. (let both = and_parts c.loop-row.all c.correct_row-was_word.result all in
           ap (λ bits. cell bits r d) (c.correct_row-was_word.ensures.same both.1) ∙ c.loop-row.invariant.same both.0 r d h l);
       corrected = corrected_rows_more before now after i (omega arith) c.loop-row.invariant.corrected c.loop-row.invariant.kept

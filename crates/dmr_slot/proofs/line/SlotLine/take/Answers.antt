@@ -1,8 +1,8 @@
-use Rattle.std.proofs.Common.{◌∙◌, ap, refl, subst, sym, All}
+use Rattle.std.proofs.Common.{◌≡◌, ◌∙◌, ap, refl, subst, sym, All}
 use Rattle.dmr_voice.specs.Fit.{IsFitHeard}
 use Rattle.dmr_voice.specs.Tracking.{Tracking}
 use Rattle.dmr_slot.proofs.Pushing.{fit_after, push_is, sound_after, window_after}
-use Rattle.dmr_slot.specs.Push.{EndsSilent}
+use Rattle.dmr_slot.specs.Push.{EndsSilent, known_after, left_after}
 use Rattle.dmr_slot.proofs.Quiet.{heard_silent, state_silent}
 use Rattle.dmr_slot.proofs.line.SlotLine.take.Goals as goal
 
@@ -22,6 +22,18 @@ ends_after c =
     (c.silent_after-self-inside.ensures.silent c.self.inside.recent.value c.hear-heard.result c.self.invariant.1
     (heard_silent c.self.inside.colour c.args.slot.now c.hear-heard.result c.hear-heard.ensures.heard))
 
+-- the call hang goes on from what it was
+known_is : (c : goal.After-advance)
+    → c.advance.new.self.link_control ≡ known_after c.self.inside.hang.link_control c.role_of.result
+known_is c = c.advance.ensures.link_control ∙ ap (λ lc. known_after lc c.role_of.result) c.slot_out-out.ensures.link_control
+
+left_is : (c : goal.After-advance)
+    → c.advance.new.self.left ≡ left_after c.self.inside.hang.frames c.self.inside.hang.left c.role_of.result
+left_is c =
+    c.advance.ensures.left
+    ∙ ap (λ frames. left_after frames c.slot_out-out.new.hang.left c.role_of.result) c.slot_out-out.ensures.frames
+    ∙ ap (λ left. left_after c.self.inside.hang.frames left c.role_of.result) c.slot_out-out.ensures.left
+
 pub invariant_of-self : goal.invariant_of-self
 invariant_of-self c = record {
   0 = sound_after c.self.inside.colour c.self.inside.track c.step-decided.new.self c.self.inside.recent.value
@@ -30,13 +42,14 @@ invariant_of-self c = record {
       (window_after c.self.inside.recent.value c.deref_mut.result.now c.move_on.new.window c.hear-heard.result
       c.deref_mut.ensures.value c.move_on.ensures.moved) c.hear-heard.ensures.fit
       (let k = c.step-decided.ensures.out in ap (λ (t : Tracking). t.colour) (c.step-decided.ensures.state k.0 k.1))
-      c.role_of.ensures.fit c.advance.ensures.link_control;
+      c.role_of.ensures.fit (known_is c);
   1 = ends_after c;
   2 = let k = c.step-decided.ensures.out in
       state_silent c.self.inside.track.colour c.silent_after-self-inside.result c.self.inside.track.state
       c.step-decided.new.self.state
       c.deref.result.now k.0 (subst (EndsSilent c.silent_after-self-inside.result) (sym c.deref.ensures) (ends_after c))
       (ap (λ (t : Tracking). t.state) (c.step-decided.ensures.state k.0 k.1));
+  3 = c.advance.ensures.kept c.self.inside.colour c.slot_out-out.ensures.kept;
 }
 
 pub returns-clause-pushed : goal.returns-clause-pushed
@@ -64,4 +77,4 @@ returns-clause-pushed c =
       gives = c.slot_out-out.ensures.out;
       role_is = c.role_of.ensures.role;
     })
-    c.advance.ensures.frames (sym c.deref.ensures) c.advance.ensures.left c.advance.ensures.link_control)
+    (c.advance.ensures.frames ∙ c.slot_out-out.ensures.frames) (sym c.deref.ensures) (left_is c) (known_is c))
