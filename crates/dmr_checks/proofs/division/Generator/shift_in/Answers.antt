@@ -28,7 +28,7 @@ returns-clause-fits c =
     c.requires.number in
     rw (size_is d c.args.self.now.degree_fits.1, c.from.ensures)
     (xor_lt d _ _ (mod-lt _ (pow_pos d))
-    (remainder_fits d c.args.self.now.low c.args.self.now.remainders _ c.args.self.now.remainders_are octet))
+    (remainder_fits d c.args.self.now.low c.args.self.now.remainders.now _ c.args.self.now.remainders_are octet))
 
 pub returns-clause-run : goal.returns-clause-run
 returns-clause-run c =
@@ -40,5 +40,5 @@ returns-clause-run c =
     ∙ bits_of_mod d 64 shifted (omega (arith, c.args.self.now.degree_fits.1)) in
     rw (size_is d c.args.self.now.degree_fits.1, c.from.ensures)
     (shifted_in d c.args.width c.args.self.now.low c.args.register c.args.number (shifted % 18446744073709551616 % 2 ^ d)
-    c.args.self.now.remainders
+    c.args.self.now.remainders.now
     wide c.requires.narrow c.requires.register c.requires.number c.args.self.now.remainders_are rest)
