@@ -18,7 +18,7 @@ use Rattle.dmr_arq.specs.declared.answer.Verdict.TheVariants.{Ack, Failed, Selec
 use Rattle.dmr_arq.specs.declared.receiver.Attempt.{Attempt}
 use Rattle.dmr_arq.specs.declared.receiver.Kind.{Kind}
 use Rattle.dmr_arq.specs.declared.receiver.Kind.TheVariants.{Single, InProgress, Repeat}
-use Rattle.dmr_arq.specs.declared.receiver.Progress.{Progress}
+use Rattle.dmr_arq.specs.Progress.{Progress}
 use Rattle.dmr_arq.specs.declared.receiver.ReceiverState.{ReceiverState}
 use Rattle.dmr_arq.proofs.Sound.{by_cond}
 
