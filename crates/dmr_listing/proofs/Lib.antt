@@ -2,3 +2,4 @@ pub mod Listings
 pub mod OutgoingListings
 pub mod Places
 pub mod ReceivedListings
+pub mod Strips
