@@ -1,5 +1,5 @@
+pub mod Drawing
 pub mod Listings
 pub mod OutgoingListings
 pub mod Places
 pub mod ReceivedListings
-pub mod Strips

@@ -21,9 +21,9 @@ pub struct Strip {
 
 // Clauses see the first frame, and the list of the marks.
 impl Model for Strip {
-    ghost use Rattle.dmr_listing.specs.Strips.{Strip as Value};
+    ghost use Rattle.dmr_listing.specs.Strips.{Picture};
 
-    ghost Value = { Value };
+    ghost Value = { Picture };
 
     ghost view = { λ strip. record { frame = strip.frame; marks = strip.marks.items } };
 }
@@ -93,7 +93,12 @@ impl fmt::Display for StripLine<'_> {
         let StripLine { strip, slot } = *self;
         let frame = strip.frame;
         write!(f, "{frame:>7} {slot}  ")?;
-        for (mark, of_slot) in strip.marks.as_slice().iter().zip([1, 2].into_iter().cycle()) {
+        for (mark, of_slot) in strip
+            .marks
+            .as_slice()
+            .iter()
+            .zip([1, 2].into_iter().cycle())
+        {
             if of_slot == slot {
                 write!(f, "{mark}")?;
             }

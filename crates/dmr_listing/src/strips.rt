@@ -8,7 +8,7 @@ ghost use Rattle.dmr_listing.specs.Endings.{IfFile, IfOutput};
 ghost use Rattle.dmr_listing.specs.Listings.{Gains, Turn};
 ghost use Rattle.dmr_listing.specs.Recordings.{Slot};
 ghost use Rattle.dmr_listing.specs.Strips.{IsGivenWhereFull, IsStripped, IsStrippedUpToFault, IsStrippedUpToStrip};
-ghost use Rattle.dmr_listing.specs.Strips.{Strip as Marks, pushed_in, unless_empty};
+ghost use Rattle.dmr_listing.specs.Strips.{Picture, pushed_in, unless_empty};
 
 use crate::fault_line::FaultLine;
 use crate::frames::Frames;
@@ -24,7 +24,7 @@ use dmr_record::{DeviceFault, Source};
 /// Where the strips of a recording go.
 pub trait StripLines {
     /// The strips that were given to it, where it tells them.
-    ghost given: { Self → Option (List Marks) };
+    ghost given: { Self → Option (List Picture) };
 
     /// Whether it has failed.
     ghost has_failed: { Self → Bool };
