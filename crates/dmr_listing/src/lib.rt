@@ -10,12 +10,16 @@
 //! `list_recording`, `list_outgoing` and `list_received` go through a whole file behind its head, and give the lines one by one to
 //! whoever takes them (`BurstLines`, `OutgoingLines`, `ReceivedLines`), in constant memory.
 //!
+//! `strip_recording` gives the picture of a recording in place of its lines: a `Strip` has a `Mark` for each slot of 50 `Frames`, and
+//! prints a line for each slot (`StripLine`). The marks are those of the lines that the listing has.
+//!
 //! Contracts say what a line shows (`specs/Lines.antt`): by which place follows (`specs/VoicePlace.antt`, and what a place means
 //! over all that a slot was read as), what a burst of a type holds (`specs/Contents.antt`), what four frames carry
 //! (`specs/Fragments.antt`), what a CACH announces (`specs/Activity.antt`), which bits are wrong (`specs/Wrong.antt`), and what is
 //! counted (`specs/Summaries.antt`). Of a whole file they say that each burst or record has a line, in order and once, and that a
 //! fault is told exactly where the octets show it (`specs/Recordings.antt` and `Listings`, `OutgoingListings`, `ReceivedListings`;
-//! `laws` has the places of the lines). What the texts are is left open by them, and is tested.
+//! `laws` has the places of the lines), and of strips that each slot has its mark, in order and once (`specs/Marks.antt` and
+//! `Strips`). What the texts are is left open by them, and is tested.
 #![tactic(auto)]
 
 mod activity;
