@@ -1,15 +1,16 @@
 -- What strips show goes on, slot by slot.
 use Rattle.std.proofs.Common.{◌≡◌, ℕ, ◌+◌, ◌*◌, ◌/◌, ◌<◌, ◌≤◌, Bool, true, false, if◌then◌else◌, List, [], ◌∷◌, ◌++◌, length}
-use Rattle.std.proofs.Common.{drop, Option, None, Some, refl, sym, ap, ◌∙◌, subst, inl, inr, arith, append-nil, append_assoc, take_all}
-use Rattle.std.proofs.Common.{eq-or-lt_of_le, ne_eqb}
-use Rattle.std.proofs.lemmas.List.{drop-append-le, drop_all, length-append, length-drop, length-map, length_push, map-append, take-append-le}
+use Rattle.std.proofs.Common.{drop, Option, None, Some, refl, sym, ap, ◌∙◌, subst, inl, inr, arith, append-nil, take_all}
+use Rattle.std.proofs.Common.{append_assoc, eq-or-lt_of_le, ne_eqb}
+use Rattle.std.proofs.lemmas.List.{drop-append-le, drop_all, length-append, length-drop, length-map, length_push, map-append}
+use Rattle.std.proofs.lemmas.List.{take-append-le}
 use Rattle.std.specs.Io.KnownBytes.{Consumes}
 use Rattle.dmr_listing.specs.Entries.{place_of}
 use Rattle.dmr_listing.specs.Listings.{Gains, IsListed, Lists, Turn, begun, turn_after, turn_passed}
 use Rattle.dmr_listing.specs.Marks.{mark_of}
 use Rattle.dmr_listing.specs.Recordings.{IsSlotOf, Slot, spelling}
-use Rattle.dmr_listing.specs.Strips.{AreStrips, IsDrawn, IsGivenWhereFull, IsMarkAt, IsStripOf, IsStripped, IsStrippedUpToStrip, Picture}
-use Rattle.dmr_listing.specs.Strips.{has, marks_of, most_marks, pushed, pushed_in, shown, unless_empty}
+use Rattle.dmr_listing.specs.Strips.{AreStrips, IsDrawn, IsGivenWhereFull, IsMarkAt, IsStripOf, IsStripped, Picture}
+use Rattle.dmr_listing.specs.Strips.{IsStrippedUpToStrip, has, marks_of, most_marks, pushed, pushed_in, shown, unless_empty}
 use Rattle.dmr_listing.specs.declared.burst_line.BurstLine.{BurstLine}
 use Rattle.dmr_listing.specs.declared.frames.Frames.{Frames}
 use Rattle.dmr_listing.specs.declared.mark.Mark.{Mark}
@@ -48,8 +49,10 @@ strip_more (first ∷ more) strip place mark (frame, marks) = rw marks (
 )
 
 -- the marks with that of a silent slot more
-marks_silent : (frames : Frames) (turn : Turn) (slots : List Slot) (lines : List BurstLine) (end : Turn) → Lists turn slots lines end
-    → marks_of frames turn.slots (slots ++ None ∷ []) lines ≡ marks_of frames turn.slots slots lines ++ shown frames end.slots Silence
+marks_silent : (frames : Frames) (turn : Turn) (slots : List Slot) (lines : List BurstLine) (end : Turn)
+    → Lists turn slots lines end
+    → marks_of frames turn.slots (slots ++ None ∷ []) lines
+    ≡ marks_of frames turn.slots slots lines ++ shown frames end.slots Silence
 marks_silent frames turn [] lines end (none, same) =
     append-nil (shown frames turn.slots Silence) ∙ ap (λ (t : Turn). shown frames t.slots Silence) (sym same)
 marks_silent frames turn (None ∷ slots) lines end lists =
@@ -73,12 +76,13 @@ marks_burst frames turn (None ∷ slots) lines end burst line lists =
     ∙ sym (append_assoc (shown frames turn.slots Silence) _ _)
 marks_burst frames turn (Some b ∷ slots) [] end burst line lists = absurd lists
 marks_burst frames turn (Some b ∷ slots) (one ∷ lines) end burst line (first, lists) =
-    ap (λ l. shown frames turn.slots (mark_of one) ++ l) (marks_burst frames (turn_after one b turn) slots lines end burst line lists)
+    ap (λ l. shown frames turn.slots (mark_of one) ++ l)
+    (marks_burst frames (turn_after one b turn) slots lines end burst line lists)
     ∙ sym (append_assoc (shown frames turn.slots (mark_of one)) _ _)
 
 -- What is read and drawn of a slot more.
-pub record IsOneMore (recording : Recording) (frames : Frames) (slots : List Slot) (lines : List BurstLine) (turn : Turn) (slot : Slot)
-    (mark : Mark) (end : Turn) (a c : Option (List ℕ)) : Type 0 where
+pub record IsOneMore (recording : Recording) (frames : Frames) (slots : List Slot) (lines : List BurstLine) (turn : Turn)
+    (slot : Slot) (mark : Mark) (end : Turn) (a c : Option (List ℕ)) : Type 0 where
   pub listed : IsListed recording (slots ++ slot ∷ []) [] end a c None None
   pub marks : marks_of frames 0 (slots ++ slot ∷ []) listed.lines ≡ marks_of frames 0 slots lines ++ shown frames turn.slots mark
 
@@ -113,7 +117,8 @@ few_shown : (is_shown : Bool) (place : Place) (mark : Mark)
 few_shown true place mark = omega arith
 few_shown false place mark = omega arith
 
-pub drawn_none : (recording : Recording) (frames : Frames) (left : Option (List ℕ)) (strip : Picture) (given : Option (List Picture))
+pub drawn_none : (recording : Recording) (frames : Frames) (left : Option (List ℕ)) (strip : Picture)
+    (given : Option (List Picture))
     → strip.marks ≡ [] → IsDrawn recording frames [] [] begun left left strip given given
 drawn_none recording frames left strip given none = record {
   listed = listed_none recording left None;
@@ -129,8 +134,8 @@ drawn_none recording frames left strip given none = record {
 }
 
 -- a slot more was read, and its mark went to the strip that waits
-pub drawn_pushed : (recording : Recording) (frames : Frames) (slots : List Slot) (turn : Turn) (slot : Slot) (mark : Mark) (end : Turn)
-    (place : Place) (a b c : Option (List ℕ)) (strip : Picture) (d e : Option (List Picture))
+pub drawn_pushed : (recording : Recording) (frames : Frames) (slots : List Slot) (turn : Turn) (slot : Slot) (mark : Mark)
+    (end : Turn) (place : Place) (a b c : Option (List ℕ)) (strip : Picture) (d e : Option (List Picture))
     → IsDrawn recording frames slots [] turn a b strip d e → length strip.marks < most_marks → IsSlotOf recording slot
     → Consumes b c (spelling recording slot) → IsMarkAt turn slot mark end → place ≡ place_of turn.slots
     → IsDrawn recording frames (slots ++ slot ∷ []) [] end a c (pushed_in frames place mark strip) d e
@@ -232,7 +237,8 @@ finished full [] strips strip d e f drawn whole few none given last = record {
 finished full (first ∷ more) strips strip d e f drawn whole few (frame, marks) given last = record {
   strips = strips ++ strip ∷ [];
   drawn = strips_more full (first ∷ more) strips strip drawn whole (omega arith) few (frame, marks);
-  given = Gains-trans d e f strips (strip ∷ []) given (subst (Gains e f) (unless_some strip (omega (arith, strip_long (first ∷ more) strip (frame, marks)))) last);
+  given = Gains-trans d e f strips (strip ∷ []) given
+      (subst (Gains e f) (unless_some strip (omega (arith, strip_long (first ∷ more) strip (frame, marks)))) last);
 }
 
 -- some octets more, and no mark
@@ -257,7 +263,8 @@ pub stripped : (recording : Recording) (frames : Frames) (slots : List Slot) (pa
     (strip : Picture) (d e f : Option (List Picture)) → IsDrawn recording frames slots part turn a b strip d e
     → Gains e f (unless_empty strip) → IsStripped recording frames slots part turn a b d f
 stripped recording frames slots part turn a b strip d e f drawn last =
-    let end = finished drawn.full drawn.rest drawn.strips strip d e f drawn.drawn drawn.whole drawn.few drawn.waits drawn.given last in
+    let end = finished drawn.full drawn.rest drawn.strips strip d e f drawn.drawn drawn.whole drawn.few drawn.waits drawn.given
+    last in
     record {
       listed = drawn.listed;
       strips = end.strips;
@@ -267,8 +274,9 @@ stripped recording frames slots part turn a b strip d e f drawn last =
 
 -- the strip that waits could not be given
 pub stripped_up_to_strip : (recording : Recording) (frames : Frames) (slots : List Slot) (part : List ℕ) (turn : Turn)
-    (a b : Option (List ℕ)) (strip : Picture) (d e f : Option (List Picture)) → IsDrawn recording frames slots part turn a b strip d e
-    → 0 < length strip.marks → Gains e f [] → IsStrippedUpToStrip recording frames a b d f
+    (a b : Option (List ℕ)) (strip : Picture) (d e f : Option (List Picture))
+    → IsDrawn recording frames slots part turn a b strip d e → 0 < length strip.marks → Gains e f []
+    → IsStrippedUpToStrip recording frames a b d f
 stripped_up_to_strip recording frames slots part turn a b strip d e f drawn some given =
     let long = strip_long drawn.rest strip drawn.waits in
     record {
@@ -278,7 +286,8 @@ stripped_up_to_strip recording frames slots part turn a b strip d e f drawn some
       listed = drawn.listed;
       strips = drawn.strips;
       last = strip;
-      drawn = subst (λ l. AreStrips l (drawn.strips ++ strip ∷ [])) (sym drawn.marks) (strips_more drawn.full drawn.rest drawn.strips
+      drawn = subst (λ l. AreStrips l (drawn.strips ++ strip ∷ [])) (sym drawn.marks)
+          (strips_more drawn.full drawn.rest drawn.strips
           strip drawn.drawn drawn.whole (omega (arith, long, some)) drawn.few drawn.waits);
       given = subst (Gains d f) (append-nil drawn.strips) (Gains-trans d e f drawn.strips [] drawn.given given);
     }

@@ -1,6 +1,6 @@
 -- What strips show of a recording: what stands in each slot, frame by frame, and each once.
-use Rattle.std.specs.Prelude.{◌≡◌, ◌==◌, ℕ, ◌+◌, ◌*◌, ◌/◌, ◌≤◌, ◌<◌, ◌&&◌, Bool, List, [], ◌∷◌, ◌++◌, Option, Some, None, length, take}
-use Rattle.std.specs.Prelude.{map, drop, nat_le, if◌then◌else◌}
+use Rattle.std.specs.Prelude.{◌≡◌, ◌==◌, ℕ, ◌+◌, ◌*◌, ◌/◌, ◌≤◌, ◌<◌, ◌&&◌, Bool, List, [], ◌∷◌, ◌++◌, Option, Some, None, take}
+use Rattle.std.specs.Prelude.{length, map, drop, nat_le, if◌then◌else◌}
 use Rattle.dmr_listing.specs.Entries.{octet_behind, place_of}
 use Rattle.dmr_listing.specs.Listings.{Gains, IsLineAt, IsListed, Turn, turn_after, turn_passed}
 use Rattle.dmr_listing.specs.Marks.{mark_of}

@@ -10,8 +10,8 @@
 //! `list_recording`, `list_outgoing` and `list_received` go through a whole file behind its head, and give the lines one by one to
 //! whoever takes them (`BurstLines`, `OutgoingLines`, `ReceivedLines`), in constant memory.
 //!
-//! `strip_recording` gives the picture of a recording in place of its lines: a `Strip` has a `Mark` for each slot of 50 `Frames`, and
-//! prints a line for each slot (`StripLine`). The marks are those of the lines that the listing has.
+//! `strip_recording` gives the picture of a recording in place of its lines: a `Strip` has a `Mark` for each slot of 50 `Frames`,
+//! and prints a line for each slot (`StripLine`). The marks are those of the lines that the listing has.
 //!
 //! Contracts say what a line shows (`specs/Lines.antt`): by which place follows (`specs/VoicePlace.antt`, and what a place means
 //! over all that a slot was read as), what a burst of a type holds (`specs/Contents.antt`), what four frames carry

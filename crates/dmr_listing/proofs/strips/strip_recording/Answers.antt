@@ -82,7 +82,8 @@ returns-then-is_err-3-clause-output g c =
     let (slots, counted, octet, drawn) = c.loop-slot.invariant.so_far in
     let (below, is_slot, read) = rw c.in-Ok-Some.field-0-is at c.in-Ok-Some.ensures.slot in
     let at = c.of_slot-place.ensures.value ∙ ap place_of c.slots-in-loop-slot.ensures.value in
-    full_up_to_strip c.args.recording c.args.frames (slots ++ c.in-Ok-Some.slot ∷ []) c.mark-mark.new.self _ _ _ c.add.new.strip _ _ _
+    full_up_to_strip c.args.recording c.args.frames (slots ++ c.in-Ok-Some.slot ∷ []) c.mark-mark.new.self _ _ _
+    c.add.new.strip _ _ _
     (drawn_pushed c.args.recording c.args.frames slots c.loop-slot.view c.in-Ok-Some.slot c.mark-mark.result
     c.mark-mark.new.self c.of_slot-place.result _ _ _ c.loop-slot.strip _ _ drawn c.loop-slot.invariant.free is_slot read
     c.mark-mark.ensures.mark at) (search rules)
@@ -113,6 +114,7 @@ loop-slot-preserved g c =
         ap (λ n. c.loop-slot.octet + n) long ∙ next,
         drawn_given c.args.recording c.args.frames (slots ++ slot ∷ []) c.mark-mark.new.self _ _ _ c.add.new.strip _ _ _
             (drawn_pushed c.args.recording c.args.frames slots c.loop-slot.view slot c.mark-mark.result c.mark-mark.new.self
-            c.of_slot-place.result _ _ _ c.loop-slot.strip _ _ drawn inv.free is_slot read c.mark-mark.ensures.mark at) (search rules),
+            c.of_slot-place.result _ _ _ c.loop-slot.strip _ _ drawn inv.free is_slot read c.mark-mark.ensures.mark at)
+            (search rules),
       );
     }
