@@ -1,7 +1,8 @@
 use Rattle.std.proofs.Common.{rules, refl, ◌∷◌, [], ap, sym, subst, ◌∙◌, arith}
 use Rattle.dmr_station.specs.Station.{State}
 use Rattle.dmr_repeater.specs.Schedule.{Progress, Gives}
-use Rattle.dmr_repeater.proofs.Records.{Gives-waiting, OffersDue-none, OffersDue-one, OffersDue-nothing, given_of_offers, given_count}
+use Rattle.dmr_repeater.proofs.Records.{Gives-waiting, OffersDue-none, OffersDue-one, OffersDue-nothing}
+use Rattle.dmr_repeater.proofs.Records.{given_of_offers, given_count}
 use Rattle.dmr_repeater.proofs.Records.{StopsIn-at}
 use Rattle.dmr_repeater.proofs.schedule.Schedule.offer_each.Goals as goal
 
