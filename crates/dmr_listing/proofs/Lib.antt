@@ -1,4 +1,3 @@
-pub mod Drawing
 pub mod Listings
 pub mod OutgoingListings
 pub mod Places
