@@ -132,6 +132,49 @@ def check_filters(report):
         report.expect(f"show {words}", ran.out.decode().splitlines() == [whole[0], *lines, whole[-1]], ran)
 
 
+def strips_in(ran):
+    """The lines of a strip: the first frame, the slot, and the letters."""
+    return [(int(line[:7]), int(line[8]), line[11:]) for line in ran.out.decode().splitlines()]
+
+
+def check_strips(report):
+    sample = report.top / "samples/call_with_gap"
+    for file, wanted in (
+        ("uplink.dmru", "      0 1  H...ABCDEF......\n      0 2  ................\n"),
+        ("downlink.dmrd", "      0 1  ......HHHHABCDEFTTTii.\n      0 2  ......iiiiiiiiiiiiiii.\n"),
+    ):
+        ran = report.call("show", sample / file, "--strip")
+        report.expect(f"the strip of {file}", (ran.status, ran.out.decode(), ran.err) == (0, wanted, b""), ran)
+    slots = it.UPLINK_HEAD + (b"\0" + b"\1" + it.CSBK) * 101
+    for words, wanted in (
+        ([], [(at, slot, ".c"[slot - 1] * min(50, 101 - at)) for at in (0, 50, 100) for slot in (1, 2)]),
+        (["--slot", 2], [(at, 2, "c" * min(50, 101 - at)) for at in (0, 50, 100)]),
+        (["--from", 30, "--to", 80, "--slot", 1], [(30, 1, "." * 50), (80, 1, ".")]),
+        (["--from", 99], [(99, 1, ".."), (99, 2, "cc")]),
+        (["--from", 101], []),
+        (["--from", 9, "--to", 8], []),
+    ):
+        ran = report.call("show", "-", "--strip", *words, given=slots)
+        is_so = (ran.status, ran.err) == (0, b"") and strips_in(ran) == wanted
+        report.expect(f"a strip {words}", is_so, ran)
+    ran = report.call("show", "-", "--strip", given=slots[:-34])
+    wanted = f"error: -: half frame at octet {len(slots) - 34}, frame 100, slot 2\n"
+    report.expect("a strip up to a fault", (ran.status, ran.err.decode()) == (1, wanted), ran)
+    report.expect("its lines", [len(letters) for _, _, letters in strips_in(ran)] == [50, 50, 50, 50, 1], ran)
+    for name, octets in (("an outgoing list", it.ONE_DATAGRAM), ("a received list", STATUS)):
+        ran = report.call("show", "-", "--strip", given=octets)
+        report.expect(f"{name} has no strip", ran.is_error("-: a list has no strip"), ran)
+    for file in sorted(file for file in (report.top / "samples").rglob("*.dmr[ud]")):
+        ran = report.call("show", file, "--strip")
+        frames = int(report.call("show", file).out.decode().splitlines()[-1].split()[1])
+        lengths = [sum(len(letters) for _, slot, letters in strips_in(ran) if slot == number) for number in (1, 2)]
+        is_so = (ran.status, ran.err) == (0, b"") and lengths == [frames, frames]
+        report.expect(f"the strip of {file.parent.name}/{file.name}", is_so, ran)
+    with open("/dev/full", "wb") as full:
+        ran = report.call("show", sample / "uplink.dmru", "--strip", stdout=full)
+        report.expect("a strip, and standard output is full", (ran.status, ran.err) == (1, b""), ran)
+
+
 def check_longest(report):
     """The longest recording through a pipe, with a burst every hundred frames, in a process with little memory."""
     block = b"\1" + it.CSBK + bytes(199)
@@ -143,6 +186,11 @@ def check_longest(report):
     lines = ran.stdout.decode().splitlines()
     is_so = ran.returncode == 0 and len(lines) == count + 2 and lines[-1] == last
     report.expect("the longest recording", is_so, (ran.returncode, lines[-1:], ran.stderr))
+    ran = subprocess.run(["sh", "-c", f"{command} --strip"], input=given, capture_output=True)
+    last = "".join("c" if frame % 100 == 0 else "." for frame in range(it.LIMIT // 50 * 50, it.LIMIT))
+    lines = ran.stdout.decode().splitlines()
+    is_so = ran.returncode == 0 and len(lines) == 2 * -(-it.LIMIT // 50) and lines[-2][11:] == last
+    report.expect("its strip", is_so, (ran.returncode, lines[-2:], ran.stderr))
 
 
 def check(report):
@@ -150,4 +198,5 @@ def check(report):
     check_samples(report)
     check_faults(report)
     check_filters(report)
+    check_strips(report)
     check_longest(report)

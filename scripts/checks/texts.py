@@ -130,10 +130,10 @@ def check_readme(report):
             ran = shell(re.search(r"^    (\{ printf .* > mine\.dmru)$", text, re.MULTILINE)[1], room.path)
             mine = (room.path / "mine.dmru").read_bytes()
             report.expect("a recording by hand", mine == recordings.ONE_CSBK, mine)
-        shown = re.search(r"^    \$ (\./dmrgate show .*)\n((?:    .*\n)+)", text, re.MULTILINE)
-        ran = shell(shown[1], room.path)
-        lines = re.sub(r"^    ", "", shown[2], flags=re.MULTILINE)
-        report.expect("the listing of the README", (ran.returncode, ran.stdout) == (0, lines), ran)
+        for command, shown in re.findall(r"^    \$ (\./dmrgate show .*)\n((?:    .*\n)+)", text, re.MULTILINE):
+            ran = shell(command, room.path)
+            lines = re.sub(r"^    ", "", shown, flags=re.MULTILINE)
+            report.expect(f"the README's {command}", (ran.returncode, ran.stdout) == (0, lines), ran)
         for name in ("one.dmru", "two.dmru"):
             (room.path / name).write_bytes(recordings.ONE_CSBK)
         room.uplink.unlink()

@@ -12,6 +12,8 @@ use Rattle.dmr_gateway.specs.declared.config.ConfigFault.{ConfigFault}
 use Rattle.dmr_command.specs.declared.request.Request.{Request}
 use Rattle.dmr_command.specs.declared.request.Request.TheVariants.{Slot, Run, Show}
 use Rattle.dmr_show.specs.declared.filter.Filter.{Filter}
+use Rattle.dmr_show.specs.declared.form.Form.{Form}
+use Rattle.dmr_show.specs.declared.form.Form.TheVariants as form_variant
 
 -- the text that an option was given, or has where it is left out
 abbrev pub text_of : Found → Text → Text
@@ -67,19 +69,26 @@ pub record IsFilterOf (found : Found) (filter : Filter) : Type 0 where
   pub from : IsGivenBy 32 found (codes "from") filter.from
   pub to : IsGivenBy 32 found (codes "to") filter.to
 
+-- The form is a strip where the option of that name is given, and else a listing.
+pub record IsFormOf (found : Found) (form : Form) : Type 0 where
+  pub left_out : one_text found (codes "strip") ≡ None → form ≡ form_variant.Listing
+  pub unset : one_text found (codes "strip") ≡ Some (codes "false") → form ≡ form_variant.Listing
+  pub set : one_text found (codes "strip") ≡ Some (codes "true") → form ≡ form_variant.Strip
+
 -- What a command with these options asks for: `run` for a run, `show` for a listing, and any other for the burst of `slot`.
 abbrev pub IsAskedBy : Option (Text × Found) → Request → Type 0
 IsAskedBy None (Slot burst) = burst.now ≡ []
 IsAskedBy None (Run config places) = ⊥
-IsAskedBy None (Show name filter) = ⊥
+IsAskedBy None (Show name form filter) = ⊥
 IsAskedBy (Some command) (Slot burst) = (command.0 ≡ codes "run" → ⊥) × (command.0 ≡ codes "show" → ⊥)
     × (burst.now ≡ text_of command.1 (codes "burst"))
 IsAskedBy (Some command) (Run config places) =
     (command.0 ≡ codes "run") × AreSettingsOf command.1 config × ArePlacesOf command.1 places
-IsAskedBy (Some command) (Show name filter) =
-    (command.0 ≡ codes "show") × (name.now ≡ text_of command.1 (codes "file")) × IsFilterOf command.1 filter
+IsAskedBy (Some command) (Show name form filter) =
+    (command.0 ≡ codes "show") × (name.now ≡ text_of command.1 (codes "file")) × IsFormOf command.1 form
+    × IsFilterOf command.1 filter
 
 -- a file is to be listed
 abbrev pub IsShow : Request → Type 0
-IsShow (Show name filter) = Unit {0}
+IsShow (Show name form filter) = Unit {0}
 IsShow request = ⊥

@@ -20,8 +20,10 @@ const ABOUT_SLOTS: &str =
 /// What help says behind the options of `show`.
 const ABOUT_LISTINGS: &str =
     "A file is one of the four of a run, told by its first octets. Each burst or record has a line: seconds, frame and slot, and \
-what it is; silence has none. The last line counts all that the file holds.\n\nStatus 0: the file is whole; 1: it is at fault, \
-which is told on standard error with the octet at which its record begins; 2: the command line.\n\nExample:\n  dmrgate show \
+what it is; silence has none. The last line counts all that the file holds.\n\nThe letters of a strip: . silence, H voice header, \
+P PI header, A to F places of a superframe, v a voice burst in no place, T terminator, c CSBK, D data header, b data block, m \
+multi block control or unified block, i idle, ? unreadable. A list has no strip.\n\nStatus 0: the file is whole; 1: it is at \
+fault, which is told on standard error with the octet at which its record begins; 2: the command line.\n\nExample:\n  dmrgate show \
 uplink.dmru --slot 1 --from 100 --to 199\n\nThe files are described in docs/protocol.md.";
 
 /// An option that takes the path of a file.
@@ -137,10 +139,15 @@ fn show_command<'a>(alloc: Global) -> Result<Command<'a>, AllocError> {
     let slot = slot.value_parser(value_parser!(u8).range(1..3));
     let from = number(alloc, "from", "The first frame that has lines");
     let to = number(alloc, "to", "The last frame that has lines");
+    let strip = Arg::new(alloc, "strip")
+        .long("strip")
+        .help("A letter for each slot of a recording, 50 frames a line, in place of its listing")
+        .action(ArgAction::SetTrue);
     Command::new(alloc, "show")
         .about("Lists what a file holds")
         .after_help(ABOUT_LISTINGS)
         .arg(file)?
+        .arg(strip)?
         .arg(slot)?
         .arg(from.value_name("FRAME").value_parser(value_parser!(u32)))?
         .arg(to.value_name("FRAME").value_parser(value_parser!(u32)))

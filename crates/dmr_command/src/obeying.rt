@@ -10,7 +10,7 @@ use clap::Error;
 use dmr_files::{OpenFault, Place, System, open_source, run_places};
 use dmr_record::Sink;
 use dmr_report::{FAILURE, RunEnd, SUCCESS, USAGE, print_end, print_error, print_slot, print_text};
-use dmr_show::{Filter, show};
+use dmr_show::{Filter, Form, show};
 use std::alloc::Global;
 use std::convert::AsStr;
 
@@ -53,11 +53,12 @@ fn print_cannot_open<E: Sink>(alloc: Global, name: &str, err: &mut E)
     }
 }
 
-/// Lists the file of this name, as far as it can be read.
+/// Shows the file of this name in a form, as far as it can be read.
 fn show_file<S: System, K: Sink, E: Sink>(
     alloc: Global,
     system: &S,
     name: &str,
+    form: Form,
     filter: Filter,
     out: &mut K,
     err: &mut E,
@@ -72,7 +73,7 @@ fn show_file<S: System, K: Sink, E: Sink>(
     ensures err_failed { E.has_failed err.new ≡ true → result ≡ FAILURE }
 {
     match open_source(system, alloc, Place::named(name)) {
-        Ok(mut source) => show(alloc, name, filter, &mut source, out, err),
+        Ok(mut source) => show(alloc, name, form, filter, &mut source, out, err),
         Err(OpenFault::CannotOpen) => {
             print_cannot_open(alloc, name, err);
             FAILURE
@@ -114,7 +115,9 @@ pub fn fulfil<S: System, K: Sink, E: Sink>(
             };
             print_end(&end, out, err)
         }
-        Request::Show { name, filter } => show_file(alloc, system, name, filter, out, err),
+        Request::Show { name, form, filter } => show_file(
+            alloc, system, name, form, filter, out, err,
+        ),
     }
 }
 

@@ -1,13 +1,14 @@
 //! What the words of a command line ask for.
 ghost use Rattle.std.specs.Prelude.{◌≡◌, option_map};
 ghost use Rattle.clap.specs.Words.{found_of};
-ghost use Rattle.dmr_command.specs.Request.{ArePlacesOf, AreSettingsOf, IsAskedBy, IsFilterOf, IsNumberOf, IsPlaceOf, text_of};
+ghost use Rattle.dmr_command.specs.Request.{ArePlacesOf, AreSettingsOf, IsAskedBy, IsFilterOf, IsFormOf, IsNumberOf};
+ghost use Rattle.dmr_command.specs.Request.{IsPlaceOf, text_of};
 
 use crate::command::command;
 use clap::{ArgMatches, Error};
 use dmr_files::{Place, Places};
 use dmr_gateway::{Config, ConfigFault};
-use dmr_show::Filter;
+use dmr_show::{Filter, Form};
 use std::alloc::Global;
 use std::convert::AsStr;
 
@@ -21,9 +22,10 @@ pub enum Request<'a> {
         config: Result<Config, ConfigFault>,
         places: Places<'a>,
     },
-    /// To list the file of this name, as far as a filter lets its lines pass.
+    /// To show the file of this name in a form, as far as a filter lets its lines pass.
     Show {
         name: &'a str,
+        form: Form,
         filter: Filter,
     },
 }
@@ -108,6 +110,17 @@ fn filter_of(show: &ArgMatches<'_>) -> Filter
     }
 }
 
+/// The form that a command line of `show` asks for.
+fn form_of(show: &ArgMatches<'_>) -> Form
+    ensures form { IsFormOf (found_of show.now) result }
+{
+    if show.get_flag("strip") {
+        Form::Strip
+    } else {
+        Form::Listing
+    }
+}
+
 /// What a command with its options asks for.
 pub(crate) fn request_by<'a>(command: Option<(&'a str, &ArgMatches<'a>)>) -> Request<'a>
     ensures asked { IsAskedBy (option_map (λ c. (c.0.now, found_of c.1.now)) command.entry) result }
@@ -119,6 +132,7 @@ pub(crate) fn request_by<'a>(command: Option<(&'a str, &ArgMatches<'a>)>) -> Req
         },
         Some(("show", show)) => Request::Show {
             name: text_of(show, "file"),
+            form: form_of(show),
             filter: filter_of(show),
         },
         Some((_, slot)) => Request::Slot(text_of(slot, "burst")),

@@ -1,3 +1,4 @@
+pub mod Drawing
 pub mod Listings
 pub mod OutgoingListings
 pub mod Places

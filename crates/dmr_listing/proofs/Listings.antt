@@ -27,7 +27,7 @@ Gains-trans (Some os) (Some ps) None xs ys first next = absurd next
 Gains-trans (Some os) (Some ps) (Some qs) xs ys first next = next ∙ ap (λ l. l ++ ys) first ∙ append_assoc os xs ys
 
 -- a silent slot more
-Lists-silent : (turn : Turn) (slots : List Slot) (lines : List BurstLine) (end : Turn) → Lists turn slots lines end
+pub Lists-silent : (turn : Turn) (slots : List Slot) (lines : List BurstLine) (end : Turn) → Lists turn slots lines end
     → Lists turn (slots ++ None ∷ []) lines (turn_passed end)
 Lists-silent turn [] lines end (none, same) = (none, ap turn_passed same)
 Lists-silent turn (None ∷ slots) lines end lists = Lists-silent (turn_passed turn) slots lines end lists
@@ -38,7 +38,7 @@ Lists-silent turn (Some b ∷ slots) (line ∷ lines) end (first, lists) = (
 )
 
 -- a burst more, with its line
-Lists-burst : (turn : Turn) (slots : List Slot) (lines : List BurstLine) (end : Turn) (burst : RecordedBurst) (line : BurstLine)
+pub Lists-burst : (turn : Turn) (slots : List Slot) (lines : List BurstLine) (end : Turn) (burst : RecordedBurst) (line : BurstLine)
     → Lists turn slots lines end → IsLineAt end burst line
     → Lists turn (slots ++ Some burst ∷ []) (lines ++ line ∷ []) (turn_after line burst end)
 Lists-burst turn [] lines end burst line (none, same) shows = rw none (
@@ -64,7 +64,7 @@ slots_counted turn (Some b ∷ slots) (line ∷ lines) end (first, lists) =
     let rest = slots_counted (turn_after line b turn) slots lines end lists in
     omega arith
 
-spelled_more : (recording : Recording) (slots : List Slot) (slot : Slot) (a b c : Option (List ℕ))
+pub spelled_more : (recording : Recording) (slots : List Slot) (slot : Slot) (a b c : Option (List ℕ))
     → Consumes a b (flat_map (spelling recording) slots ++ []) → Consumes b c (spelling recording slot)
     → Consumes a c (flat_map (spelling recording) (slots ++ slot ∷ []) ++ [])
 spelled_more recording slots slot a b c first next =
@@ -79,7 +79,7 @@ pub listed_none : (recording : Recording) (left : Option (List ℕ)) (given : Op
 listed_none recording left given =
     record { each = tt; read = Consumes-nil left; lines = []; listed = (refl, refl); given = Gains-none given }
 
-pub listed_silence : (recording : Recording) (slots : List Slot) (end : Turn) (a b c : Option (List ℕ))
+unfoldable pub listed_silence : (recording : Recording) (slots : List Slot) (end : Turn) (a b c : Option (List ℕ))
     (d e : Option (List BurstLine)) → IsListed recording slots [] end a b d e → Consumes b c (spelling recording None)
     → IsListed recording (slots ++ None ∷ []) [] (turn_passed end) a c d e
 listed_silence recording slots end a b c d e listed read = record {
@@ -90,7 +90,7 @@ listed_silence recording slots end a b c d e listed read = record {
   given = listed.given;
 }
 
-pub listed_burst : (recording : Recording) (slots : List Slot) (end : Turn) (burst : RecordedBurst) (line : BurstLine)
+unfoldable pub listed_burst : (recording : Recording) (slots : List Slot) (end : Turn) (burst : RecordedBurst) (line : BurstLine)
     (a b c : Option (List ℕ)) (d e f : Option (List BurstLine)) → IsListed recording slots [] end a b d e
     → IsBurstOf recording burst → Consumes b c (spelling recording (Some burst)) → IsLineAt end burst line
     → Gains e f (line ∷ []) → IsListed recording (slots ++ Some burst ∷ []) [] (turn_after line burst end) a c d f
@@ -103,7 +103,7 @@ listed_burst recording slots end burst line a b c d e f listed is_burst read sho
 }
 
 -- some octets more, and no line
-pub listed_part : (recording : Recording) (slots : List Slot) (part : List ℕ) (end : Turn) (a b c : Option (List ℕ))
+unfoldable pub listed_part : (recording : Recording) (slots : List Slot) (part : List ℕ) (end : Turn) (a b c : Option (List ℕ))
     (d e f : Option (List BurstLine)) → IsListed recording slots [] end a b d e → Consumes b c part → Gains e f []
     → IsListed recording slots part end a c d f
 listed_part recording slots part end a b c d e f listed read given = record {

@@ -5,9 +5,11 @@ pub mod Entries
 pub mod Fragments
 pub mod Lines
 pub mod Listings
+pub mod Marks
 pub mod OutgoingListings
 pub mod ReceivedListings
 pub mod Recordings
+pub mod Strips
 pub mod Summaries
 pub mod VoicePlace
 pub mod Wrong

@@ -55,7 +55,7 @@ fn type_name(kind: u8) -> Option<&'static str> {
 }
 
 /// The letter of a place, and a question mark for a burst that stands in none.
-fn place_letter(place: Option<VoicePlace>) -> char {
+pub(crate) fn place_letter(place: Option<VoicePlace>) -> char {
     match place {
         Some(VoicePlace::A) => 'A',
         Some(VoicePlace::B) => 'B',

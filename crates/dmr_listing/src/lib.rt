@@ -10,12 +10,16 @@
 //! `list_recording`, `list_outgoing` and `list_received` go through a whole file behind its head, and give the lines one by one to
 //! whoever takes them (`BurstLines`, `OutgoingLines`, `ReceivedLines`), in constant memory.
 //!
+//! `strip_recording` gives the picture of a recording in place of its lines: a `Strip` has a `Mark` for each slot of 50 `Frames`,
+//! and prints a line for each slot (`StripLine`). The marks are those of the lines that the listing has.
+//!
 //! Contracts say what a line shows (`specs/Lines.antt`): by which place follows (`specs/VoicePlace.antt`, and what a place means
 //! over all that a slot was read as), what a burst of a type holds (`specs/Contents.antt`), what four frames carry
 //! (`specs/Fragments.antt`), what a CACH announces (`specs/Activity.antt`), which bits are wrong (`specs/Wrong.antt`), and what is
 //! counted (`specs/Summaries.antt`). Of a whole file they say that each burst or record has a line, in order and once, and that a
 //! fault is told exactly where the octets show it (`specs/Recordings.antt` and `Listings`, `OutgoingListings`, `ReceivedListings`;
-//! `laws` has the places of the lines). What the texts are is left open by them, and is tested.
+//! `laws` has the places of the lines), and of strips that each slot has its mark, in order and once (`specs/Marks.antt` and
+//! `Strips`). What the texts are is left open by them, and is tested.
 #![tactic(auto)]
 
 mod activity;
@@ -28,9 +32,11 @@ mod datagram;
 mod digits;
 mod fault_line;
 mod fragments;
+mod frames;
 pub mod laws;
 mod link_control;
 mod listing;
+mod mark;
 mod outgoing_listing;
 mod place;
 mod received_listing;
@@ -38,6 +44,8 @@ mod record_line;
 mod recording;
 mod recording_view;
 mod slot_view;
+mod strip;
+mod strips;
 mod summary;
 mod voice_place;
 mod wrong;
@@ -46,13 +54,17 @@ pub use activity::Activity;
 pub use burst_line::BurstLine;
 pub use contents::Contents;
 pub use fault_line::FaultLine;
+pub use frames::Frames;
 pub use listing::{BurstLines, ListingEnd, list_recording};
+pub use mark::Mark;
 pub use outgoing_listing::{OutgoingLines, list_outgoing};
 pub use place::Place;
 pub use received_listing::{ReceivedLines, list_received};
 pub use record_line::{OutgoingLine, ReceivedLine};
 pub use recording::{RecordedBurst, Recording};
 pub use slot_view::SlotView;
+pub use strip::{Strip, StripLine};
+pub use strips::{StripLines, strip_recording};
 pub use summary::{BurstCounts, RecordingSummary};
 pub use voice_place::{VoicePlace, VoicePlaces};
 pub use wrong::Wrong;

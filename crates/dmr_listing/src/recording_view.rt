@@ -1,8 +1,10 @@
 //! The lines of a recording, slot by slot.
 ghost use Rattle.std.specs.Prelude.{◌≡◌, ◌+◌, ◌-◌, ◌^◌, ◌<◌};
 ghost use Rattle.dmr_listing.specs.Listings.{IsLineAt, begun, turn_after, turn_passed};
+ghost use Rattle.dmr_listing.specs.Strips.{IsMarkAt};
 
 use crate::burst_line::BurstLine;
+use crate::mark::Mark;
 use crate::place::Place;
 use crate::recording::RecordedBurst;
 use crate::slot_view::SlotView;
@@ -90,5 +92,19 @@ impl RecordingView {
         self.bursts = self.bursts.with(&line);
         self.turn();
         line
+    }
+
+    /// The mark of the next slot, whatever it has.
+    pub(crate) fn mark(&mut self, slot: &Option<RecordedBurst>) -> Mark
+        requires room { self.old.slots < 2 ^ 32 - 1 }
+        ensures mark { IsMarkAt self.old slot.now result self.new }
+    {
+        match slot {
+            None => {
+                self.pass();
+                Mark::Silence
+            }
+            Some(burst) => Mark::of_line(&self.line(burst)),
+        }
     }
 }

@@ -3,9 +3,9 @@ use dmr_burst::{Emb, Side};
 use dmr_csbk::Csbk;
 use dmr_link::FullLc;
 use dmr_listing::{
-    BurstCounts, BurstLine, BurstLines, Contents, FaultLine, ListingEnd, OutgoingLine, Place,
-    ReceivedLine, RecordedBurst, Recording, RecordingSummary, SlotView, VoicePlace, VoicePlaces,
-    list_recording,
+    BurstCounts, BurstLine, BurstLines, Contents, FaultLine, Frames, ListingEnd, Mark,
+    OutgoingLine, Place, ReceivedLine, RecordedBurst, Recording, RecordingSummary, SlotView, Strip,
+    StripLines, VoicePlace, VoicePlaces, list_recording, strip_recording,
 };
 use dmr_record::{DeviceFault, FromRead, Received, ReceivedKind, RecordFault, read_outgoing};
 use dmr_report::Reading;
@@ -359,6 +359,88 @@ fn listings_of_recordings(rt: HostRuntime) -> Result<(), Fail> {
         };
         let answer = list_recording(&mut source, Recording::Uplink, &mut taken);
         assert!(rt; answer == want, "of {count} octets");
+        assert_eq!(rt; taken.text.as_str(), text);
+    }
+    Ok(())
+}
+
+#[test]
+fn letters(rt: HostRuntime) -> Result<(), Fail> {
+    for (mark, letter) in [
+        (Mark::Silence, "."),
+        (Mark::PrivacyHeader, "P"),
+        (Mark::VoiceHeader, "H"),
+        (Mark::Voice(Some(VoicePlace::A)), "A"),
+        (Mark::Voice(Some(VoicePlace::F)), "F"),
+        (Mark::Voice(None), "v"),
+        (Mark::Terminator, "T"),
+        (Mark::ControlBlock, "c"),
+        (Mark::MultiBlock, "m"),
+        (Mark::DataHeader, "D"),
+        (Mark::DataBlock, "b"),
+        (Mark::Idle, "i"),
+        (Mark::Unreadable, "?"),
+    ] {
+        assert_eq!(rt; format!(in rt.alloc(); "{mark}")?.as_str(), letter);
+    }
+    Ok(())
+}
+
+impl StripLines for Taken {
+    ghost use Rattle.std.specs.Prelude.{None};
+
+    ghost given = { λ taken. None };
+
+    ghost has_failed = { λ taken. taken.is_failed };
+
+    ghost kept = { λ taken. 0 };
+
+    fn put_strip(&mut self, strip: &Strip) -> Result<(), DeviceFault> {
+        for slot in [1, 2] {
+            if let Some(line) = strip.line(slot) {
+                if self.room == 0 || writeln!(self.text, "{line}").is_err() {
+                    self.is_failed = true;
+                    return Err(DeviceFault);
+                }
+            }
+        }
+        Ok(())
+    }
+}
+
+/// A frame with the burst in slot 2, and half of one.
+#[test]
+fn strips_of_recordings(rt: HostRuntime) -> Result<(), Fail> {
+    let burst = <[u8; 33] as FromHex>::from_hex(CSBK)?;
+    let mut octets = Vec::new(rt.alloc());
+    octets.extend_from_slice(&[0, 1])?;
+    octets.extend_from_slice(&burst)?;
+    octets.push(0)?;
+    let half = FaultLine {
+        fault: RecordFault::HalfFrame,
+        octet: 44,
+        place: Some(Place { frame: 1, slot: 2 }),
+    };
+    for (first, room, want, text) in [
+        (
+            0,
+            9,
+            ListingEnd::File(half),
+            "      0 1  ..\n      0 2  c\n",
+        ),
+        (1, 9, ListingEnd::File(half), "      1 1  .\n"),
+        (2, 9, ListingEnd::File(half), ""),
+        (0, 0, ListingEnd::Output, ""),
+    ] {
+        let mut source = FromRead::new(octets.as_slice());
+        let mut taken = Taken {
+            text: String::new(rt.alloc()),
+            room,
+            is_failed: false,
+        };
+        let frames = Frames { first, last: 9 };
+        let answer = strip_recording(&mut source, Recording::Uplink, frames, &mut taken);
+        assert!(rt; answer == Err(want));
         assert_eq!(rt; taken.text.as_str(), text);
     }
     Ok(())

@@ -1,5 +1,5 @@
 -- What was read of a file that was shown.
-use Rattle.std.specs.Prelude.{◌≡◌, ◌*◌, ℕ, Bool, false, List, [], Option, Some, None, length}
+use Rattle.std.specs.Prelude.{◌≡◌, ◌*◌, ℕ, Bool, false, true, List, [], Option, Some, None, length}
 use Rattle.std.specs.Io.KnownBytes.{Consumes, IsAtEnd}
 use Rattle.dmr_listing.specs.Listings as recording
 use Rattle.dmr_listing.specs.OutgoingListings as outgoing
@@ -47,6 +47,10 @@ IsRead Outgoing (OfList count) old new = IsOutgoingRead count old new
 IsRead Received (OfList count) old new = IsReceivedRead count old new
 IsRead format summary old new = ⊥
 
+-- All that stands behind the head of a file of this format was read.
+abbrev pub IsReadWhole : FileFormat → Option (List ℕ) → Option (List ℕ) → Type 0
+IsReadWhole format old new = (summary : FileSummary) × IsRead format summary old new
+
 -- What stands behind the head of a file of this format was read up to a record that shows this fault.
 abbrev pub IsReadUpToFault : FileFormat → FaultLine → Option (List ℕ) → Option (List ℕ) → Type 0
 IsReadUpToFault Uplink fault old new = recording.IsListedUpToFault kind.Uplink fault old new None None
@@ -86,3 +90,16 @@ pub record TellsFault (status : ℕ) (out_failed err_failed : Bool) (held_old he
   pub ends : status ≡ FAILURE
   pub listed : out_failed ≡ false
   pub line : err_failed ≡ false → PutsError held_old held_new
+
+-- a list has no strip
+abbrev pub has_strip : FileFormat → Bool
+has_strip Uplink = true
+has_strip Downlink = true
+has_strip Outgoing = false
+has_strip Received = false
+
+-- The head of a file is that of one that has a strip, or that of one that has none.
+abbrev pub BeginsWithStrip : Bool → Option (List ℕ) → Type 0
+BeginsWithStrip is_so left =
+    (format : FileFormat) × (behind : Option (List ℕ)) × Consumes left behind (head_octets (magic_of format))
+    × (has_strip format ≡ is_so)

@@ -3,12 +3,15 @@ ghost use Rattle.std.specs.Prelude.{◌≡◌, ◌≤◌, ◌⊎◌, true, false
 ghost use Rattle.std.specs.Io.KnownBytes.{IsAtEnd};
 ghost use Rattle.dmr_record.specs.Faults.{is_of_end, is_device_fault};
 ghost use Rattle.dmr_listing.specs.Endings.{IfFile, IfOutput};
-ghost use Rattle.dmr_show.specs.Showing.{IsHeadFault, IsRead, IsReadUpToFault, IsRecordFault, IsShownWhole};
+ghost use Rattle.dmr_listing.specs.Listings.{IsListedUpToFault};
+ghost use Rattle.dmr_show.specs.Showing.{BeginsWithStrip, IsHeadFault, IsRead, IsReadUpToFault, IsReadWhole, IsRecordFault};
+ghost use Rattle.dmr_show.specs.Showing.{IsRecordingRead, IsShownWhole, has_strip};
 
+use crate::form::Form;
 use crate::text_lines::TextLines;
 use dmr_listing::{
     FaultLine, ListingEnd, Recording, RecordingSummary, list_outgoing, list_received,
-    list_recording,
+    list_recording, strip_recording,
 };
 use dmr_record::{FileFormat, RecordFault, Sink, Source, read_any_head};
 use std::fmt;
@@ -84,17 +87,118 @@ fn list_behind<S: Source, K: Sink>(
     }
 }
 
-/// Lists a file, by the format that its head tells, and what all of it holds. `room` takes the octets of a received record, and may
-/// hold anything.
-pub(crate) fn list_file<S: Source, K: Sink>(
+/// How a file that has no fault was shown.
+#[derive(Clone, Copy, Debug, Drop, PartialEq, Eq)]
+pub(crate) enum Shown {
+    /// To its end.
+    Whole,
+    /// Not at all, since it is a list, which has no strip.
+    NoStrip,
+}
+
+/// Lists what stands behind the head of a file of this format, between a line for the file and one with what all of it holds.
+fn list_rest<S: Source, K: Sink>(
     source: &mut S,
+    format: FileFormat,
     room: &mut [u8],
     lines: &mut TextLines<'_, K>,
-) -> Result<(), ListingEnd>
+) -> Result<Shown, ListingEnd>
     requires source { S.has_failed source.old ≡ false }
     requires lines { K.has_failed lines.old.sink.now ≡ false }
     requires room { 65535 ≤ length room.old }
-    ensures whole { OnOk result (IsShownWhole (S.left source.old) (S.left source.new)) }
+    ensures whole { OnOk result (IsReadWhole format (S.left source.old) (S.left source.new)) }
+    ensures shown { IfOk result (λ shown. shown ≡ Shown.Whole) }
+    ensures end { OnOk result (IsAtEnd (S.left source.new)) }
+    ensures fault { IfErr result (λ e. IfFile e (λ fault. IsReadUpToFault format fault (S.left source.old) (S.left source.new))) }
+    ensures cut { IfErr result (λ e. IfFile e (λ fault. is_of_end fault.fault ≡ true → IsAtEnd (S.left source.new))) }
+    ensures source { IfErr result (λ e. IfFile e (λ fault. S.has_failed source.new ≡ is_device_fault fault.fault)) }
+    ensures output { IfErr result (λ e. IfOutput e (K.has_failed lines.new.sink.now ≡ true)) }
+    ensures others { IfErr result (λ e. IfFile e (λ fault. K.has_failed lines.new.sink.now ≡ false)) }
+    ensures well { OnOk result (K.has_failed lines.new.sink.now ≡ false) }
+    ensures same_sink { lines.new.sink.ghost_name ≡ lines.old.sink.ghost_name }
+{
+    if lines.begin(format).is_err() {
+        return Err(ListingEnd::Output);
+    }
+    let summary = list_behind(source, format, room, lines)?;
+    match lines.print(&summary) {
+        Ok(()) => Ok(Shown::Whole),
+        Err(_) => Err(ListingEnd::Output),
+    }
+}
+
+/// Prints the strip of what stands behind the head of a recording, whose frames the filter of the lines tells.
+#[tactic(auto, using(crate::proofs::Stripped::stripped_read, crate::proofs::Stripped::stripped_fault))]
+fn strip_behind<S: Source, K: Sink>(
+    source: &mut S,
+    recording: Recording,
+    lines: &mut TextLines<'_, K>,
+) -> Result<RecordingSummary, ListingEnd>
+    requires source { S.has_failed source.old ≡ false }
+    requires lines { K.has_failed lines.old.sink.now ≡ false }
+    ensures whole { IfOk result (λ summary. IsRecordingRead recording summary (S.left source.old) (S.left source.new)) }
+    ensures end { OnOk result (IsAtEnd (S.left source.new)) }
+    ensures fault { IfErr result (λ e. IfFile e (λ fault. IsListedUpToFault recording fault
+        (S.left source.old) (S.left source.new) None None)) }
+    ensures cut { IfErr result (λ e. IfFile e (λ fault. is_of_end fault.fault ≡ true → IsAtEnd (S.left source.new))) }
+    ensures source { IfErr result (λ e. IfFile e (λ fault. S.has_failed source.new ≡ is_device_fault fault.fault)) }
+    ensures output { IfErr result (λ e. IfOutput e (K.has_failed lines.new.sink.now ≡ true)) }
+    ensures others { IfErr result (λ e. IfFile e (λ fault. K.has_failed lines.new.sink.now ≡ false)) }
+    ensures well { OnOk result (K.has_failed lines.new.sink.now ≡ false) }
+    ensures same_sink { lines.new.sink.ghost_name ≡ lines.old.sink.ghost_name }
+{
+    let frames = lines.frames();
+    strip_recording(source, recording, frames, lines)
+}
+
+/// Prints the strip of what stands behind the head of a file of this format, where such a file has one.
+fn strip_rest<S: Source, K: Sink>(
+    source: &mut S,
+    format: FileFormat,
+    lines: &mut TextLines<'_, K>,
+) -> Result<Shown, ListingEnd>
+    requires source { S.has_failed source.old ≡ false }
+    requires lines { K.has_failed lines.old.sink.now ≡ false }
+    ensures whole { IfOk result (λ shown. shown ≡ Shown.Whole → IsReadWhole format (S.left source.old) (S.left source.new)) }
+    ensures shown { IfOk result (λ shown. shown ≡ Shown.Whole → has_strip format ≡ true) }
+    ensures none { IfOk result (λ shown. shown ≡ Shown.NoStrip → has_strip format ≡ false) }
+    ensures end { IfOk result (λ shown. shown ≡ Shown.Whole → IsAtEnd (S.left source.new)) }
+    ensures fault { IfErr result (λ e. IfFile e (λ fault. IsReadUpToFault format fault (S.left source.old) (S.left source.new))) }
+    ensures cut { IfErr result (λ e. IfFile e (λ fault. is_of_end fault.fault ≡ true → IsAtEnd (S.left source.new))) }
+    ensures source { IfErr result (λ e. IfFile e (λ fault. S.has_failed source.new ≡ is_device_fault fault.fault)) }
+    ensures output { IfErr result (λ e. IfOutput e (K.has_failed lines.new.sink.now ≡ true)) }
+    ensures others { IfErr result (λ e. IfFile e (λ fault. K.has_failed lines.new.sink.now ≡ false)) }
+    ensures well { OnOk result (K.has_failed lines.new.sink.now ≡ false) }
+    ensures same_sink { lines.new.sink.ghost_name ≡ lines.old.sink.ghost_name }
+{
+    match format {
+        FileFormat::Uplink => match strip_behind(source, Recording::Uplink, lines) {
+            Ok(_) => Ok(Shown::Whole),
+            Err(end) => Err(end),
+        },
+        FileFormat::Downlink => match strip_behind(source, Recording::Downlink, lines) {
+            Ok(_) => Ok(Shown::Whole),
+            Err(end) => Err(end),
+        },
+        FileFormat::Outgoing | FileFormat::Received => Ok(Shown::NoStrip),
+    }
+}
+
+/// Shows a file in this form, by the format that its head tells. `room` takes the octets of a received record, and may hold
+/// anything.
+pub(crate) fn show_file<S: Source, K: Sink>(
+    form: Form,
+    source: &mut S,
+    room: &mut [u8],
+    lines: &mut TextLines<'_, K>,
+) -> Result<Shown, ListingEnd>
+    requires source { S.has_failed source.old ≡ false }
+    requires lines { K.has_failed lines.old.sink.now ≡ false }
+    requires room { 65535 ≤ length room.old }
+    ensures whole { IfOk result (λ shown. shown ≡ Shown.Whole → IsShownWhole (S.left source.old) (S.left source.new)) }
+    // A strip is of a recording, and a list alone has none.
+    ensures strip { IfOk result (λ shown. shown ≡ Shown.Whole → form ≡ Form.Strip → BeginsWithStrip true (S.left source.old)) }
+    ensures none { IfOk result (λ shown. shown ≡ Shown.NoStrip → (form ≡ Form.Strip) × BeginsWithStrip false (S.left source.old)) }
     ensures fault { IfErr result (λ e. IfFile e (λ fault. IsHeadFault fault (S.left source.old) (S.left source.new)
         ⊎ IsRecordFault fault (S.left source.old) (S.left source.new))) }
     ensures cut { IfErr result (λ e. IfFile e (λ fault. is_of_end fault.fault ≡ true → IsAtEnd (S.left source.new))) }
@@ -108,12 +212,8 @@ pub(crate) fn list_file<S: Source, K: Sink>(
         Ok(format) => format,
         Err(fault) => return Err(ListingEnd::File(head_fault(fault))),
     };
-    if lines.begin(format).is_err() {
-        return Err(ListingEnd::Output);
-    }
-    let summary = list_behind(source, format, room, lines)?;
-    match lines.print(&summary) {
-        Ok(()) => Ok(()),
-        Err(_) => Err(ListingEnd::Output),
+    match form {
+        Form::Listing => list_rest(source, format, room, lines),
+        Form::Strip => strip_rest(source, format, lines),
     }
 }

@@ -1,8 +1,8 @@
 //! Which lines are shown.
-ghost use Rattle.std.specs.Prelude.{◌↔◌, IsTrue};
-ghost use Rattle.dmr_show.specs.Filter.{Passes};
+ghost use Rattle.std.specs.Prelude.{◌≡◌, ◌↔◌, ◌-◌, ◌^◌, IsTrue, unwrap_or};
+ghost use Rattle.dmr_show.specs.Filter.{IsInSlot, Passes};
 
-use dmr_listing::Place;
+use dmr_listing::{Frames, Place};
 
 /// Which bursts and records have a line: each part that is left out asks for all.
 #[derive(Clone, Copy, Debug, Drop, PartialEq, Eq)]
@@ -16,6 +16,16 @@ pub struct Filter {
 }
 
 impl Filter {
+    /// Whether what stands in a slot has a line, in some frame.
+    pub(crate) fn has_slot(&self, number: u8) -> bool
+        ensures has { IsTrue result ↔ IsInSlot self.now number }
+    {
+        match self.slot {
+            Some(slot) => number == slot,
+            None => true,
+        }
+    }
+
     /// Whether what stands in a place has a line.
     pub fn passes(&self, place: Place) -> bool
         ensures passes { IsTrue result ↔ Passes self.now place }
@@ -33,5 +43,16 @@ impl Filter {
             None => true,
         };
         is_in_slot && is_begun && is_before_end
+    }
+
+    /// The frames that have a line.
+    pub(crate) fn frames(&self) -> Frames
+        ensures first { result.first ≡ unwrap_or self.now.from 0 }
+        ensures last { result.last ≡ unwrap_or self.now.to (2 ^ 32 - 1) }
+    {
+        Frames {
+            first: self.from.unwrap_or(0),
+            last: self.to.unwrap_or(u32::MAX),
+        }
     }
 }

@@ -3,10 +3,11 @@ ghost use Rattle.std.specs.Prelude.{◌≡◌, ◌≤◌, ◌⊎◌, false, true
 ghost use Rattle.dmr_listing.specs.Endings.{IfFile, IfOutput};
 ghost use Rattle.dmr_report.specs.Line.{PutsError};
 ghost use Rattle.dmr_report.specs.declared.status.TheConstants.{FAILURE, SUCCESS};
-ghost use Rattle.dmr_show.specs.Showing.{IsShownWhole, TellsFault};
+ghost use Rattle.dmr_show.specs.Showing.{BeginsWithStrip, IsShownWhole, TellsFault};
 
-use crate::file_listing::list_file;
+use crate::file_listing::{Shown, show_file};
 use crate::filter::Filter;
+use crate::form::Form;
 use crate::text_lines::TextLines;
 use dmr_listing::{FaultLine, ListingEnd};
 use dmr_record::{OCTET_LIMIT, Sink, Source};
@@ -16,24 +17,27 @@ use std::alloc::{AllocError, Global};
 /// How many octets the longest line has at most: a received record that is no datagram, in digits, behind its other columns.
 const LONGEST_LINE: usize = 2 * OCTET_LIMIT + 100;
 
-/// Prints the listing of a file to a sink.
-fn list_to<S: Source, K: Sink>(
+/// Prints a file in a form to a sink.
+fn show_to<S: Source, K: Sink>(
+    form: Form,
     source: &mut S,
     filter: Filter,
     room: &mut [u8],
     text: &mut String,
     out: &mut K,
-) -> Result<(), ListingEnd>
+) -> Result<Shown, ListingEnd>
     requires source { S.has_failed source.old ≡ false }
     requires out { K.has_failed out.old ≡ false }
     requires room { 65535 ≤ length room.old }
-    ensures whole { OnOk result (IsShownWhole (S.left source.old) (S.left source.new)) }
+    ensures whole { IfOk result (λ shown. shown ≡ Shown.Whole → IsShownWhole (S.left source.old) (S.left source.new)) }
+    ensures strip { IfOk result (λ shown. shown ≡ Shown.Whole → form ≡ Form.Strip → BeginsWithStrip true (S.left source.old)) }
+    ensures none { IfOk result (λ shown. shown ≡ Shown.NoStrip → (form ≡ Form.Strip) × BeginsWithStrip false (S.left source.old)) }
     ensures output { IfErr result (λ e. IfOutput e (K.has_failed out.new ≡ true)) }
     ensures others { IfErr result (λ e. IfFile e (λ fault. K.has_failed out.new ≡ false)) }
     ensures well { OnOk result (K.has_failed out.new ≡ false) }
 {
     let mut lines = TextLines::new(out, filter, text);
-    list_file(source, room, &mut lines)
+    show_file(form, source, room, &mut lines)
 }
 
 /// Tells that there is no memory.
@@ -57,6 +61,19 @@ fn print_fault<E: Sink>(alloc: Global, name: &str, fault: &FaultLine, err: &mut 
     }
 }
 
+/// Tells that a file is a list, which has no strip.
+fn print_no_strip<E: Sink>(alloc: Global, name: &str, err: &mut E)
+    requires err { E.has_failed err.old ≡ false }
+    ensures error { E.has_failed err.new ≡ false → PutsError (E.held err.old) (E.held err.new) }
+{
+    match format!(in alloc; "{name}: a list has no strip") {
+        Ok(text) => {
+            let _failure = print_error(err, text.as_str(), FAILURE);
+        }
+        Err(_) => print_want_of_memory(err),
+    }
+}
+
 /// Room for the octets of a received record, and for the text of a line.
 fn room_of(alloc: Global) -> Result<(Vec<u8>, String), AllocError>
     ensures octets { IfOk result (λ room. 65535 ≤ length room.0.items) }
@@ -66,11 +83,13 @@ fn room_of(alloc: Global) -> Result<(Vec<u8>, String), AllocError>
     Ok((octets, text))
 }
 
-/// Prints the listing of a file of any of the four formats to the first sink, as far as the file can be read, and answers the
-/// exit status. The source stands before the head. A fault of the file is told on the second sink, by the name of the file.
+/// Prints a file of any of the four formats to the first sink, in a form and as far as the file can be read, and answers the exit
+/// status. The source stands before the head. A fault of the file is told on the second sink, by the name of the file, and so is
+/// that a list has no strip.
 pub fn show<S: Source, K: Sink, E: Sink>(
     alloc: Global,
     name: &str,
+    form: Form,
     filter: Filter,
     source: &mut S,
     out: &mut K,
@@ -82,7 +101,9 @@ pub fn show<S: Source, K: Sink, E: Sink>(
     // A file of one of the formats was read whole, head and all, and no error is told.
     ensures whole { result ≡ SUCCESS → IsShownWhole (S.left source.old) (S.left source.new) }
     ensures success { result ≡ SUCCESS → err.new ≡ err.old }
-    // Or its fault is told, unless what is listed can't be printed.
+    // A strip is of a recording.
+    ensures strip { result ≡ SUCCESS → form ≡ Form.Strip → BeginsWithStrip true (S.left source.old) }
+    // Or its fault is told, unless what is shown can't be printed.
     ensures fault { result ≡ FAILURE → K.has_failed out.new ≡ false
         → TellsFault result (K.has_failed out.new) (E.has_failed err.new) (E.held err.old) (E.held err.new) }
     ensures alone { (err.new ≡ err.old)
@@ -96,8 +117,12 @@ pub fn show<S: Source, K: Sink, E: Sink>(
         print_want_of_memory(err);
         return FAILURE;
     };
-    match list_to(source, filter, room.as_mut_slice(), &mut text, out) {
-        Ok(()) => SUCCESS,
+    match show_to(form, source, filter, room.as_mut_slice(), &mut text, out) {
+        Ok(Shown::Whole) => SUCCESS,
+        Ok(Shown::NoStrip) => {
+            print_no_strip(alloc, name, err);
+            FAILURE
+        }
         Err(ListingEnd::File(fault)) => {
             print_fault(alloc, name, &fault, err);
             FAILURE

@@ -1,14 +1,14 @@
 //! The lines of a file, printed as text.
-ghost use Rattle.std.specs.Prelude.{◌≡◌, None, OnOk};
+ghost use Rattle.std.specs.Prelude.{◌≡◌, ◌≤◌, None, OnOk, length};
 ghost use Rattle.dmr_record.specs.Devices.{failed_after};
 ghost use Rattle.dmr_report.specs.Line.{PutsLine};
-ghost use Rattle.dmr_show.specs.Filter.{Passes};
+ghost use Rattle.dmr_show.specs.Filter.{IsInSlot, Passes};
 
 use crate::filter::Filter;
 use crate::line::put_line;
 use dmr_listing::{
-    BurstLine, BurstLines, OutgoingLine, OutgoingLines, Place, ReceivedLine, ReceivedLines,
-    RecordedBurst,
+    BurstLine, BurstLines, Frames, OutgoingLine, OutgoingLines, Place, ReceivedLine, ReceivedLines,
+    RecordedBurst, Strip, StripLines,
 };
 use dmr_record::{DeviceFault, FileFormat, Outgoing, Received, Sink};
 use std::fmt::{Display, Write};
@@ -76,6 +76,24 @@ impl<'a, K: Sink> TextLines<'a, K> {
             Ok(())
         }
     }
+
+    /// The frames that the filter lets pass.
+    pub(crate) fn frames(&self) -> Frames {
+        self.filter.frames()
+    }
+
+    /// Prints the line of a slot of a strip, where the strip has that slot and the filter lets it pass.
+    fn print_slot(&mut self, strip: &Strip, slot: u8) -> Result<(), DeviceFault>
+        ensures line { OnOk result (IsInSlot self.old.filter slot → slot ≤ length strip.now.marks
+            → PutsLine (K.held self.old.sink.now) (K.held self.new.sink.now)) }
+        ensures failure { K.has_failed self.new.sink.now ≡ failed_after (K.has_failed self.old.sink.now) result }
+        ensures same_sink { self.new.sink.ghost_name ≡ self.old.sink.ghost_name }
+    {
+        match strip.line(slot) {
+            Some(line) if self.filter.has_slot(slot) => self.print(&line),
+            _ => Ok(()),
+        }
+    }
 }
 
 impl<K: Sink> BurstLines for TextLines<'_, K> {
@@ -120,5 +138,18 @@ impl<K: Sink> ReceivedLines for TextLines<'_, K> {
         };
         let record = received;
         self.print_at(place, &ReceivedLine { record, octets })
+    }
+}
+
+impl<K: Sink> StripLines for TextLines<'_, K> {
+    ghost given = { λ lines. None };
+
+    ghost has_failed = { λ lines. K.has_failed lines.sink.now };
+
+    ghost kept = { λ lines. lines.sink.ghost_name };
+
+    fn put_strip(&mut self, strip: &Strip) -> Result<(), DeviceFault> {
+        self.print_slot(strip, 1)?;
+        self.print_slot(strip, 2)
     }
 }

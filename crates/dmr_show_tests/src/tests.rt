@@ -2,7 +2,7 @@
 mod command_line;
 
 use dmr_record::{FromRead, ToWrite};
-use dmr_show::{Filter, show};
+use dmr_show::{Filter, Form, show};
 use std::process::Abort;
 use std::test::Fail;
 
@@ -20,9 +20,23 @@ const ONE_CSBK: &str = "444D52550100000001\
 /// What a listing of it begins with.
 const HEAD: &str = "uplink recording, version 1\n";
 
-/// A file, as far as it is there, is shown so.
+/// A file, as far as it is there, is listed so.
 fn expect(
     rt: &(impl Abort + AllocGlobal),
+    file: &str,
+    count: usize,
+    filter: Filter,
+    status: u8,
+    out: &str,
+    err: &str,
+) -> Result<(), Fail> {
+    expect_in(rt, Form::Listing, file, count, filter, status, out, err)
+}
+
+/// A file, as far as it is there, is shown so in a form.
+fn expect_in(
+    rt: &(impl Abort + AllocGlobal),
+    form: Form,
     file: &str,
     count: usize,
     filter: Filter,
@@ -38,6 +52,7 @@ fn expect(
     let ended = show(
         alloc,
         "cut.dmru",
+        form,
         filter,
         &mut source,
         &mut output,
@@ -130,7 +145,16 @@ fn the_longest_line(rt: HostRuntime) -> Result<(), Fail> {
     let mut output = ToWrite::new(Vec::new(alloc));
     let mut errors = ToWrite::new(Vec::new(alloc));
     let name = "long.dmri";
-    let ended = show(alloc, name, ALL, &mut source, &mut output, &mut errors);
+    let form = Form::Listing;
+    let ended = show(
+        alloc,
+        name,
+        form,
+        ALL,
+        &mut source,
+        &mut output,
+        &mut errors,
+    );
     assert_eq!(rt; ended, 0);
     let out = output.into_inner();
     assert!(rt; out.ends_with(b"000000\nrecords 1\n"));
@@ -146,8 +170,42 @@ fn sinks_that_fail(rt: HostRuntime) -> Result<(), Fail> {
     let mut room = [0u8; 4];
     let mut full = ToWrite::new(&mut room[..]);
     let mut errors = ToWrite::new(Vec::new(alloc));
-    let ended = show(alloc, "it", ALL, &mut source, &mut full, &mut errors);
+    let form = Form::Listing;
+    let ended = show(alloc, "it", form, ALL, &mut source, &mut full, &mut errors);
     assert_eq!(rt; ended, 1);
     assert!(rt; errors.into_inner().is_empty());
     Ok(())
+}
+
+/// Strips: of what stands before a fault too, and of no list.
+#[test]
+fn strips(rt: HostRuntime) -> Result<(), Fail> {
+    let whole = "      0 1  c\n      0 2  .\n";
+    let half = "      0 1  c\n";
+    let slot_2 = Filter {
+        slot: Some(2),
+        ..ALL
+    };
+    let later = Filter {
+        from: Some(1),
+        ..ALL
+    };
+    for (count, filter, status, out, err) in [
+        (43, ALL, 0, whole, ""),
+        (43, slot_2, 0, "      0 2  .\n", ""),
+        (43, later, 0, "", ""),
+        (8, ALL, 0, "", ""),
+        (
+            42,
+            ALL,
+            1,
+            half,
+            "error: cut.dmru: half frame at octet 42, frame 0, slot 2\n",
+        ),
+    ] {
+        expect_in(&rt, Form::Strip, ONE_CSBK, count, filter, status, out, err)?;
+    }
+    let list = "444D524901000000";
+    let none = "error: cut.dmru: a list has no strip\n";
+    expect_in(&rt, Form::Strip, list, 8, ALL, 1, "", none)
 }

@@ -2,7 +2,7 @@
 use dmr_command::{Request, obey, request_of};
 use dmr_files::{FileKind, Identity, Open, Place, StandardFiles, System};
 use dmr_record::ToWrite;
-use dmr_show::Filter;
+use dmr_show::{Filter, Form};
 use std::io::{self, ErrorKind, Sink};
 use std::test::Fail;
 
@@ -54,10 +54,10 @@ fn lines_that_are_asked_for(rt: HostRuntime) -> Result<(), Fail> {
         from: None,
         to: None,
     };
-    let Request::Show { name, filter } = request_of(rt.alloc(), &words)? else {
+    let Request::Show { name, form, filter } = request_of(rt.alloc(), &words)? else {
         return Err(Fail::from("no listing"));
     };
-    assert!(rt; name == "up" && filter == all);
+    assert!(rt; name == "up" && form == Form::Listing && filter == all);
     let words = [
         "dmrgate",
         "show",
@@ -66,6 +66,7 @@ fn lines_that_are_asked_for(rt: HostRuntime) -> Result<(), Fail> {
         "--slot",
         "2",
         "-",
+        "--strip",
         "--from",
         "4294967295",
     ];
@@ -74,10 +75,10 @@ fn lines_that_are_asked_for(rt: HostRuntime) -> Result<(), Fail> {
         from: Some(4_294_967_295),
         to: Some(9),
     };
-    let Request::Show { name, filter } = request_of(rt.alloc(), &words)? else {
+    let Request::Show { name, form, filter } = request_of(rt.alloc(), &words)? else {
         return Err(Fail::from("no listing"));
     };
-    assert!(rt; name == "-" && filter == some);
+    assert!(rt; name == "-" && form == Form::Strip && filter == some);
     for (option, value) in [
         ("--slot", "0"),
         ("--slot", "3"),

@@ -1,0 +1,300 @@
+-- What strips show goes on, slot by slot.
+use Rattle.std.proofs.Common.{◌≡◌, ℕ, ◌+◌, ◌*◌, ◌/◌, ◌<◌, ◌≤◌, Bool, true, false, if◌then◌else◌, List, [], ◌∷◌, ◌++◌, length}
+use Rattle.std.proofs.Common.{drop, Option, None, Some, refl, sym, ap, ◌∙◌, subst, inl, inr, arith, append-nil, take_all}
+use Rattle.std.proofs.Common.{append_assoc, eq-or-lt_of_le, ne_eqb}
+use Rattle.std.proofs.lemmas.List.{drop-append-le, drop_all, length-append, length-drop, length-map, length_push, map-append}
+use Rattle.std.proofs.lemmas.List.{take-append-le}
+use Rattle.std.specs.Io.KnownBytes.{Consumes}
+use Rattle.dmr_listing.specs.Entries.{place_of}
+use Rattle.dmr_listing.specs.Listings.{Gains, IsListed, Lists, Turn, begun, turn_after, turn_passed}
+use Rattle.dmr_listing.specs.Marks.{mark_of}
+use Rattle.dmr_listing.specs.Recordings.{IsSlotOf, Slot, spelling}
+use Rattle.dmr_listing.specs.Strips.{AreStrips, IsDrawn, IsGivenWhereFull, IsMarkAt, IsStripOf, IsStripped, Picture}
+use Rattle.dmr_listing.specs.Strips.{IsStrippedUpToStrip, has, marks_of, most_marks, pushed, pushed_in, shown, unless_empty}
+use Rattle.dmr_listing.specs.declared.burst_line.BurstLine.{BurstLine}
+use Rattle.dmr_listing.specs.declared.frames.Frames.{Frames}
+use Rattle.dmr_listing.specs.declared.mark.Mark.{Mark}
+use Rattle.dmr_listing.specs.declared.mark.Mark.TheVariants.{Silence}
+use Rattle.dmr_listing.specs.declared.place.Place.{Place}
+use Rattle.dmr_listing.specs.declared.recording.RecordedBurst.{RecordedBurst}
+use Rattle.dmr_listing.specs.declared.recording.Recording.{Recording}
+use Rattle.dmr_listing.proofs.Listings.{Gains-none, Gains-trans, listed_burst, listed_none, listed_part, listed_silence}
+
+-- a strip more, behind full ones
+pub strips_more : (full rest : List (Place × Mark)) (strips : List Picture) (strip : Picture) → AreStrips full strips
+    → length full ≡ most_marks * length strips → 0 < length rest → length rest ≤ most_marks → IsStripOf rest strip
+    → AreStrips (full ++ rest) (strips ++ strip ∷ [])
+strips_more full rest [] strip none whole some few is = rw none (
+  some,
+  subst (λ l. IsStripOf l strip) (sym (take_all most_marks rest few)) is,
+  drop_all most_marks rest few,
+)
+strips_more full rest (s ∷ ss) strip strips whole some few is =
+    let (most, first, are) = strips in
+    let enough : most_marks ≤ length full = omega (arith, whole) in
+    let less : length (drop most_marks full) ≡ most_marks * length ss = omega (arith, whole, length-drop most_marks full) in (
+      omega (arith, most, length-append full rest),
+      subst (λ l. IsStripOf l s) (sym (take-append-le most_marks full rest enough)) first,
+      subst (λ l. AreStrips l (ss ++ strip ∷ [])) (sym (drop-append-le most_marks full rest enough))
+          (strips_more (drop most_marks full) rest ss strip are less some few is),
+    )
+
+-- the mark of a slot more in a strip
+pub strip_more : (rest : List (Place × Mark)) (strip : Picture) (place : Place) (mark : Mark) → IsStripOf rest strip
+    → IsStripOf (rest ++ (place, mark) ∷ []) (pushed place mark strip)
+strip_more [] strip place mark none = rw none (refl, refl)
+strip_more (first ∷ more) strip place mark (frame, marks) = rw marks (
+  frame,
+  sym (map-append (λ (m : Place × Mark). m.1) (first ∷ more) ((place, mark) ∷ [])),
+)
+
+-- the marks with that of a silent slot more
+marks_silent : (frames : Frames) (turn : Turn) (slots : List Slot) (lines : List BurstLine) (end : Turn)
+    → Lists turn slots lines end
+    → marks_of frames turn.slots (slots ++ None ∷ []) lines
+    ≡ marks_of frames turn.slots slots lines ++ shown frames end.slots Silence
+marks_silent frames turn [] lines end (none, same) =
+    append-nil (shown frames turn.slots Silence) ∙ ap (λ (t : Turn). shown frames t.slots Silence) (sym same)
+marks_silent frames turn (None ∷ slots) lines end lists =
+    ap (λ l. shown frames turn.slots Silence ++ l) (marks_silent frames (turn_passed turn) slots lines end lists)
+    ∙ sym (append_assoc (shown frames turn.slots Silence) _ _)
+marks_silent frames turn (Some b ∷ slots) [] end lists = absurd lists
+marks_silent frames turn (Some b ∷ slots) (line ∷ lines) end (first, lists) =
+    ap (λ l. shown frames turn.slots (mark_of line) ++ l) (marks_silent frames (turn_after line b turn) slots lines end lists)
+    ∙ sym (append_assoc (shown frames turn.slots (mark_of line)) _ _)
+
+-- the marks with that of a burst more
+marks_burst : (frames : Frames) (turn : Turn) (slots : List Slot) (lines : List BurstLine) (end : Turn) (burst : RecordedBurst)
+    (line : BurstLine) → Lists turn slots lines end
+    → marks_of frames turn.slots (slots ++ Some burst ∷ []) (lines ++ line ∷ [])
+    ≡ marks_of frames turn.slots slots lines ++ shown frames end.slots (mark_of line)
+marks_burst frames turn [] lines end burst line (none, same) = rw none (
+    append-nil (shown frames turn.slots (mark_of line)) ∙ ap (λ (t : Turn). shown frames t.slots (mark_of line)) (sym same)
+    )
+marks_burst frames turn (None ∷ slots) lines end burst line lists =
+    ap (λ l. shown frames turn.slots Silence ++ l) (marks_burst frames (turn_passed turn) slots lines end burst line lists)
+    ∙ sym (append_assoc (shown frames turn.slots Silence) _ _)
+marks_burst frames turn (Some b ∷ slots) [] end burst line lists = absurd lists
+marks_burst frames turn (Some b ∷ slots) (one ∷ lines) end burst line (first, lists) =
+    ap (λ l. shown frames turn.slots (mark_of one) ++ l)
+    (marks_burst frames (turn_after one b turn) slots lines end burst line lists)
+    ∙ sym (append_assoc (shown frames turn.slots (mark_of one)) _ _)
+
+-- What is read and drawn of a slot more.
+pub record IsOneMore (recording : Recording) (frames : Frames) (slots : List Slot) (lines : List BurstLine) (turn : Turn)
+    (slot : Slot) (mark : Mark) (end : Turn) (a c : Option (List ℕ)) : Type 0 where
+  pub listed : IsListed recording (slots ++ slot ∷ []) [] end a c None None
+  pub marks : marks_of frames 0 (slots ++ slot ∷ []) listed.lines ≡ marks_of frames 0 slots lines ++ shown frames turn.slots mark
+
+pub one_more : (recording : Recording) (frames : Frames) (slots : List Slot) (turn : Turn) (slot : Slot) (mark : Mark) (end : Turn)
+    (a b c : Option (List ℕ)) (listed : IsListed recording slots [] turn a b None None) → IsSlotOf recording slot
+    → Consumes b c (spelling recording slot) → IsMarkAt turn slot mark end
+    → IsOneMore recording frames slots listed.lines turn slot mark end a c
+unfolding listed_silence listed_burst
+one_more recording frames slots turn None mark end a b c listed is_slot read (silent, later) = rw (silent, later) (record {
+  listed = listed_silence recording slots turn a b c None None listed read;
+  marks = marks_silent frames begun slots listed.lines turn listed.listed;
+})
+one_more recording frames slots turn (Some burst) mark end a b c listed is_slot read (line, at, same, later) =
+    rw (same, later) (record {
+      listed = listed_burst recording slots turn burst line a b c None None None listed is_slot read at tt;
+      marks = marks_burst frames begun slots listed.lines turn burst line listed.listed;
+    })
+
+-- a strip has as many marks as it shows
+strip_long : (rest : List (Place × Mark)) (strip : Picture) → IsStripOf rest strip → length strip.marks ≡ length rest
+strip_long [] strip none = ap length none
+strip_long (first ∷ more) strip (frame, marks) = ap length marks ∙ length-map (first ∷ more) (λ (m : Place × Mark). m.1)
+
+-- the mark of a slot more, where it is shown
+strip_shown : (is_shown : Bool) (rest : List (Place × Mark)) (strip : Picture) (place : Place) (mark : Mark) → IsStripOf rest strip
+    → IsStripOf (rest ++ (if is_shown then (place, mark) ∷ [] else [])) (if is_shown then pushed place mark strip else strip)
+strip_shown true rest strip place mark is = strip_more rest strip place mark is
+strip_shown false rest strip place mark is = subst (λ l. IsStripOf l strip) (sym (append-nil rest)) is
+
+few_shown : (is_shown : Bool) (place : Place) (mark : Mark)
+    → length {A = Place × Mark} (if is_shown then (place, mark) ∷ [] else []) ≤ 1
+few_shown true place mark = omega arith
+few_shown false place mark = omega arith
+
+pub drawn_none : (recording : Recording) (frames : Frames) (left : Option (List ℕ)) (strip : Picture)
+    (given : Option (List Picture))
+    → strip.marks ≡ [] → IsDrawn recording frames [] [] begun left left strip given given
+drawn_none recording frames left strip given none = record {
+  listed = listed_none recording left None;
+  full = [];
+  rest = [];
+  marks = refl;
+  strips = [];
+  drawn = refl;
+  whole = refl;
+  few = omega arith;
+  waits = none;
+  given = Gains-none given;
+}
+
+-- a slot more was read, and its mark went to the strip that waits
+pub drawn_pushed : (recording : Recording) (frames : Frames) (slots : List Slot) (turn : Turn) (slot : Slot) (mark : Mark)
+    (end : Turn) (place : Place) (a b c : Option (List ℕ)) (strip : Picture) (d e : Option (List Picture))
+    → IsDrawn recording frames slots [] turn a b strip d e → length strip.marks < most_marks → IsSlotOf recording slot
+    → Consumes b c (spelling recording slot) → IsMarkAt turn slot mark end → place ≡ place_of turn.slots
+    → IsDrawn recording frames (slots ++ slot ∷ []) [] end a c (pushed_in frames place mark strip) d e
+drawn_pushed recording frames slots turn slot mark end place a b c strip d e drawn room is_slot read marked at =
+    let more = one_more recording frames slots turn slot mark end a b c drawn.listed is_slot read marked in
+    let next = shown frames turn.slots mark in
+    let is_shown = has frames (turn.slots / 2) in
+    rw at (record {
+      listed = more.listed;
+      full = drawn.full;
+      rest = drawn.rest ++ next;
+      marks = more.marks ∙ ap (λ l. l ++ next) drawn.marks ∙ append_assoc drawn.full drawn.rest next;
+      strips = drawn.strips;
+      drawn = drawn.drawn;
+      whole = drawn.whole;
+      few = omega (
+        arith,
+        room,
+        strip_long drawn.rest strip drawn.waits,
+        length-append drawn.rest next,
+        few_shown is_shown (place_of
+            turn.slots) mark,
+      );
+      waits = strip_shown is_shown drawn.rest strip (place_of turn.slots) mark drawn.waits;
+      given = drawn.given;
+    })
+
+pub turn_later : (turn : Turn) (slot : Slot) (mark : Mark) (end : Turn) → IsMarkAt turn slot mark end → end.slots ≡ turn.slots + 1
+turn_later turn None mark end (silent, later) = ap (λ (t : Turn). t.slots) later
+turn_later turn (Some burst) mark end (line, at, same, later) = ap (λ (t : Turn). t.slots) later
+
+-- the strip that waited was given, and another one waits
+drawn_full : (recording : Recording) (frames : Frames) (slots : List Slot) (turn : Turn) (a b : Option (List ℕ))
+    (strip waiting : Picture) (d e f : Option (List Picture)) → IsDrawn recording frames slots [] turn a b strip d e
+    → length strip.marks ≡ most_marks → waiting.marks ≡ [] → Gains e f (strip ∷ [])
+    → IsDrawn recording frames slots [] turn a b waiting d f
+drawn_full recording frames slots turn a b strip waiting d e f drawn full none given =
+    let long = strip_long drawn.rest strip drawn.waits in
+    record {
+      listed = drawn.listed;
+      full = drawn.full ++ drawn.rest;
+      rest = [];
+      marks = drawn.marks ∙ sym (append-nil (drawn.full ++ drawn.rest));
+      strips = drawn.strips ++ strip ∷ [];
+      drawn = strips_more drawn.full drawn.rest drawn.strips strip drawn.drawn drawn.whole (omega (arith, long, full)) drawn.few
+          drawn.waits;
+      whole = omega (arith, drawn.whole, long, full, length-append drawn.full drawn.rest, length_push drawn.strips strip);
+      few = omega arith;
+      waits = none;
+      given = Gains-trans d e f drawn.strips (strip ∷ []) drawn.given given;
+    }
+
+drawn_waits : (recording : Recording) (frames : Frames) (slots : List Slot) (turn : Turn) (a b : Option (List ℕ))
+    (strip waiting : Picture) (d e f : Option (List Picture)) → IsDrawn recording frames slots [] turn a b strip d e
+    → waiting ≡ strip → Gains e f [] → IsDrawn recording frames slots [] turn a b waiting d f
+drawn_waits recording frames slots turn a b strip waiting d e f drawn same given = rw same (record {
+  listed = drawn.listed;
+  full = drawn.full;
+  rest = drawn.rest;
+  marks = drawn.marks;
+  strips = drawn.strips;
+  drawn = drawn.drawn;
+  whole = drawn.whole;
+  few = drawn.few;
+  waits = drawn.waits;
+  given = subst (Gains d f) (append-nil drawn.strips) (Gains-trans d e f drawn.strips [] drawn.given given);
+})
+
+-- the strip that waits was given where it is full
+pub drawn_given : (recording : Recording) (frames : Frames) (slots : List Slot) (turn : Turn) (a b : Option (List ℕ))
+    (strip waiting : Picture) (d e f : Option (List Picture)) → IsDrawn recording frames slots [] turn a b strip d e
+    → IsGivenWhereFull strip waiting e f → IsDrawn recording frames slots [] turn a b waiting d f
+drawn_given recording frames slots turn a b strip waiting d e f drawn given =
+    let few : length strip.marks ≤ most_marks = omega (arith, strip_long drawn.rest strip drawn.waits, drawn.few) in
+    elim (eq-or-lt_of_le few) [
+      | inl full ↦ drawn_full recording frames slots turn a b strip waiting d e f drawn full (given.full full).0 (given.full full).1
+      | inr less ↦ drawn_waits recording frames slots turn a b strip waiting d e f drawn (given.other less).0 (given.other less).1
+    ]
+
+-- Strips and what they show, behind all that was given.
+pub record IsFinished (marks : List (Place × Mark)) (given_old given_new : Option (List Picture)) : Type 0 where
+  pub strips : List Picture
+  pub drawn : AreStrips marks strips
+  pub given : Gains given_old given_new strips
+
+unless_some : (strip : Picture) → 0 < length strip.marks → unless_empty strip ≡ strip ∷ []
+unless_some strip some = ap (λ (is_empty : Bool). if is_empty then [] else strip ∷ []) (ne_eqb (length strip.marks) 0 (λ none.
+    absurd (omega arith)))
+
+-- the strip of the last marks was given, unless there are none
+finished : (full rest : List (Place × Mark)) (strips : List Picture) (strip : Picture) (d e f : Option (List Picture))
+    → AreStrips full strips → length full ≡ most_marks * length strips → length rest ≤ most_marks → IsStripOf rest strip
+    → Gains d e strips → Gains e f (unless_empty strip) → IsFinished (full ++ rest) d f
+finished full [] strips strip d e f drawn whole few none given last = record {
+  strips = strips;
+  drawn = subst (λ l. AreStrips l strips) (sym (append-nil full)) drawn;
+  given = subst (Gains d f) (append-nil strips) (Gains-trans d e f strips [] given (rw none at last));
+}
+finished full (first ∷ more) strips strip d e f drawn whole few (frame, marks) given last = record {
+  strips = strips ++ strip ∷ [];
+  drawn = strips_more full (first ∷ more) strips strip drawn whole (omega arith) few (frame, marks);
+  given = Gains-trans d e f strips (strip ∷ []) given
+      (subst (Gains e f) (unless_some strip (omega (arith, strip_long (first ∷ more) strip (frame, marks)))) last);
+}
+
+-- some octets more, and no mark
+pub drawn_part : (recording : Recording) (frames : Frames) (slots : List Slot) (part : List ℕ) (turn : Turn)
+    (a b c : Option (List ℕ)) (strip : Picture) (d e : Option (List Picture)) → IsDrawn recording frames slots [] turn a b strip d e
+    → Consumes b c part → IsDrawn recording frames slots part turn a c strip d e
+unfolding listed_part
+drawn_part recording frames slots part turn a b c strip d e drawn read = record {
+  listed = listed_part recording slots part turn a b c None None None drawn.listed read tt;
+  full = drawn.full;
+  rest = drawn.rest;
+  marks = drawn.marks;
+  strips = drawn.strips;
+  drawn = drawn.drawn;
+  whole = drawn.whole;
+  few = drawn.few;
+  waits = drawn.waits;
+  given = drawn.given;
+}
+
+pub stripped : (recording : Recording) (frames : Frames) (slots : List Slot) (part : List ℕ) (turn : Turn) (a b : Option (List ℕ))
+    (strip : Picture) (d e f : Option (List Picture)) → IsDrawn recording frames slots part turn a b strip d e
+    → Gains e f (unless_empty strip) → IsStripped recording frames slots part turn a b d f
+stripped recording frames slots part turn a b strip d e f drawn last =
+    let end = finished drawn.full drawn.rest drawn.strips strip d e f drawn.drawn drawn.whole drawn.few drawn.waits drawn.given
+    last in
+    record {
+      listed = drawn.listed;
+      strips = end.strips;
+      drawn = subst (λ l. AreStrips l end.strips) (sym drawn.marks) end.drawn;
+      given = end.given;
+    }
+
+-- the strip that waits could not be given
+pub stripped_up_to_strip : (recording : Recording) (frames : Frames) (slots : List Slot) (part : List ℕ) (turn : Turn)
+    (a b : Option (List ℕ)) (strip : Picture) (d e f : Option (List Picture))
+    → IsDrawn recording frames slots part turn a b strip d e → 0 < length strip.marks → Gains e f []
+    → IsStrippedUpToStrip recording frames a b d f
+stripped_up_to_strip recording frames slots part turn a b strip d e f drawn some given =
+    let long = strip_long drawn.rest strip drawn.waits in
+    record {
+      slots = slots;
+      part = part;
+      end = turn;
+      listed = drawn.listed;
+      strips = drawn.strips;
+      last = strip;
+      drawn = subst (λ l. AreStrips l (drawn.strips ++ strip ∷ [])) (sym drawn.marks)
+          (strips_more drawn.full drawn.rest drawn.strips
+          strip drawn.drawn drawn.whole (omega (arith, long, some)) drawn.few drawn.waits);
+      given = subst (Gains d f) (append-nil drawn.strips) (Gains-trans d e f drawn.strips [] drawn.given given);
+    }
+
+-- the strip that waits is full, and could not be given
+pub full_up_to_strip : (recording : Recording) (frames : Frames) (slots : List Slot) (turn : Turn) (a b : Option (List ℕ))
+    (strip waiting : Picture) (d e f : Option (List Picture)) → IsDrawn recording frames slots [] turn a b strip d e
+    → (length strip.marks ≡ most_marks) × (waiting ≡ strip) × Gains e f [] → IsStrippedUpToStrip recording frames a b d f
+full_up_to_strip recording frames slots turn a b strip waiting d e f drawn (full, same, given) =
+    stripped_up_to_strip recording frames slots [] turn a b strip d e f drawn (omega (arith, full)) given

@@ -1,0 +1,91 @@
+//! What stands in a slot, as one letter.
+ghost use Rattle.std.specs.Prelude.{◌≡◌};
+ghost use Rattle.dmr_listing.specs.Marks.{mark_of, mark_of_type};
+
+use crate::burst_line::{BurstLine, place_letter};
+use crate::voice_place::VoicePlace;
+use dmr_report::Reading;
+use std::fmt;
+
+/// What stands in a slot of a frame: what a strip shows of it.
+#[derive(Clone, Copy, Debug, Default, PartialEq, Eq, Drop)]
+pub enum Mark {
+    /// Nothing.
+    #[default]
+    Silence,
+    /// A PI header.
+    PrivacyHeader,
+    /// A voice LC header.
+    VoiceHeader,
+    /// A voice burst, in its place of a superframe, if it stands in one.
+    Voice(Option<VoicePlace>),
+    /// A terminator with LC.
+    Terminator,
+    /// A control signalling block.
+    ControlBlock,
+    /// A part of a multi block control or a unified single block.
+    MultiBlock,
+    /// A data header.
+    DataHeader,
+    /// A block of rate 1/2, rate 3/4 or rate 1 data.
+    DataBlock,
+    /// An idle burst.
+    Idle,
+    /// A burst that can't be read, or whose data type can't or has no name.
+    Unreadable,
+}
+
+/// The mark of a data burst of a type. ETSI TS 102 361-1, clause 9.3.6.
+fn mark_of_type(kind: u8) -> Mark
+    ensures value { result ≡ mark_of_type kind }
+{
+    match kind {
+        0 => Mark::PrivacyHeader,
+        1 => Mark::VoiceHeader,
+        2 => Mark::Terminator,
+        3 => Mark::ControlBlock,
+        4 | 5 | 11 => Mark::MultiBlock,
+        6 => Mark::DataHeader,
+        7 | 8 | 10 => Mark::DataBlock,
+        9 => Mark::Idle,
+        _ => Mark::Unreadable,
+    }
+}
+
+impl Mark {
+    /// The mark of the burst that has this line.
+    pub fn of_line(line: &BurstLine) -> Mark
+        ensures value { result ≡ mark_of line.now }
+    {
+        match line.reading {
+            Reading::Data(_, slot_type, _) => mark_of_type(slot_type.kind),
+            Reading::VoiceSync(_) | Reading::Voice(_) => Mark::Voice(line.voice_place),
+            Reading::Untyped(_) | Reading::Unreadable => Mark::Unreadable,
+        }
+    }
+
+    /// The letter that stands for it.
+    fn letter(self) -> char {
+        match self {
+            Mark::Silence => '.',
+            Mark::PrivacyHeader => 'P',
+            Mark::VoiceHeader => 'H',
+            Mark::Voice(None) => 'v',
+            Mark::Voice(place) => place_letter(place),
+            Mark::Terminator => 'T',
+            Mark::ControlBlock => 'c',
+            Mark::MultiBlock => 'm',
+            Mark::DataHeader => 'D',
+            Mark::DataBlock => 'b',
+            Mark::Idle => 'i',
+            Mark::Unreadable => '?',
+        }
+    }
+}
+
+impl fmt::Display for Mark {
+    fn fmt<W: fmt::Write>(&self, f: &mut fmt::Formatter<W>) -> fmt::Result {
+        let letter = self.letter();
+        write!(f, "{letter}")
+    }
+}

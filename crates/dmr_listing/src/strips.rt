@@ -1,0 +1,146 @@
+//! The strips of a whole recording.
+ghost use Rattle.std.specs.Prelude.{◌≡◌, ◌*◌, ◌<◌, ◌∷◌, [], ℕ, Option, List, Bool, false, true, length};
+ghost use Rattle.std.specs.Prelude.{IfOk, IfErr, OnOk, OnErr};
+ghost use Rattle.std.specs.Io.KnownBytes.{IsAtEnd};
+ghost use Rattle.dmr_record.specs.Devices.{failed_after};
+ghost use Rattle.dmr_record.specs.Faults.{is_of_end, is_device_fault};
+ghost use Rattle.dmr_listing.specs.Endings.{IfFile, IfOutput};
+ghost use Rattle.dmr_listing.specs.Listings.{Gains, Turn};
+ghost use Rattle.dmr_listing.specs.Recordings.{Slot};
+ghost use Rattle.dmr_listing.specs.Strips.{IsGivenWhereFull, IsStripped, IsStrippedUpToFault, IsStrippedUpToStrip};
+ghost use Rattle.dmr_listing.specs.Strips.{Picture, pushed_in, unless_empty};
+
+use crate::fault_line::FaultLine;
+use crate::frames::Frames;
+use crate::listing::{HEAD_OCTETS, ListingEnd};
+use crate::mark::Mark;
+use crate::place::Place;
+use crate::recording::{Recording, read_recording, record_octets};
+use crate::recording_view::RecordingView;
+use crate::strip::Strip;
+use crate::summary::RecordingSummary;
+use dmr_record::{DeviceFault, Source};
+
+/// Where the strips of a recording go.
+pub trait StripLines {
+    /// The strips that were given to it, where it tells them.
+    ghost given: { Self → Option (List Picture) };
+
+    /// Whether it has failed.
+    ghost has_failed: { Self → Bool };
+
+    /// What no strip changes of it, such as the name of a sink that it holds and prints to.
+    ghost kept: { Self → ℕ };
+
+    /// Takes a strip. At an `Err` it didn't, and has failed from then on.
+    fn put_strip(&mut self, strip: &Strip) -> Result<(), DeviceFault>
+        ensures strip { OnOk result (Gains (given self.old) (given self.new) (strip.now ∷ [])) }
+        ensures none { OnErr result (Gains (given self.old) (given self.new) []) }
+        ensures failure { has_failed self.new ≡ failed_after (has_failed self.old) result }
+        ensures kept { kept self.new ≡ kept self.old };
+}
+
+/// Adds the mark of a slot to a strip, where its frame is asked for. A strip that is full then is given, and begun anew.
+fn add<L: StripLines>(
+    strip: &mut Strip,
+    frames: Frames,
+    place: Place,
+    mark: Mark,
+    lines: &mut L,
+) -> Result<(), DeviceFault>
+    requires room { length strip.old.marks < 100 }
+    ensures given { OnOk result (IsGivenWhereFull (pushed_in frames place mark strip.old) strip.new
+        (L.given lines.old) (L.given lines.new)) }
+    ensures room { OnOk result (length strip.new.marks < 100) }
+    ensures none { OnErr result ((length (pushed_in frames place mark strip.old).marks ≡ 100)
+        × (strip.new ≡ pushed_in frames place mark strip.old) × Gains (L.given lines.old) (L.given lines.new) []) }
+    ensures failure { L.has_failed lines.new ≡ failed_after (L.has_failed lines.old) result }
+    ensures kept { L.kept lines.new ≡ L.kept lines.old }
+{
+    if frames.has(place.frame) {
+        strip.push(place, mark);
+    }
+    if !strip.is_full() {
+        return Ok(());
+    }
+    lines.put_strip(strip)?;
+    *strip = Strip::new();
+    Ok(())
+}
+
+/// Gives the strip of the last marks, unless there are none.
+fn put_rest<L: StripLines>(strip: &Strip, lines: &mut L) -> Result<(), DeviceFault>
+    ensures given { OnOk result (Gains (L.given lines.old) (L.given lines.new) (unless_empty strip.now)) }
+    ensures none { OnErr result ((0 < length strip.now.marks) × Gains (L.given lines.old) (L.given lines.new) []) }
+    ensures failure { L.has_failed lines.new ≡ failed_after (L.has_failed lines.old) result }
+    ensures kept { L.kept lines.new ≡ L.kept lines.old }
+{
+    if strip.is_empty() {
+        return Ok(());
+    }
+    lines.put_strip(strip)
+}
+
+/// Gives the strips of a recording, in their order, as far as the recording can be read: what stands in both slots of each of these
+/// frames. The source stands behind the head. A fault tells the slot that shows it, and the octet at which its record begins.
+pub fn strip_recording<S: Source, L: StripLines>(
+    source: &mut S,
+    recording: Recording,
+    frames: Frames,
+    lines: &mut L,
+) -> Result<RecordingSummary, ListingEnd>
+    requires source { S.has_failed source.old ≡ false }
+    requires lines { L.has_failed lines.old ≡ false }
+    // All slots were read to the end, and their strips given.
+    ensures all { IfOk result (λ summary. (slots : List Slot) × (end : Turn)
+        × IsStripped recording frames slots [] end (S.left source.old) (S.left source.new) (L.given lines.old) (L.given lines.new)
+        × (2 * summary.frames ≡ length slots) × (summary.bursts ≡ end.bursts)) }
+    ensures end { OnOk result (IsAtEnd (S.left source.new)) }
+    // Or the slots before the one that shows the fault.
+    ensures fault { IfErr result (λ e. IfFile e (λ fault. IsStrippedUpToFault recording frames fault
+        (S.left source.old) (S.left source.new) (L.given lines.old) (L.given lines.new))) }
+    ensures cut { IfErr result (λ e. IfFile e (λ fault. is_of_end fault.fault ≡ true → IsAtEnd (S.left source.new))) }
+    // Or the strips before the one that could not be given.
+    ensures output { IfErr result (λ e. IfOutput e (IsStrippedUpToStrip recording frames
+        (S.left source.old) (S.left source.new) (L.given lines.old) (L.given lines.new))) }
+    // `Read` is told exactly where the source failed, and `Output` where the lines did.
+    ensures source { IfErr result (λ e. IfFile e (λ fault. S.has_failed source.new ≡ is_device_fault fault.fault)) }
+    ensures lines { IfErr result (λ e. IfOutput e (L.has_failed lines.new ≡ true)) }
+    ensures others { IfErr result (λ e. IfFile e (λ fault. L.has_failed lines.new ≡ false)) }
+    ensures well { OnOk result ((S.has_failed source.new ≡ false) × (L.has_failed lines.new ≡ false)) }
+    ensures kept { L.kept lines.new ≡ L.kept lines.old }
+{
+    let mut view = RecordingView::new();
+    let mut strip = Strip::new();
+    let mut octet = HEAD_OCTETS;
+    loop {
+        let slot = match read_recording(source, recording, view.slots()) {
+            Ok(Some(slot)) => slot,
+            Ok(None) => {
+                if put_rest(&strip, lines).is_err() {
+                    return Err(ListingEnd::Output);
+                }
+                let frames = view.slots() / 2;
+                let bursts = view.bursts();
+                return Ok(RecordingSummary { frames, bursts });
+            }
+            Err(fault) => {
+                if put_rest(&strip, lines).is_err() {
+                    return Err(ListingEnd::Output);
+                }
+                let place = Some(Place::of_slot(view.slots()));
+                return Err(ListingEnd::File(FaultLine {
+                    fault,
+                    octet,
+                    place,
+                }));
+            }
+        };
+        octet += record_octets(recording, &slot);
+        let place = Place::of_slot(view.slots());
+        let mark = view.mark(&slot);
+        if add(&mut strip, frames, place, mark, lines).is_err() {
+            return Err(ListingEnd::Output);
+        }
+    }
+}
