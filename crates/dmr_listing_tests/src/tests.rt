@@ -5,11 +5,12 @@ use dmr_link::FullLc;
 use dmr_listing::{
     BurstCounts, BurstLine, BurstLines, Contents, FaultLine, Frames, ListingEnd, Mark,
     OutgoingLine, Place, ReceivedLine, RecordedBurst, Recording, RecordingSummary, SlotView, Strip,
-    StripLines, VoicePlace, VoicePlaces, list_recording, strip_recording,
+    StripLine, StripLines, VoicePlace, VoicePlaces, list_recording, strip_recording,
 };
 use dmr_record::{DeviceFault, FromRead, Received, ReceivedKind, RecordFault, read_outgoing};
 use dmr_report::Reading;
 use hex::FromHex;
+use std::alloc::AllocError;
 use std::fmt::Write;
 use std::test::Fail;
 
@@ -386,6 +387,20 @@ fn letters(rt: HostRuntime) -> Result<(), Fail> {
     Ok(())
 }
 
+impl Taken {
+    ghost use Rattle.std.specs.Prelude.{◌≡◌};
+
+    /// Takes a line, where there is one.
+    fn take(&mut self, line: Option<StripLine<'_>>) -> Result<(), AllocError>
+        ensures well { self.new.is_failed ≡ self.old.is_failed }
+    {
+        match line {
+            Some(line) => writeln!(self.text, "{line}"),
+            None => Ok(()),
+        }
+    }
+}
+
 impl StripLines for Taken {
     ghost use Rattle.std.specs.Prelude.{None};
 
@@ -396,13 +411,12 @@ impl StripLines for Taken {
     ghost kept = { λ taken. 0 };
 
     fn put_strip(&mut self, strip: &Strip) -> Result<(), DeviceFault> {
-        for slot in [1, 2] {
-            if let Some(line) = strip.line(slot) {
-                if self.room == 0 || writeln!(self.text, "{line}").is_err() {
-                    self.is_failed = true;
-                    return Err(DeviceFault);
-                }
-            }
+        if self.room == 0
+            || self.take(strip.line(1)).is_err()
+            || self.take(strip.line(2)).is_err()
+        {
+            self.is_failed = true;
+            return Err(DeviceFault);
         }
         Ok(())
     }
