@@ -95,8 +95,6 @@ def check(report):
         shim = pathlib.Path(folder) / "failing.so"
         source = report.top / "scripts/failing.c"
         subprocess.run([compiler, "-O1", "-shared", "-fPIC", "-o", shim, source, "-ldl"], check=True)
-        # Past the script that builds, so that what fails is the program's own.
-        report.program, script = report.top / "crates/dmr_program/out/dmrgate", report.program
         ran = room.run()
         wanted = ran.out, room.outputs()
         report.expect("a whole run", (ran.status, ran.err) == (0, b""), ran)
@@ -120,4 +118,3 @@ def check(report):
         expect_traffic(report, "ten frames", ran)
         short = check_memory(report, Failing(report, room, shim, (ran.out, room.outputs())))
         report.expect("ten frames want memory as often as 3,000", short == growths, f"{short} and {growths}")
-        report.program = script

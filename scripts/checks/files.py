@@ -119,7 +119,6 @@ def check_standard_streams(report):
 
 def check_closed_streams(report):
     """No file of a run takes the place of a standard stream that is closed, where what is printed would get into it."""
-    report.program, script = report.top / "crates/dmr_program/out/dmrgate", report.program
     whole = (report.top / "samples/one_csbk/downlink.dmrd").read_bytes()
     for uplink, downlink in ((it.ONE_CSBK, whole), (it.UPLINK_HEAD + b"\0", it.DOWNLINK_HEAD + b"\0\0")):
         for closed in ([0], [1], [2], [0, 1], [0, 2], [1, 2], [0, 1, 2]):
@@ -130,7 +129,6 @@ def check_closed_streams(report):
                 report.expect(f"{name}: the outputs", room.outputs() == [downlink, it.RECEIVED_HEAD], room.outputs())
                 is_printed = uplink == it.ONE_CSBK and 1 not in closed
                 report.expect(f"{name}: the status", ran.status == (0 if is_printed else 1), ran)
-    report.program = script
 
 
 def check_pipes(report):

@@ -25,6 +25,8 @@ def check_tested_recordings(report):
 
 
 def check(report):
+    """As users start it: by the script."""
+    report.program = report.script
     folders = sorted(it for it in (report.top / "samples").iterdir() if it.is_dir())
     report.expect("there are samples", folders)
     check_tested_recordings(report)

@@ -179,7 +179,7 @@ def check_longest(report):
     """The longest recording through a pipe, with a burst every hundred frames, in a process with little memory."""
     block = b"\1" + it.CSBK + bytes(199)
     given = it.UPLINK_HEAD + block * (it.LIMIT // 100) + bytes(2 * (it.LIMIT % 100))
-    command = f"ulimit -v 65536; exec {report.top}/crates/dmr_program/out/dmrgate show -"
+    command = f"ulimit -v 65536; exec {report.built} show -"
     ran = subprocess.run(["sh", "-c", command], input=given, capture_output=True)
     count = it.LIMIT // 100
     last = f"frames {it.LIMIT} seconds {it.LIMIT * 6 // 100}.{it.LIMIT * 6 % 100:02} slot-1 {count} slot-2 0 unreadable 0"
