@@ -6,7 +6,6 @@
 //! from.
 #![tactic(auto)]
 
-mod command;
 mod obeying;
 mod process;
 mod request;

@@ -4,10 +4,10 @@ ghost use Rattle.clap.specs.Words.{found_of};
 ghost use Rattle.dmr_command.specs.Request.{ArePlacesOf, AreSettingsOf, IsAskedBy, IsFilterOf, IsFormOf, IsNumberOf};
 ghost use Rattle.dmr_command.specs.Request.{IsPlaceOf, text_of};
 
-use crate::command::command;
 use clap::{ArgMatches, Error};
 use dmr_files::{Place, Places};
 use dmr_gateway::{Config, ConfigFault};
+use dmr_options::command;
 use dmr_show::{Filter, Form};
 use std::alloc::Global;
 use std::convert::AsStr;
