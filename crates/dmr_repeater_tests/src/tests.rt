@@ -1,6 +1,6 @@
 //! Runs over memory: recordings from outside, files at fault, and devices that fail.
 //!
-//! No test takes `?`: each early end beside octets that are then dropped costs as much proof as five calls.
+//! No test takes `?`: an early end beside octets that are then dropped makes its proof several times as long.
 ghost use Rattle.std.specs.Prelude.{◌≡◌, false};
 
 mod faults;

@@ -210,8 +210,8 @@ fn run_failing(
     }
 }
 
-/// Lets each call of a stream's device fail in turn, up to a whole run: that is told, and what is written before is a front. Answers
-/// how many calls failed.
+/// Lets each call of a stream's device fail in turn, up to a whole run: the fault is told, and what is written before is a front.
+/// Answers how many calls failed.
 fn fail_in_turn(
     rt: &impl Abort,
     alloc: Global,
@@ -258,8 +258,8 @@ fn failing_reads(rt: HostRuntime) {
     }
 }
 
-// Of the downlink the two pieces of the head, and each of fourteen slots; of the received file the two pieces of the head, and those
-// of a status.
+// Of the downlink the two pieces of the head, and each of fourteen slots; of the received file the two pieces of the head, and
+// those of a status.
 #[test]
 fn failing_writes(rt: HostRuntime) {
     let status = status_burst();

@@ -1,7 +1,7 @@
 //! Recordings of radios, and what goes out and is received for them with the settings of the command line: outside vectors, made by
 //! another implementation. The files of `samples/` hold the same octets.
 //!
-//! Each is a constant of its own, and its digits are octets: a proof of a list of them, or of text, costs twenty times as much.
+//! The digits are octets, since a proof about text of this length takes minutes.
 
 use dmr_repeater::Summary;
 
@@ -28,7 +28,7 @@ const NO_FRAMES: Summary = Summary {
     unoffered: 0,
 };
 
-pub const CALL: Sample = Sample {
+pub static CALL: Sample = Sample {
     name: "call",
     uplink: b"\
     444D525501000000010010015E028812380E304440046D5D7F77FD757E322C0328019007A005410D005500014420823C\
@@ -69,7 +69,7 @@ pub const CALL: Sample = Sample {
     },
 };
 
-pub const CALL_LOST_AND_LATE_ENTRY: Sample = Sample {
+pub static CALL_LOST_AND_LATE_ENTRY: Sample = Sample {
     name: "call_lost_and_late_entry",
     uplink: b"\
     444D525501000000010010015E028812380E304440046D5D7F77FD757E322C0328019007A005410D005500014420823C\
@@ -131,7 +131,7 @@ pub const CALL_LOST_AND_LATE_ENTRY: Sample = Sample {
     },
 };
 
-pub const CALL_WITH_ABSENT_PLACES: Sample = Sample {
+pub static CALL_WITH_ABSENT_PLACES: Sample = Sample {
     name: "call_with_absent_places",
     uplink: b"\
     444D525501000000010010015E028812380E304440046D5D7F77FD757E322C0328019007A005410D005500014420823C\
@@ -182,7 +182,7 @@ pub const CALL_WITH_ABSENT_PLACES: Sample = Sample {
     },
 };
 
-pub const CALL_WITH_GAP: Sample = Sample {
+pub static CALL_WITH_GAP: Sample = Sample {
     name: "call_with_gap",
     uplink: b"\
     444D525501000000010010015E028812380E304440046D5D7F77FD757E322C0328019007A005410D0055000000000000\
@@ -227,7 +227,7 @@ pub const CALL_WITH_GAP: Sample = Sample {
     },
 };
 
-pub const ONE_CSBK: Sample = Sample {
+pub static ONE_CSBK: Sample = Sample {
     name: "one_csbk",
     uplink: b"\
     444D525501000000010062008201900100042004E004CD5D7F77FD757AC81800280250028000C012002200\
@@ -245,7 +245,7 @@ pub const ONE_CSBK: Sample = Sample {
     },
 };
 
-pub const DAMAGED_EMBEDDED_WORD: Sample = Sample {
+pub static DAMAGED_EMBEDDED_WORD: Sample = Sample {
     name: "damaged_embedded_word",
     uplink: b"\
     444D525501000000010010015E028812380E304440046D5D7F77FD757E322C0328019007A005410D005500014420823C\
@@ -288,7 +288,7 @@ pub const DAMAGED_EMBEDDED_WORD: Sample = Sample {
     },
 };
 
-pub const LATE_ENTRY: Sample = Sample {
+pub static LATE_ENTRY: Sample = Sample {
     name: "late_entry",
     uplink: b"\
     444D525501000000014420823CFDE6F1C26B30F90EC7D170300060A74D01E4887534A20F0B0D04C36ED800010E71E0FD\
@@ -336,7 +336,7 @@ pub const LATE_ENTRY: Sample = Sample {
     },
 };
 
-pub const OTHER_COLOUR: Sample = Sample {
+pub static OTHER_COLOUR: Sample = Sample {
     name: "other_colour",
     uplink: b"\
     444D525501000000010010015E028812380E304440046D5D7F77FD757E322C0328019007A005410D0055010062008201\
@@ -378,7 +378,7 @@ pub const OTHER_COLOUR: Sample = Sample {
     },
 };
 
-pub const PRIVACY_HEADER: Sample = Sample {
+pub static PRIVACY_HEADER: Sample = Sample {
     name: "privacy_header",
     uplink: b"\
     444D525501000000010010015E028812380E304440046D5D7F77FD757E322C0328019007A005410D0055000107E3065E\
@@ -407,7 +407,7 @@ pub const PRIVACY_HEADER: Sample = Sample {
     },
 };
 
-pub const TALKER_ALIAS: Sample = Sample {
+pub static TALKER_ALIAS: Sample = Sample {
     name: "talker_alias",
     uplink: b"\
     444D525501000000010010015E028812380E304440046D5D7F77FD757E322C0328019007A005410D005500014420823C\
@@ -478,7 +478,7 @@ pub const TALKER_ALIAS: Sample = Sample {
     },
 };
 
-pub const DATAGRAM_SENT: Sample = Sample {
+pub static DATAGRAM_SENT: Sample = Sample {
     name: "datagram_sent",
     uplink: b"\
     444D525501000000010062008201900100042004E004CD5D7F77FD757AC81800280250028000C0120022000000000000\
@@ -516,7 +516,7 @@ pub const DATAGRAM_SENT: Sample = Sample {
     },
 };
 
-pub const DATAGRAM_PLAIN: Sample = Sample {
+pub static DATAGRAM_PLAIN: Sample = Sample {
     name: "datagram_plain",
     uplink: b"444D5255010000000000000000000000000000000000000000000000",
     outgoing: b"\
@@ -548,7 +548,7 @@ pub const DATAGRAM_PLAIN: Sample = Sample {
     },
 };
 
-pub const CONFIRMED_PACKET_RECEIVED: Sample = Sample {
+pub static CONFIRMED_PACKET_RECEIVED: Sample = Sample {
     name: "confirmed_packet_received",
     uplink: b"\
     444D5255010000000100620319048A00880A502A41058D5D7F77FD75733808205C03C6096100C85D3096000000014312\
