@@ -11,7 +11,7 @@ FILES = {"uplink": "uplink.dmru", "outgoing": "outgoing.dmro", "downlink": "down
 def tested_recordings(text):
     """The recordings that tests hold as digits: the name of each with its files."""
     for sample in re.split(r'name: (?=")', text)[1:]:
-        fields = re.findall(r'(\w+): "([^"]*)"', sample)
+        fields = re.findall(r'(\w+): b?"([^"]*)"', sample)
         yield re.match(r'"(\w+)"', sample)[1], {name: bytes.fromhex(digits.replace("\\\n", "")) for name, digits in fields}
 
 
