@@ -55,6 +55,9 @@ def check_nothing_lost(report):
         for file in ("uplink", "outgoing"):
             room.run(**{file: nowhere})
             report.expect(f"no output is made without {file}", room.outputs() == [None, None], room.outputs())
+        for file, made in (("downlink", [None, None]), ("received", [b"", None])):
+            room.run(**{file: nowhere / "file"})
+            report.expect(f"what is made without {file}", room.outputs() == made, room.outputs())
         room.downlink.write_bytes(OLD)
         room.received.write_bytes(OLD)
         for file in ("uplink", "outgoing", "downlink", "received"):

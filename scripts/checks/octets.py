@@ -26,7 +26,7 @@ def check(report):
         cut = it.ONE_DATAGRAM[:size]
         fault = "cut record" if size < 8 or 8 < size < 45 else None
         judged(report, f"outgoing list of {size} octets", it.UPLINK_HEAD, cut, faulty("outgoing", fault))
-    for turned in (0x01, 0x80, 0xFF):
+    for turned in (0x01, 0x02, 0x03, 0x04, 0x80, 0xFF):
         for at in range(len(it.ONE_CSBK)):
             bent = it.ONE_CSBK[:at] + bytes([it.ONE_CSBK[at] ^ turned]) + it.ONE_CSBK[at + 1 :]
             fault = faulty("uplink", it.uplink_fault(bent))

@@ -17,6 +17,12 @@ ONE_CSBK = UPLINK_HEAD + b"\1" + CSBK + b"\0"
 DATAGRAM = bytes.fromhex("4500001C123400004011509B0C0000010C0000021398139A0008C0A9")
 ONE_DATAGRAM = OUTGOING_HEAD + bytes.fromhex("02 00000005 01 00 001C") + DATAGRAM
 
+# The block as it is repeated in slot 1 of one frame, with its CACH, and silence in slot 2.
+ONE_FRAME = DOWNLINK_HEAD + b"\1" + bytes.fromhex("800A20") + CSBK[:14] + bytes.fromhex("FF57D75DF5DA") + CSBK[20:] + b"\0"
+
+# What a status from 3 is received as in frame 6 of slot 1: port 1 to port 2, status 5.
+ONE_STATUS = RECEIVED_HEAD + bytes.fromhex("03 00000006 01 02 000003 0004 01020005")
+
 LIMIT = 1_048_576
 
 
@@ -28,17 +34,44 @@ def head_fault(octets, magic):
     return None if octets[4:8] == b"\1\0\0\0" else "bad version"
 
 
-def uplink_fault(octets):
-    """The fault of an uplink file, or None."""
-    fault, at, slots = head_fault(octets, b"DMRU"), 8, 0
+def slots_fault(octets, magic, burst):
+    """The fault of a recording of this magic, whose bursts have so many octets with their tags, or None."""
+    fault, at, slots = head_fault(octets, magic), 8, 0
     while fault is None and at < len(octets):
         if octets[at] > 1:
             return "bad tag"
-        size = 34 if octets[at] else 1
+        size = burst if octets[at] else 1
         if at + size > len(octets):
             return "cut record"
         at, slots = at + size, slots + 1
     return fault or ("half frame" if slots % 2 else None)
+
+
+def uplink_fault(octets):
+    """The fault of an uplink file, or None."""
+    return slots_fault(octets, b"DMRU", 34)
+
+
+def downlink_fault(octets):
+    """The fault of a downlink file, or None."""
+    return slots_fault(octets, b"DMRD", 37)
+
+
+def received_fault(octets):
+    """The fault of a received file of one record, or None."""
+    fault, at = head_fault(octets, b"DMRI"), 8
+    while fault is None and at < len(octets):
+        record = octets[at : at + 12]
+        if record[0] != 3:
+            return "bad tag"
+        if len(record) < 12:
+            return "cut record"
+        if record[5] not in (1, 2) or record[6] > 2:
+            return "bad tag"
+        at += 12 + int.from_bytes(record[10:12], "big")
+        if at > len(octets):
+            return "cut record"
+    return fault
 
 
 def outgoing_fault(octets):

@@ -48,8 +48,12 @@ OUTGOINGS = [
 REFUSED = [
     (["--llid", "0"], "0 is not in 1..=16777215"),
     (["--llid", "16777216"], "16777216 is not in 1..=16777215"),
+    (["--llid", "4294967296"], "4294967296 is not in 1..=16777215"),
+    (["--llid", "one"], "invalid digit found in string"),
     (["--colour", "16"], "16 is not in 0..=15"),
     (["--color", "16"], "16 is not in 0..=15"),
+    (["--colour", "-1"], "unexpected argument '-1' found"),
+    (["--colour", "0x1"], "invalid digit found in string"),
     (["--call-hang", "65536"], "65536 is not in 0..=65535"),
     (["--channel-hang", "65536"], "65536 is not in 0..=65535"),
     (["--queue", "0"], "0 is not in 1..=64"),
@@ -60,6 +64,27 @@ REFUSED = [
     (["--colour", "1", "--colour", "2"], "cannot be used multiple times"),
     (["more"], "unexpected argument 'more' found"),
 ]
+
+# What is told of words, to the octet.
+SLOT_ALONE = """error: the following required arguments were not provided:
+  <HEX>
+
+Usage: dmrgate slot <HEX>
+
+For more information, try '--help'.
+"""
+COLOUR_16 = """error: invalid value '16' for '--colour <N>': 16 is not in 0..=15
+
+For more information, try '--help'.
+"""
+COLOURS = """error: unexpected argument '--colours' found
+
+  tip: a similar argument exists: '--colour'
+
+Usage: dmrgate run --uplink <FILE> --outgoing <FILE> --downlink <FILE> --received <FILE> --llid <N> --colour <N>
+
+For more information, try '--help'.
+"""
 
 HEXADECIMAL = "a burst is 66 hexadecimal digits"
 
@@ -102,6 +127,10 @@ def check_devices(report):
                 report.expect(f"{place} as {file}", ran.is_error(f"{file}: cannot open"), ran)
         ran = room.run(downlink="/dev/full", received="/dev/full")
         report.expect("both outputs full: the downlink's is told", ran.is_error("downlink: write failed"), ran)
+        room.uplink.write_bytes(it.UPLINK_HEAD + b"\0")
+        ran = room.run(downlink="/dev/full", received="/dev/full")
+        report.expect("a fault of the run goes before both", ran.is_error("uplink: half frame"), ran)
+        room.uplink.write_bytes(it.ONE_CSBK)
         with open("/dev/full", "wb") as full:
             ran = room.run(streams={"stdout": full})
             report.expect("standard output is full", (ran.status, ran.err) == (1, b""), ran)
@@ -129,6 +158,9 @@ def check_words(report):
             ran = room.run(*words)
             is_told = ran.status == 2 and ran.out == b"" and ran.err.startswith(b"error: ") and text in ran.err.decode()
             report.expect(f"{words}", is_told, ran)
+        for words, text in ((["--colour", 16], COLOUR_16), (["--colours", 1], COLOURS)):
+            ran = room.run(*words)
+            report.expect(f"the text of {words}", (ran.status, ran.out, ran.err.decode()) == (2, b"", text), ran)
         report.expect("nothing was written at a refused command line", room.outputs() == [None, None])
         for words in (["--llid", 16777215], ["--colour", 0], ["--colour", 15], ["--queue", 1], ["--queue", 64],
                       ["--call-hang", 0], ["--call-hang", 65535, "--channel-hang", 65535]):
@@ -144,6 +176,14 @@ def check_words(report):
         ran = report.call(*words)
         is_told = ran.status == 2 and ran.out == b"" and b"Usage: dmrgate" in ran.err
         report.expect(f"words {words}", is_told, ran)
+    ran = report.call("slot")
+    report.expect("the text of a slot without a burst", (ran.status, ran.out, ran.err.decode()) == (2, b"", SLOT_ALONE), ran)
+    with open("/dev/full", "wb") as full:
+        for words in (["--help"], ["--version"], ["slot", it.IDLE]):
+            ran = report.call(*words, stdout=full)
+            report.expect(f"{words}, and standard output is full", (ran.status, ran.err) == (1, b""), ran)
+        ran = report.call(stderr=full)
+        report.expect("no words, and standard error is full", (ran.status, ran.out) == (1, b""), ran)
     ran = report.call(b"slot", b"\xff".decode(errors="surrogateescape"))
     report.expect("words that are no text", ran.is_error("the command line is not UTF-8 text", 2), ran)
 

@@ -35,7 +35,6 @@ SENT = """outgoing list, version 1
      0.30       5 1  unconfirmed, rate 1/2, 28 octets: UDP 12.0.0.1:5016 -> 12.0.0.2:5018, 0 octets of data
 records 1
 """
-STATUS = it.RECEIVED_HEAD + bytes.fromhex("03 00000006 01 02 000003 0004 01020005")
 RECEIVED = """received list, version 1
      0.36       6 1  status from 3, 4 octets: port 1 -> 2, status 5
 records 1
@@ -62,7 +61,7 @@ def check_listing(report, name, octets, text):
 def check_texts(report):
     check_listing(report, "a call", (report.top / "samples/call/uplink.dmru").read_bytes(), CALL)
     check_listing(report, "an outgoing list", it.ONE_DATAGRAM, SENT)
-    check_listing(report, "a received list", STATUS, RECEIVED)
+    check_listing(report, "a received list", it.ONE_STATUS, RECEIVED)
     ran = report.call("show", report.top / "samples/privacy_header/downlink.dmrd")
     text = ran.out.decode()
     is_so = ran.status == 0 and text.startswith(PRIVACY_BEGINS) and text.endswith(PRIVACY_ENDS)
@@ -118,6 +117,27 @@ def check_faults(report):
             report.expect("standard output is full", (ran.status, ran.err) == (1, b""), ran)
 
 
+def judged(report, name, octets, fault):
+    """A listing ends at this fault, or at none."""
+    ran = report.call("show", "-", given=octets)
+    begins = f"error: -: {fault} at octet " if fault else ""
+    is_so = ran.status == (1 if fault else 0) and ran.err.decode().startswith(begins) and bool(ran.err) == bool(fault)
+    report.expect(name, is_so, ran)
+
+
+def check_outputs(report):
+    """What a run writes, cut to every length, and with each octet bent."""
+    files = ("downlink", it.ONE_FRAME, it.downlink_fault), ("received list", it.ONE_STATUS, it.received_fault)
+    for file, whole, fault_of in files:
+        for size in range(len(whole) + 1):
+            judged(report, f"{file} of {size} octets", whole[:size], fault_of(whole[:size]))
+        # An octet of its magic bent may be another file's.
+        for at in range(4, len(whole)):
+            for turned in (0x01, 0x02, 0x03, 0x04, 0x80, 0xFF):
+                bent = whole[:at] + bytes([whole[at] ^ turned]) + whole[at + 1 :]
+                judged(report, f"{file} with octet {at} turned by {turned:02X}", bent, fault_of(bent))
+
+
 def check_filters(report):
     file = report.top / "samples/privacy_header/downlink.dmrd"
     whole = report.call("show", file).out.decode().splitlines()
@@ -161,7 +181,7 @@ def check_strips(report):
     wanted = f"error: -: half frame at octet {len(slots) - 34}, frame 100, slot 2\n"
     report.expect("a strip up to a fault", (ran.status, ran.err.decode()) == (1, wanted), ran)
     report.expect("its lines", [len(letters) for _, _, letters in strips_in(ran)] == [50, 50, 50, 50, 1], ran)
-    for name, octets in (("an outgoing list", it.ONE_DATAGRAM), ("a received list", STATUS)):
+    for name, octets in (("an outgoing list", it.ONE_DATAGRAM), ("a received list", it.ONE_STATUS)):
         ran = report.call("show", "-", "--strip", given=octets)
         report.expect(f"{name} has no strip", ran.is_error("-: a list has no strip"), ran)
     for file in sorted(file for file in (report.top / "samples").rglob("*.dmr[ud]")):
@@ -197,6 +217,7 @@ def check(report):
     check_texts(report)
     check_samples(report)
     check_faults(report)
+    check_outputs(report)
     check_filters(report)
     check_strips(report)
     check_longest(report)

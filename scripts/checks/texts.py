@@ -16,6 +16,21 @@ FISH = "share/fish/vendor_completions.d/dmrgate.fish"
 COMPLETE = 'source "$1"; shift; COMP_WORDS=("$@"); COMP_CWORD=$(($# - 1)); _dmrgate; printf "%s\\n" "${COMPREPLY[@]}"'
 
 
+HELP_OF_SLOT = """Says what one burst is
+
+Usage: dmrgate slot <HEX>
+
+Arguments:
+  <HEX>  A burst of 66 hexadecimal digits
+
+Options:
+  -h, --help  Print help
+
+Example:
+  dmrgate slot 53C25EABA8671DC7383BD936065DFF57D75DF5D92BF6E465171B48CA6D4FC610B4
+"""
+
+
 def options_in(text):
     return set(re.findall(r"--[a-z][a-z-]*", text))
 
@@ -34,6 +49,7 @@ def help_of(report, *words):
 def check_help(report):
     """The options of the program, of run, of slot and of show."""
     top, run, slot, show = (help_of(report, *words) for words in ([], ["run"], ["slot"], ["show"]))
+    report.expect("help of slot to the octet", slot == HELP_OF_SLOT, slot)
     usages = "dmrgate <COMMAND>", "dmrgate run [OPTIONS] --uplink <FILE>", "dmrgate slot <HEX>", "dmrgate show [OPTIONS] <FILE>"
     for text, usage in zip((top, run, slot, show), usages):
         report.expect(f"help has the usage {usage}", f"\nUsage: {usage}" in text, text)
@@ -150,6 +166,8 @@ def check(report):
     version = ran.out.decode().strip()
     is_version = re.fullmatch(r"dmrgate \d+\.\d+\.\d+", version) and ran.status == 0 and ran.err == b""
     report.expect("the version", is_version, ran)
+    short = report.call("-V")
+    report.expect("-V is --version", (short.status, short.out, short.err) == (ran.status, ran.out, ran.err), short)
     check_manual(report, top | run | slot | show, version)
     check_completions(report, top, run, slot, show)
     check_readme(report)

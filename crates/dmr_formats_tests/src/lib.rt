@@ -1,4 +1,5 @@
-//! Tests of the crates for codes, checks, units of the air and datagrams: values from outside, and each public call once.
+//! Tests of the crates for codes, checks, units of the air, packets, datagrams and files: values from outside, and each public call
+//! once.
 #![tactic(auto)]
 
 #[cfg(test)]

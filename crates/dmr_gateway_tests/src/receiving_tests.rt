@@ -57,6 +57,17 @@ fn first_try(rt: &impl Abort, gateway: &mut Gateway, packet: &Packet) -> Octets<
     next_flags(gateway)
 }
 
+/// What the gateway has of a confirmed packet of radio 2 with these octets.
+fn received(octets: &[u8]) -> Option<Received> {
+    Some(Received {
+        slot: 1,
+        kind: ReceivedKind::Datagram,
+        source: 2,
+        octets: Octets::from_slice(octets),
+    })
+}
+
+// The retry once more is acknowledged, and gives nothing.
 #[test]
 fn confirmed_packet_received(rt: HostRuntime) {
     let mut gateway = gateway(&rt, rt.alloc());
@@ -65,32 +76,11 @@ fn confirmed_packet_received(rt: HostRuntime) {
     let wanted = [0xFE, 0xFF, 0xFF, 0xFF, 0xFF, 0xFF, 0xFF, 0x7F];
     assert!(rt; flags.as_slice().starts_with(&wanted));
     assert!(rt; next_flags(&mut gateway).as_slice().is_empty());
-    let _ = frame(&mut gateway, Some(confirmed(false, 2)));
-    let _ = hear_try(&mut gateway, &packet, &[0, 63], &[]);
-    let received = gateway.take_received();
-    assert!(rt;
-        received
-            == Some(Received {
-                slot: 1,
-                kind: ReceivedKind::Datagram,
-                source: 2,
-                octets: Octets::from_slice(&[5; 636]),
-            })
-    );
-    let ack = frame(&mut gateway, None);
-    assert!(rt; octets_of(&ack) == answer(0, 0x08));
-}
-
-// The retry once more is acknowledged, and gives nothing.
-#[test]
-fn repeated_retry(rt: HostRuntime) {
-    let mut gateway = gateway(&rt, rt.alloc());
-    let packet = split_packet(&[5; 636], Rate::Half, true);
-    let _ = first_try(&rt, &mut gateway, &packet);
     for repeated in [false, true] {
         let _ = frame(&mut gateway, Some(confirmed(false, 2)));
         let _ = hear_try(&mut gateway, &packet, &[0, 63], &[]);
-        assert_eq!(rt; gateway.take_received().is_none(), repeated);
+        let wanted = if repeated { None } else { received(&[5; 636]) };
+        assert!(rt; gateway.take_received() == wanted);
         let ack = frame(&mut gateway, None);
         assert!(rt; octets_of(&ack) == answer(0, 0x08));
     }
@@ -140,16 +130,7 @@ fn packet_of_127_blocks(rt: HostRuntime) {
     let _ = frame(&mut gateway, Some(confirmed(false, 3)));
     let busy = hear_try(&mut gateway, &packet, &[0, 64, 126], &[]);
     assert!(rt; busy.is_none());
-    let received = gateway.take_received();
-    assert!(rt;
-        received
-            == Some(Received {
-                slot: 1,
-                kind: ReceivedKind::Datagram,
-                source: 2,
-                octets: Octets::from_slice(&[5; 1266]),
-            })
-    );
+    assert!(rt; gateway.take_received() == received(&[5; 1266]));
     let ack = frame(&mut gateway, None);
     assert!(rt; octets_of(&ack) == answer(0, 0x08));
 }

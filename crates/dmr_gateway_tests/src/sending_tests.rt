@@ -83,27 +83,43 @@ fn full_queue(rt: HostRuntime) {
     assert!(rt; gateway.offer(&outgoing(false, &EMPTY_DATAGRAM)).is_ok());
 }
 
-// The first of several faults is answered, and what is refused changes nothing.
+/// To an address that is no radio's and no group's.
+const ELSEWHERE: [u8; 28] = [
+    0x45, 0x00, 0x00, 0x1C, 0x12, 0x34, 0x00, 0x00, 0x40, 0x11, 0x50, 0x9B, 0x0C, 0x00, 0x00, 0x01,
+    0x0A, 0x00, 0x00, 0x02, 0x13, 0x98, 0x13, 0x9A, 0x00, 0x08, 0xC0, 0xA9,
+];
+
+/// To group 9.
+const TO_A_GROUP: [u8; 28] = [
+    0x45, 0x00, 0x00, 0x1C, 0x12, 0x34, 0x00, 0x00, 0x40, 0x11, 0x50, 0x9B, 0x0C, 0x00, 0x00, 0x01,
+    0xE1, 0x00, 0x00, 0x09, 0x13, 0x98, 0x13, 0x9A, 0x00, 0x08, 0xC0, 0xA9,
+];
+
+/// Datagrams that are refused, whether confirmed, and the first of their faults.
+const REFUSED: [(bool, &[u8], GatewayFault); 4] = [
+    (false, &[0x45; 1401], GatewayFault::TooLong),
+    (false, &ELSEWHERE, GatewayFault::NoRoute),
+    (true, &TO_A_GROUP, GatewayFault::GroupConfirmed),
+    (true, &[10; 1267], GatewayFault::TooLong),
+];
+
+// What is refused changes nothing.
 #[test]
 fn refused_offers(rt: HostRuntime) {
     let mut gateway = gateway(&rt, rt.alloc());
-    let long = gateway.offer(&outgoing(false, &[0x45; 1401]));
-    assert!(rt; long == Err(GatewayFault::TooLong));
-    let mut elsewhere = EMPTY_DATAGRAM;
-    elsewhere[16] = 10;
-    let far = gateway.offer(&outgoing(false, &elsewhere));
-    assert!(rt; far == Err(GatewayFault::NoRoute));
-    let mut group = EMPTY_DATAGRAM;
-    group[16] = 225;
-    group[19] = 9;
-    let confirmed = gateway.offer(&outgoing(true, &group));
-    assert!(rt; confirmed == Err(GatewayFault::GroupConfirmed));
-    let longer = gateway.offer(&outgoing(true, &[10; 1267]));
-    assert!(rt; longer == Err(GatewayFault::TooLong));
+    for (confirmed, octets, fault) in REFUSED {
+        let offered = gateway.offer(&outgoing(confirmed, octets));
+        assert!(rt; offered == Err(fault), "{fault}");
+    }
     assert!(rt; frame(&mut gateway, None).is_none());
-    assert!(rt; gateway.offer(&outgoing(false, &group)).is_ok());
+}
+
+// With another destination its checksum is wrong, so that it has no compressed form: three blocks, which count five bursts.
+#[test]
+fn datagram_to_a_group(rt: HostRuntime) {
+    let mut gateway = gateway(&rt, rt.alloc());
+    assert!(rt; gateway.offer(&outgoing(false, &TO_A_GROUP)).is_ok());
     let burst = frame(&mut gateway, None);
-    // With another destination its checksum is wrong, so that it has no compressed form: three blocks, which count five bursts.
     let preamble = [0xBD, 0x00, 0xC0, 0x05, 0x00, 0x00, 0x09, 0x00, 0x00, 0x01];
     assert!(rt; octets_of(&burst) == preamble);
 }
@@ -133,53 +149,41 @@ fn unanswered_try(rt: HostRuntime) {
     }
 }
 
-/// In which frames tries of a confirmed datagram of frame 5 begin, and the frame of an outcome, where an acknowledgement is
-/// heard in a frame.
-fn tries(rt: &impl Abort, alloc: Global, heard: u32, begins: &[u32], ends: u32, outcome: Outcome) {
-    let mut gateway = gateway(rt, alloc);
-    let mut last = b'.';
-    for number in 0..=ends {
-        if number == 5 {
-            assert!(rt; gateway.offer(&outgoing(true, &EMPTY_DATAGRAM)).is_ok());
+/// Tries of a confirmed datagram of frame 5: the frame in which an acknowledgement is heard, in which frames they begin, and the
+/// frame of the outcome.
+const TRIES: [(u32, &[u32], u32, Outcome); 3] = [
+    (1000, &[5, 29, 53, 77], 101, Outcome::GivenUp),
+    // In the last frame in which it counts.
+    (29, &[5], 29, Outcome::Delivered),
+    // It comes too late, and cuts the second try.
+    (30, &[5, 29, 31, 55], 79, Outcome::GivenUp),
+];
+
+#[test]
+fn tries(rt: HostRuntime) {
+    for (heard, begins, ends, outcome) in TRIES {
+        let mut gateway = gateway(&rt, rt.alloc());
+        let mut last = b'.';
+        for number in 0..=ends {
+            if number == 5 {
+                assert!(rt; gateway.offer(&outgoing(true, &EMPTY_DATAGRAM)).is_ok());
+            }
+            let repeated = if number == heard {
+                Some(answered(0, 1, 0))
+            } else {
+                None
+            };
+            let burst = letter(&frame(&mut gateway, repeated));
+            let begun = burst == b'P' && last != b'P';
+            assert_eq!(rt; begun, begins.contains(&number), "frame {number}");
+            last = burst;
+            let told = gateway.take_outcome();
+            assert!(rt;
+                told == if number == ends { Some(outcome) } else { None },
+                "frame {number}"
+            );
         }
-        let repeated = if number == heard {
-            Some(answered(0, 1, 0))
-        } else {
-            None
-        };
-        let burst = letter(&frame(&mut gateway, repeated));
-        let begun = burst == b'P' && last != b'P';
-        assert_eq!(rt; begun, begins.contains(&number), "frame {number}");
-        last = burst;
-        let told = gateway.take_outcome();
-        assert!(rt;
-            told == if number == ends { Some(outcome) } else { None },
-            "frame {number}"
-        );
     }
-}
-
-#[test]
-fn four_tries(rt: HostRuntime) {
-    tries(
-        &rt,
-        rt.alloc(),
-        1000,
-        &[5, 29, 53, 77],
-        101,
-        Outcome::GivenUp,
-    );
-}
-
-#[test]
-fn answer_in_the_last_frame(rt: HostRuntime) {
-    tries(&rt, rt.alloc(), 29, &[5], 29, Outcome::Delivered);
-}
-
-// In frame 30 it comes too late, and cuts the second try.
-#[test]
-fn late_answer(rt: HostRuntime) {
-    tries(&rt, rt.alloc(), 30, &[5, 29, 31, 55], 79, Outcome::GivenUp);
 }
 
 // A try that is cut begins again from its first preamble, wherever it is cut.
@@ -225,18 +229,13 @@ fn asked_again(rt: &impl Abort, alloc: Global, heard: u32) -> [u8; 10] {
     header
 }
 
-// Frame 29 is the last in which it counts: F is 0, and one block follows.
+// Frame 29 is the last in which it counts: F is 0, and one block follows. With its header in that frame the flags come too late,
+// and the whole packet is tried again.
 #[test]
 fn flags_in_the_last_frame(rt: HostRuntime) {
-    let header = asked_again(&rt, rt.alloc(), 28);
-    assert_eq!(rt; header[8], 0x01);
-}
-
-// With its header in that frame the flags come too late, and the whole packet is tried again.
-#[test]
-fn flags_behind_the_last_frame(rt: HostRuntime) {
-    let header = asked_again(&rt, rt.alloc(), 29);
-    assert_eq!(rt; header[8], 0x82);
+    for (heard, wanted) in [(28, 0x01), (29, 0x82)] {
+        assert_eq!(rt; asked_again(&rt, rt.alloc(), heard)[8], wanted);
+    }
 }
 
 // A packet of 65 blocks was sent: an answer that asks for some of them again counts with two blocks of flags, not with one.

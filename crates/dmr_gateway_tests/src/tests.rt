@@ -1,52 +1,66 @@
 //! Settings at the ends of their ranges, and past them, and what the faults are printed as.
 use dmr_gateway::{Config, ConfigFault, GatewayFault};
-use std::test::Fail;
+use std::alloc::Global;
+use std::fmt::Display;
+
+/// Colour code, address, call hang, channel hang and queue, and why they are refused, if they are.
+const SETTINGS: [(u8, u32, u16, u16, u8, Option<ConfigFault>); 11] = [
+    (15, 16_777_215, 65_535, 65_535, 64, None),
+    (0, 1, 0, 0, 1, None),
+    (16, 1, 3, 5, 9, Some(ConfigFault::Colour)),
+    (1, 0, 3, 5, 9, Some(ConfigFault::Llid)),
+    (1, 16_777_216, 3, 5, 9, Some(ConfigFault::Llid)),
+    (1, 1, 6, 5, 9, Some(ConfigFault::Hang)),
+    (1, 1, 3, 5, 0, Some(ConfigFault::Queue)),
+    (1, 1, 3, 5, 65, Some(ConfigFault::Queue)),
+    // The first of several.
+    (16, 0, 6, 5, 0, Some(ConfigFault::Colour)),
+    (1, 0, 6, 5, 0, Some(ConfigFault::Llid)),
+    (1, 1, 6, 5, 0, Some(ConfigFault::Hang)),
+];
+
+const CONFIG: [(ConfigFault, &str); 4] = [
+    (ConfigFault::Colour, "the colour code is over 15"),
+    (
+        ConfigFault::Llid,
+        "the gateway's address is not in 1..=16777215",
+    ),
+    (ConfigFault::Hang, "call hang is longer than channel hang"),
+    (ConfigFault::Queue, "the queue is not in 1..=64"),
+];
+
+const GATEWAY: [(GatewayFault, &str); 5] = [
+    (GatewayFault::NoRoute, "no route"),
+    (GatewayFault::GroupConfirmed, "a group confirms nothing"),
+    (GatewayFault::TooLong, "the datagram is too long"),
+    (GatewayFault::QueueFull, "the queue is full"),
+    (GatewayFault::Memory, "out of memory"),
+];
 
 #[test]
-fn widest_settings(rt: HostRuntime) {
-    let config = Config::new(15, 16_777_215, 65_535, 65_535, 64);
-    assert!(rt; config.is_ok());
-    assert!(rt; Config::new(0, 1, 0, 0, 1).is_ok());
-}
-
-#[test]
-fn refused_settings(rt: HostRuntime) {
-    assert!(rt; Config::new(16, 1, 3, 5, 9) == Err(ConfigFault::Colour));
-    assert!(rt; Config::new(1, 0, 3, 5, 9) == Err(ConfigFault::Llid));
-    assert!(rt; Config::new(1, 16_777_216, 3, 5, 9) == Err(ConfigFault::Llid));
-    assert!(rt; Config::new(1, 1, 6, 5, 9) == Err(ConfigFault::Hang));
-    assert!(rt; Config::new(1, 1, 3, 5, 0) == Err(ConfigFault::Queue));
-    assert!(rt; Config::new(1, 1, 3, 5, 65) == Err(ConfigFault::Queue));
-}
-
-#[test]
-fn first_of_several_faults(rt: HostRuntime) {
-    assert!(rt; Config::new(16, 0, 6, 5, 0) == Err(ConfigFault::Colour));
-    assert!(rt; Config::new(1, 0, 6, 5, 0) == Err(ConfigFault::Llid));
-    assert!(rt; Config::new(1, 1, 6, 5, 0) == Err(ConfigFault::Hang));
-}
-
-#[test]
-fn texts(rt: HostRuntime) -> Result<(), Fail> {
-    for (fault, text) in [
-        (ConfigFault::Colour, "the colour code is over 15"),
-        (
-            ConfigFault::Llid,
-            "the gateway's address is not in 1..=16777215",
-        ),
-        (ConfigFault::Hang, "call hang is longer than channel hang"),
-        (ConfigFault::Queue, "the queue is not in 1..=64"),
-    ] {
-        assert_eq!(rt; format!(in rt.alloc(); "{fault}")?.as_str(), text);
+fn settings(rt: HostRuntime) {
+    for (colour, llid, call_hang, channel_hang, queue, fault) in SETTINGS {
+        let found = Config::new(colour, llid, call_hang, channel_hang, queue).err();
+        assert!(rt;
+            found == fault,
+            "{colour} {llid} {call_hang} {channel_hang} {queue}"
+        );
     }
-    for (fault, text) in [
-        (GatewayFault::NoRoute, "no route"),
-        (GatewayFault::GroupConfirmed, "a group confirms nothing"),
-        (GatewayFault::TooLong, "the datagram is too long"),
-        (GatewayFault::QueueFull, "the queue is full"),
-        (GatewayFault::Memory, "out of memory"),
-    ] {
-        assert_eq!(rt; format!(in rt.alloc(); "{fault}")?.as_str(), text);
+}
+
+/// Each fault has its text.
+fn are_texts<T: Display>(alloc: Global, rows: &[(T, &str)]) -> bool {
+    for (fault, text) in rows {
+        match format!(in alloc; "{fault}") {
+            Ok(printed) if printed.as_str() == *text => (),
+            _ => return false,
+        }
     }
-    Ok(())
+    true
+}
+
+#[test]
+fn texts(rt: HostRuntime) {
+    assert!(rt; are_texts(rt.alloc(), &CONFIG));
+    assert!(rt; are_texts(rt.alloc(), &GATEWAY));
 }

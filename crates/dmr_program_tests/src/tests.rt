@@ -1,4 +1,5 @@
-//! A module a crate.
+//! A module a crate, and what they run over.
 mod command;
 mod files;
 mod report;
+mod stand_in;

@@ -1,7 +1,9 @@
-//! Tests of `dmr_voice`: worked slots, and worked recordings of calls.
+//! Tests of `dmr_voice` and `dmr_slot`: worked slots, worked recordings of calls, and frames of the channel.
 #![tactic(auto)]
 
 #[cfg(test)]
 mod hearing_tests;
+#[cfg(test)]
+mod slot_tests;
 #[cfg(test)]
 mod tests;

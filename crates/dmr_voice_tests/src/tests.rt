@@ -1,4 +1,5 @@
 //! Worked recordings of voice calls: what transmissions send and mean, slot by slot, beside what is repeated of their octets.
+//! More of them stand with the tests of slots, whose lines repeat them.
 ghost use Rattle.std.specs.Prelude.{◌<◌};
 ghost use Rattle.dmr_burst.specs.Layout.{IsBurst};
 ghost use Rattle.dmr_voice.specs.Fit.{IsFitHeard};
@@ -116,7 +117,6 @@ struct Place {
 enum Sent {
     Silence,
     Header,
-    PiHeader,
     /// A silence between header and voice.
     Gap,
     Terminator,
@@ -130,12 +130,11 @@ enum Sent {
 /// What a slot is recorded as: a burst of a mobile station, or nothing.
 type Recorded = Option<[u8; 33]>;
 
-/// What a data burst of the call says: a header and a terminator its link control, any other something of its own.
+/// What a data burst of the call says: a header, or a terminator.
 fn message(kind: u8) -> Bits<96> {
     match kind {
         1 => lc_info(&GROUP, LcUse::Header),
-        2 => lc_info(&GROUP, LcUse::Terminator),
-        _ => Bits::<96>::zero().with_field(0, 8, u64::from(kind)),
+        _ => lc_info(&GROUP, LcUse::Terminator),
     }
 }
 
@@ -207,7 +206,6 @@ fn recorded_as(sent: Sent) -> Recorded {
     match sent {
         Sent::Silence | Sent::Gap => None,
         Sent::Header => recorded_data(1),
-        Sent::PiHeader => recorded_data(0),
         Sent::Terminator => recorded_data(2),
         Sent::Place(place) => recorded_place(place),
         Sent::CutOff => recorded(&voice_burst(COLOUR, 3, 0, 7)),
@@ -244,7 +242,6 @@ fn meant_place(place: Place) -> VoiceOut {
 fn meant_by(sent: Sent) -> VoiceOut {
     match sent {
         Sent::Header | Sent::Gap => data_of_the_call(1),
-        Sent::PiHeader => data_of_the_call(0),
         Sent::Terminator => data_of_the_call(2),
         Sent::Place(place) => meant_place(place),
         Sent::Silence | Sent::CutOff | Sent::ForeignSync | Sent::ForeignVoice => VoiceOut::Nothing,
@@ -255,7 +252,6 @@ fn meant_by(sent: Sent) -> VoiceOut {
 fn sent_by(letter: u8) -> Sent {
     match letter {
         b'H' => Sent::Header,
-        b'P' => Sent::PiHeader,
         b'G' => Sent::Gap,
         b'T' => Sent::Terminator,
         b'C' => Sent::CutOff,
@@ -332,13 +328,12 @@ fn step_over(track: &mut VoiceTrack, slots: &[Sent], number: usize) -> VoiceOut 
     track.step(&window)
 }
 
-/// A letter for what is repeated: header, PI header, terminator, A, another place of a call, nothing.
+/// A letter for what is repeated: header, terminator, A, another place of a call, nothing.
 fn letter_of(out: &VoiceOut) -> u8 {
     match out {
         VoiceOut::Nothing => b'.',
         VoiceOut::Repeat { burst, .. } => match burst {
             Burst::Data { kind, .. } => match kind {
-                0 => b'P',
                 1 => b'H',
                 2 => b'T',
                 _ => b'D',
@@ -456,57 +451,6 @@ fn late_entry(rt: HostRuntime) -> Result<(), Fail> {
     send(&mut slots, b"T")?;
     expect(&rt, &slots, b"...AVVVVVAVVVVVT");
     expect_fields(&rt, &slots, 4, &CALL_FIELDS);
-    Ok(())
-}
-
-#[test]
-fn call_and_hang(rt: HostRuntime) -> Result<(), Fail> {
-    let mut slots = Vec::new(rt.alloc());
-    send(&mut slots, b"H")?;
-    send_superframe(&mut slots, Carried::Group, Carried::Nothing, 0, ALL)?;
-    send(&mut slots, b".............")?;
-    expect(&rt, &slots, b"HAVVVVV.............");
-    Ok(())
-}
-
-#[test]
-fn lost_call(rt: HostRuntime) -> Result<(), Fail> {
-    let mut slots = Vec::new(rt.alloc());
-    send(&mut slots, b"H")?;
-    send_superframe(&mut slots, Carried::Group, Carried::Nothing, 0, ALL)?;
-    send(&mut slots, b".....")?;
-    // at place F a sync isn't heard: the call is lost, and what follows is a late call
-    send_superframe(&mut slots, Carried::Nothing, Carried::Nothing, 0, ALL)?;
-    expect(&rt, &slots, b"HAVVVVV.....AVVVVV");
-    Ok(())
-}
-
-#[test]
-fn filled_places(rt: HostRuntime) -> Result<(), Fail> {
-    let mut slots = Vec::new(rt.alloc());
-    let last = [false, false, false, false, false, true];
-    send(&mut slots, b"H")?;
-    send_superframe(&mut slots, Carried::Group, Carried::Nothing, 0, ALL)?;
-    send_superframe(&mut slots, Carried::Group, Carried::Nothing, 0, last)?;
-    send(&mut slots, b"......")?;
-    expect(&rt, &slots, b"HAVVVVVAVVVVV......");
-    Ok(())
-}
-
-#[test]
-fn privacy_header(rt: HostRuntime) -> Result<(), Fail> {
-    let mut slots = Vec::new(rt.alloc());
-    send(&mut slots, b"HP......")?;
-    expect(&rt, &slots, b"HP......");
-    Ok(())
-}
-
-#[test]
-fn two_headers(rt: HostRuntime) -> Result<(), Fail> {
-    let mut slots = Vec::new(rt.alloc());
-    send(&mut slots, b"H.H")?;
-    send_superframe(&mut slots, Carried::Group, Carried::Nothing, 0, ALL)?;
-    expect(&rt, &slots, b"H.HAVVVVV");
     Ok(())
 }
 

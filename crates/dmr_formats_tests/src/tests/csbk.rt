@@ -2,7 +2,6 @@
 use dmr_bits::Bits;
 use dmr_bptc::bptc_encode;
 use dmr_csbk::{BsDownAct, Csbk, CsbkFault, Preamble, csbk_info, csbk_read};
-use std::test::Fail;
 
 /// The block of ten zero octets.
 const ZERO: Csbk = Csbk {
@@ -86,15 +85,4 @@ fn activation(rt: HostRuntime) {
     };
     assert!(rt; csbk.down_act() == Some(meaning));
     assert!(rt; csbk.preamble() == None);
-}
-
-#[test]
-fn texts(rt: HostRuntime) -> Result<(), Fail> {
-    for (fault, text) in [
-        (CsbkFault::Bptc, "no product word"),
-        (CsbkFault::Crc, "wrong check"),
-    ] {
-        assert_eq!(rt; format!(in rt.alloc(); "{fault}")?.as_str(), text);
-    }
-    Ok(())
 }

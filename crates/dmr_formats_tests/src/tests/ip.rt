@@ -90,34 +90,40 @@ fn compressed_datagram(rt: HostRuntime) -> Result<(), Fail> {
     Ok(())
 }
 
+/// Compressed forms that have no datagram, and why.
+const REFUSED: [(&[u8], ExpandFault); 7] = [
+    (&[], ExpandFault::Short),
+    (&[0x12, 0x34, 0x00, 0x01], ExpandFault::Short),
+    (&[0x12, 0x34, 0x00, 0x01, 0x00], ExpandFault::Short),
+    (&[0x12, 0x34, 0x00, 0x01, 0x00, 0x13], ExpandFault::Short),
+    (
+        &[0x12, 0x34, 0x00, 0x81, 0x00, 0x13, 0x9a],
+        ExpandFault::Opcode,
+    ),
+    (
+        &[0x12, 0x34, 0x10, 0x01, 0x00, 0x13, 0x9a],
+        ExpandFault::Address,
+    ),
+    (
+        &[0x12, 0x34, 0x00, 0x03, 0x00, 0x13, 0x9a],
+        ExpandFault::Port,
+    ),
+];
+
 #[test]
 fn expand_refusals(rt: HostRuntime) {
-    let faults = [
-        (fault(&[0x12, 0x34, 0x00, 0x01]), ExpandFault::Short),
-        (fault(&[0x12, 0x34, 0x00, 0x01, 0x00]), ExpandFault::Short),
-        (
-            fault(&[0x12, 0x34, 0x00, 0x81, 0x00, 0x13, 0x9a]),
-            ExpandFault::Opcode,
-        ),
-        (
-            fault(&[0x12, 0x34, 0x10, 0x01, 0x00, 0x13, 0x9a]),
-            ExpandFault::Address,
-        ),
-        (
-            fault(&[0x12, 0x34, 0x00, 0x03, 0x00, 0x13, 0x9a]),
-            ExpandFault::Port,
-        ),
-    ];
-    for (found, expected) in faults {
-        assert_eq!(rt; found, Some(expected));
+    for (octets, expected) in REFUSED {
+        assert!(rt; fault(octets) == Some(expected), "{octets:?}");
     }
+}
+
+/// A form of as many octets as a datagram may have, and one more.
+#[test]
+fn long_form(rt: HostRuntime) {
     let mut octets = [0; 1378];
-    octets[0] = 0x12;
-    octets[1] = 0x34;
-    octets[3] = 0x01;
-    octets[4] = 0x01;
-    assert_eq!(rt; fault(&octets), Some(ExpandFault::Long));
-    assert_eq!(rt; fault(&octets[..1377]), None);
+    octets[..5].copy_from_slice(&[0x12, 0x34, 0x00, 0x01, 0x01]);
+    assert!(rt; fault(&octets) == Some(ExpandFault::Long));
+    assert!(rt; fault(&octets[..1377]).is_none());
 }
 
 fn fault(octets: &[u8]) -> Option<ExpandFault> {
@@ -162,35 +168,6 @@ fn refusals_in_order(rt: HostRuntime) {
         assert_eq!(rt; Datagram::parse(&octets).err(), Some(expected));
     }
     assert_eq!(rt; Datagram::parse(&CUT_UDP).err(), Some(IpFault::UdpLength));
-}
-
-/// What was refused leaves nothing: the same good octets answer as before.
-#[test]
-fn good_octets_after_refused_ones(rt: HostRuntime) -> Result<(), Fail> {
-    let form = [0x12, 0x34, 0x00, 0x01, 0x00, 0x13, 0x9a];
-    for length in 0..28usize {
-        assert!(rt; Datagram::parse(EMPTY_DATAGRAM.get(..length).unwrap_or(&[])).is_err());
-        let datagram = Datagram::parse(&EMPTY_DATAGRAM)?;
-        assert_eq!(rt; datagram.octets(), EMPTY_DATAGRAM.as_slice());
-    }
-    for refused in [
-        [0x12, 0x34, 0x00, 0x81, 0x00, 0x13, 0x9a],
-        [0x12, 0x34, 0x10, 0x01, 0x00, 0x13, 0x9a],
-        [0x12, 0x34, 0x00, 0x03, 0x00, 0x13, 0x9a],
-    ] {
-        assert!(rt; expand(&refused, 1, 2, false).is_err());
-        let expanded = expand(&form, 1, 2, false)?;
-        assert_eq!(rt; expanded.octets(), EMPTY_DATAGRAM.as_slice());
-    }
-    for length in 0..7usize {
-        assert_eq!(rt;
-            fault(form.get(..length).unwrap_or(&[])),
-            Some(ExpandFault::Short)
-        );
-        let expanded = expand(&form, 1, 2, false)?;
-        assert_eq!(rt; expanded.octets(), EMPTY_DATAGRAM.as_slice());
-    }
-    Ok(())
 }
 
 #[test]
@@ -291,30 +268,4 @@ fn number(octets: &[u8], place: usize) -> u64
     requires { place + 2 ≤ length octets.now }
 {
     256 * u64::from(octets[place]) + u64::from(octets[place + 1])
-}
-
-#[test]
-fn texts(rt: HostRuntime) -> Result<(), Fail> {
-    for (fault, text) in [
-        (IpFault::Length, "bad length"),
-        (IpFault::Version, "bad version"),
-        (IpFault::Options, "header with options"),
-        (IpFault::HeaderSum, "bad header checksum"),
-        (IpFault::Fragment, "fragment"),
-        (IpFault::Protocol, "not UDP"),
-        (IpFault::UdpLength, "bad UDP length"),
-        (IpFault::UdpSum, "bad UDP checksum"),
-    ] {
-        assert_eq!(rt; format!(in rt.alloc(); "{fault}")?.as_str(), text);
-    }
-    for (fault, text) in [
-        (ExpandFault::Short, "too short"),
-        (ExpandFault::Opcode, "unknown opcode"),
-        (ExpandFault::Address, "unknown address identifier"),
-        (ExpandFault::Port, "unknown port identifier"),
-        (ExpandFault::Long, "too long"),
-    ] {
-        assert_eq!(rt; format!(in rt.alloc(); "{fault}")?.as_str(), text);
-    }
-    Ok(())
 }

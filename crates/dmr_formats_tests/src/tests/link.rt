@@ -2,7 +2,6 @@
 use dmr_bits::Bits;
 use dmr_bptc::bptc_encode;
 use dmr_link::{CallKind, FullLc, LcFault, LcUse, ServiceOptions, VoiceLc, lc_info, lc_read};
-use std::test::Fail;
 
 /// A call to talk group 1 from radio 2, no option set.
 const GROUP_CALL: FullLc = FullLc {
@@ -90,15 +89,4 @@ fn service_options(rt: HostRuntime) {
     assert!(rt; !options.contains(ServiceOptions::OVCM));
     assert!(rt; !options.contains(ServiceOptions::BROADCAST | ServiceOptions::OVCM));
     assert_eq!(rt; options.priority(), 2);
-}
-
-#[test]
-fn texts(rt: HostRuntime) -> Result<(), Fail> {
-    for (fault, text) in [
-        (LcFault::Bptc, "no product word"),
-        (LcFault::Parity, "wrong parity"),
-    ] {
-        assert_eq!(rt; format!(in rt.alloc(); "{fault}")?.as_str(), text);
-    }
-    Ok(())
 }

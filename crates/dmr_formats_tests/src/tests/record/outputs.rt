@@ -1,4 +1,4 @@
-//! The two files that a run writes, read again: cut to every length, with each of their octets bent, and past their limits.
+//! The two files that a run writes, read again: records in and out of their order, and past their limits.
 use dmr_record::*;
 use dmr_test_devices::{FailsAt, OneByOne, Silence};
 
@@ -34,48 +34,12 @@ const STATUS: Received = Received {
     length: 4,
 };
 
-/// How many slots a downlink file has, of at most three, or its first fault.
-fn read_slots(octets: &[u8]) -> Result<u8, RecordFault> {
-    let mut source = FromRead::new(octets);
-    read_head(&mut source, DOWNLINK_MAGIC)?;
-    if read_slot(&mut source, 0)?.is_none() {
-        return Ok(0);
-    }
-    if read_slot(&mut source, 1)?.is_none() {
-        return Ok(1);
-    }
-    if read_slot(&mut source, 2)?.is_none() {
-        return Ok(2);
-    }
-    Ok(3)
-}
-
-/// How many records a received file has, of at most two, or its first fault.
-fn read_records(octets: &[u8]) -> Result<u8, RecordFault> {
-    let mut buffer = [0u8; OCTET_LIMIT];
-    let mut source = FromRead::new(octets);
-    read_head(&mut source, RECEIVED_MAGIC)?;
-    let Some(first) = read_received(&mut source, 0, None, &mut buffer)? else {
-        return Ok(0);
-    };
-    if read_received(&mut source, 1, Some(first), &mut buffer)?.is_none() {
-        return Ok(1);
-    }
-    Ok(2)
-}
-
 #[test]
 fn downlink_slots(rt: HostRuntime) {
-    let octets = ONE_FRAME.get(8..).unwrap_or(&[]);
-    let mut source = FromRead::new(octets);
+    let mut source = OneByOne::new(ONE_FRAME.get(8..).unwrap_or(&[]));
     assert!(rt; read_slot(&mut source, 0) == Ok(Some(Some(BLOCK))));
     assert!(rt; read_slot(&mut source, 1) == Ok(Some(None)));
     assert!(rt; read_slot(&mut source, 2) == Ok(None));
-
-    let mut slow = OneByOne::new(octets);
-    assert!(rt; read_slot(&mut slow, 0) == Ok(Some(Some(BLOCK))));
-    assert!(rt; read_slot(&mut slow, 1) == Ok(Some(None)));
-    assert!(rt; read_slot(&mut slow, 2) == Ok(None));
 }
 
 #[test]
@@ -86,125 +50,6 @@ fn received_status(rt: HostRuntime) {
     assert!(rt; read == Ok(Some(STATUS)));
     assert_eq!(rt; buffer.get(..4), Some(&[1, 2, 0, 5][..]));
     assert!(rt; read_received(&mut source, 1, Some(STATUS), &mut buffer) == Ok(None));
-}
-
-/// What was written is read again, the longest record too.
-#[test]
-fn written_records(rt: HostRuntime) -> std::io::Result<()> {
-    let mut sink = ToWrite::new(Vec::new(rt.alloc()));
-    assert!(rt; write_slot(&mut sink, None).is_ok());
-    assert!(rt; write_slot(&mut sink, Some(BLOCK)).is_ok());
-    let written = sink.into_inner();
-    let mut source = FromRead::new(written.as_slice());
-    assert!(rt; read_slot(&mut source, 0) == Ok(Some(None)));
-    assert!(rt; read_slot(&mut source, 1) == Ok(Some(Some(BLOCK))));
-
-    let long = [0xa5; OCTET_LIMIT];
-    let mut sink = ToWrite::new(Vec::new(rt.alloc()));
-    let wrote = write_received(
-        &mut sink,
-        0x01020304,
-        2,
-        ReceivedKind::ShortData,
-        0xabcdef,
-        &long,
-    );
-    assert!(rt; wrote.is_ok());
-    let written = sink.into_inner();
-    let mut buffer = [0u8; OCTET_LIMIT];
-    let read = read_received(&mut FromRead::new(written.as_slice()), 0, None, &mut buffer);
-    let want = Received {
-        frame: 0x01020304,
-        slot: 2,
-        kind: ReceivedKind::ShortData,
-        source: 0xabcdef,
-        length: 65_535,
-    };
-    assert!(rt; read == Ok(Some(want)));
-    assert!(rt; buffer == long);
-    Ok(())
-}
-
-#[test]
-fn downlink_of_every_length(rt: HostRuntime) {
-    for length in 0..=46usize {
-        let wanted = match length {
-            8 => Ok(0),
-            45 => Err(RecordFault::HalfFrame),
-            46 => Ok(2),
-            _ => Err(RecordFault::CutRecord),
-        };
-        let found = read_slots(ONE_FRAME.get(..length).unwrap_or(&[]));
-        assert!(rt; found == wanted, "{length} octets");
-    }
-}
-
-#[test]
-fn received_list_of_every_length(rt: HostRuntime) {
-    for length in 0..=24usize {
-        let wanted = match length {
-            8 => Ok(0),
-            24 => Ok(1),
-            _ => Err(RecordFault::CutRecord),
-        };
-        let found = read_records(ONE_STATUS.get(..length).unwrap_or(&[]));
-        assert!(rt; found == wanted, "{length} octets");
-    }
-}
-
-/// A silent slot 1 leaves the octets of the CACH as tags: 80.
-#[test]
-fn downlink_with_each_octet_bent(rt: HostRuntime) {
-    for place in 0..46usize {
-        for turned in [0x01u8, 0x02, 0x80, 0xff] {
-            let wanted = match place {
-                0..4 => Err(RecordFault::Magic),
-                4..8 => Err(RecordFault::Version),
-                8 => Err(RecordFault::BadTag),
-                45 if turned == 0x01 => Err(RecordFault::CutRecord),
-                45 => Err(RecordFault::BadTag),
-                _ => Ok(2),
-            };
-            let mut bent = ONE_FRAME;
-            if let Some(octet) = bent.get_mut(place) {
-                *octet ^= turned;
-            }
-            assert!(rt;
-                read_slots(&bent) == wanted,
-                "octet {place} turned by {turned}"
-            );
-        }
-    }
-}
-
-/// The frame, the source and the octets may be any. A longer record is cut, and what a shorter one leaves is no record.
-#[test]
-fn received_list_with_each_octet_bent(rt: HostRuntime) {
-    for place in 0..24usize {
-        for turned in [0x01u8, 0x03, 0x04, 0x80] {
-            let wanted = match (place, turned) {
-                (0..4, _) => Err(RecordFault::Magic),
-                (4..8, _) => Err(RecordFault::Version),
-                (8, _) => Err(RecordFault::BadTag),
-                (13, 0x03) => Ok(1),
-                (13, _) => Err(RecordFault::BadTag),
-                (14, 0x03) => Ok(1),
-                (14, _) => Err(RecordFault::BadTag),
-                (18, _) => Err(RecordFault::CutRecord),
-                (19, 0x04) => Err(RecordFault::BadTag),
-                (19, _) => Err(RecordFault::CutRecord),
-                _ => Ok(1),
-            };
-            let mut bent = ONE_STATUS;
-            if let Some(octet) = bent.get_mut(place) {
-                *octet ^= turned;
-            }
-            assert!(rt;
-                read_records(&bent) == wanted,
-                "octet {place} turned by {turned}"
-            );
-        }
-    }
 }
 
 /// Each kind is told by its octet, and what follows a status of slot 1 in frame 6.
@@ -277,22 +122,56 @@ fn records_out_of_order(rt: HostRuntime) {
     }
 }
 
+/// The longest record that is written is read again.
+#[test]
+fn longest_record(rt: HostRuntime) {
+    let mut sink = ToWrite::new(Vec::new(rt.alloc()));
+    let wrote = write_received(
+        &mut sink,
+        7,
+        2,
+        ReceivedKind::ShortData,
+        9,
+        &[0xa5; OCTET_LIMIT],
+    );
+    assert!(rt; wrote.is_ok());
+    let written = sink.into_inner();
+    let mut buffer = [0u8; OCTET_LIMIT];
+    let read = read_received(&mut FromRead::new(written.as_slice()), 0, None, &mut buffer);
+    let want = Received {
+        frame: 7,
+        slot: 2,
+        kind: ReceivedKind::ShortData,
+        source: 9,
+        length: 65_535,
+    };
+    assert!(rt; read == Ok(Some(want)));
+    assert!(rt; buffer == [0xa5; OCTET_LIMIT]);
+}
+
 /// Where a file is at its limit, any octet more is too long, whether it is a tag or not.
 #[test]
-fn limits_of_outputs(rt: HostRuntime) {
+fn limits_of_downlinks(rt: HostRuntime) {
     assert_eq!(rt; SLOT_LIMIT, 2_097_164);
-    assert_eq!(rt; RECEIVED_LIMIT, 4_194_328);
-    let mut buffer = [0u8; OCTET_LIMIT];
     for octet in 0..=255u8 {
         let past = [octet; 64];
         let slot = read_slot(&mut FromRead::new(past.as_slice()), SLOT_LIMIT);
         assert!(rt; slot == Err(RecordFault::TooLong), "{octet}");
+    }
+    assert!(rt; read_slot(&mut Silence, SLOT_LIMIT - 1) == Ok(Some(None)));
+    assert!(rt; read_slot(&mut FromRead::new(&b""[..]), SLOT_LIMIT) == Ok(None));
+}
+
+#[test]
+fn limits_of_received_lists(rt: HostRuntime) {
+    assert_eq!(rt; RECEIVED_LIMIT, 4_194_328);
+    let mut buffer = [0u8; OCTET_LIMIT];
+    for octet in 0..=255u8 {
+        let past = [octet; 64];
         let mut source = FromRead::new(past.as_slice());
         let record = read_received(&mut source, RECEIVED_LIMIT, None, &mut buffer);
         assert!(rt; record == Err(RecordFault::TooLong), "{octet}");
     }
-    assert!(rt; read_slot(&mut Silence, SLOT_LIMIT - 1) == Ok(Some(None)));
-    assert!(rt; read_slot(&mut FromRead::new(&b""[..]), SLOT_LIMIT) == Ok(None));
     let mut end = FromRead::new(&b""[..]);
     assert!(rt; read_received(&mut end, RECEIVED_LIMIT, None, &mut buffer) == Ok(None));
 }

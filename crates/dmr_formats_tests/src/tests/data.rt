@@ -1,0 +1,364 @@
+//! Headers, blocks and packets from outside.
+ghost use Rattle.dmr_data.specs.Header.{IsFitHeader};
+
+use dmr_bits::Bits;
+use dmr_bptc::{bptc_decode, bptc_encode};
+use dmr_checks::{Mask, seal};
+use dmr_data::{
+    Block, BlockFault, Blocks, Confirmed, Header, HeaderFault, JoinFault, Octets, Rate, Response,
+    ShortData, Status, Unconfirmed, block_info, block_read, header_info, header_read, join_packet,
+    split_packet,
+};
+use dmr_test_values::DATAGRAM_BLOCK;
+
+/// What is sent of ten octets, sealed as a data header.
+fn sent(octets: &[u8; 10]) -> Bits<196> {
+    bptc_encode(&Bits::<96>::from_octets(&seal(octets, Mask::Header)))
+}
+
+/// From 2 to 1, a response wanted, 64 blocks.
+const FROM_2_TO_1: Confirmed = Confirmed {
+    group: false,
+    wanted: true,
+    pad: 0,
+    sap: 4,
+    destination: 1,
+    source: 2,
+    full: true,
+    blocks: 64,
+    resynchronize: false,
+    number: 0,
+    fragment: 8,
+};
+
+/// Its octets.
+const FROM_2_TO_1_OCTETS: [u8; 10] = [0x43, 0x40, 0, 0, 1, 0, 0, 2, 0xC0, 0x08];
+
+/// A compressed datagram from 1 to 2 in one block.
+const ONE_BLOCK: Unconfirmed = Unconfirmed {
+    group: false,
+    wanted: false,
+    pad: 1,
+    sap: 3,
+    destination: 2,
+    source: 1,
+    full: true,
+    blocks: 1,
+    fragment: 0,
+};
+
+/// Its octets.
+const ONE_BLOCK_OCTETS: [u8; 10] = [0x02, 0x31, 0, 0, 2, 0, 0, 1, 0x81, 0];
+
+/// To 1 from 3, ports 1 and 2.
+const FIVE: Status = Status {
+    group: false,
+    wanted: false,
+    destination: 1,
+    source: 3,
+    source_port: 1,
+    destination_port: 2,
+    status: 5,
+};
+
+/// Its octets.
+const FIVE_OCTETS: [u8; 10] = [0x0E, 0xA0, 0, 0, 1, 0, 0, 3, 0x28, 0x05];
+
+/// The answer to a packet from 2 to 1 that asks for some blocks again, with a block of flags.
+const SELECTIVE: Response = Response {
+    sap: 4,
+    destination: 2,
+    source: 1,
+    blocks: 1,
+    class: 2,
+    kind: 0,
+    status: 0,
+};
+
+/// Its octets.
+const SELECTIVE_OCTETS: [u8; 10] = [0x01, 0x40, 0, 0, 2, 0, 0, 1, 0x01, 0x80];
+
+/// The answer that acknowledges it.
+const ACK: Response = Response {
+    sap: 4,
+    destination: 2,
+    source: 1,
+    blocks: 0,
+    class: 0,
+    kind: 1,
+    status: 0,
+};
+
+/// Its octets.
+const ACK_OCTETS: [u8; 10] = [0x01, 0x40, 0, 0, 2, 0, 0, 1, 0, 0x08];
+
+const SHORT_DATA: ShortData = ShortData {
+    group: true,
+    wanted: false,
+    blocks: 33,
+    destination: 0x01_02_03,
+    source: 0x04_05_06,
+    data_format: 0x2A,
+    resynchronize: false,
+    full: true,
+    bit_padding: 7,
+};
+
+/// Its octets.
+const SHORT_DATA_OCTETS: [u8; 10] = [0xAD, 0xA1, 1, 2, 3, 4, 5, 6, 0xA9, 7];
+
+/// Ten octets that are sealed as a header, and what they are read as.
+const READ: [([u8; 10], Result<Header, HeaderFault>); 14] = [
+    (FROM_2_TO_1_OCTETS, Ok(Header::Confirmed(FROM_2_TO_1))),
+    (ONE_BLOCK_OCTETS, Ok(Header::Unconfirmed(ONE_BLOCK))),
+    (FIVE_OCTETS, Ok(Header::Status(FIVE))),
+    (SELECTIVE_OCTETS, Ok(Header::Response(SELECTIVE))),
+    (ACK_OCTETS, Ok(Header::Response(ACK))),
+    (SHORT_DATA_OCTETS, Ok(Header::ShortData(SHORT_DATA))),
+    // As many blocks as there may be.
+    (
+        [0x43, 0x40, 0, 0, 1, 0, 0, 2, 0xFF, 0x08],
+        Ok(Header::Confirmed(Confirmed {
+            blocks: 127,
+            ..FROM_2_TO_1
+        })),
+    ),
+    // Two blocks of flags, for a packet of more than 64 blocks.
+    (
+        [0x01, 0x40, 0, 0, 2, 0, 0, 1, 0x02, 0x80],
+        Ok(Header::Response(Response {
+            blocks: 2,
+            ..SELECTIVE
+        })),
+    ),
+    // The third bit of a confirmed header is ignored, and the first four of an answer.
+    (
+        [0x63, 0x40, 0, 0, 1, 0, 0, 2, 0xC0, 0x08],
+        Ok(Header::Confirmed(FROM_2_TO_1)),
+    ),
+    (
+        [0x81, 0x40, 0, 0, 2, 0, 0, 1, 0, 0x08],
+        Ok(Header::Response(ACK)),
+    ),
+    // Of no format, a status with appended blocks, and a status and short data of other service access points.
+    ([0; 10], Err(HeaderFault::Format)),
+    (
+        [0x0E, 0xA1, 0, 0, 1, 0, 0, 3, 0x28, 0x05],
+        Err(HeaderFault::Format),
+    ),
+    (
+        [0x0E, 0xB0, 0, 0, 1, 0, 0, 3, 0x28, 0x05],
+        Err(HeaderFault::Format),
+    ),
+    (
+        [0xAD, 0xB1, 1, 2, 3, 4, 5, 6, 0xA9, 7],
+        Err(HeaderFault::Format),
+    ),
+];
+
+/// A header is written as these octets, sealed.
+fn is_written(header: &Header, octets: &[u8; 10]) -> bool
+    requires fit { IsFitHeader header.now }
+{
+    let written: [u8; 12] = header_info(header).octets();
+    written == seal(octets, Mask::Header)
+}
+
+#[test]
+fn written_headers(rt: HostRuntime) {
+    let confirmed = Header::Confirmed(FROM_2_TO_1);
+    assert!(rt; is_written(&confirmed, &FROM_2_TO_1_OCTETS));
+    let unconfirmed = Header::Unconfirmed(ONE_BLOCK);
+    assert!(rt; is_written(&unconfirmed, &ONE_BLOCK_OCTETS));
+    assert!(rt; is_written(&Header::Status(FIVE), &FIVE_OCTETS));
+}
+
+#[test]
+fn written_answers_and_short_data(rt: HostRuntime) {
+    assert!(rt; is_written(&Header::Response(SELECTIVE), &SELECTIVE_OCTETS));
+    assert!(rt; is_written(&Header::Response(ACK), &ACK_OCTETS));
+    assert!(rt; is_written(&Header::ShortData(SHORT_DATA), &SHORT_DATA_OCTETS));
+}
+
+#[test]
+fn headers_that_are_read(rt: HostRuntime) {
+    for (octets, wanted) in READ {
+        assert!(rt; header_read(&sent(&octets)) == wanted, "{octets:?}");
+    }
+}
+
+#[test]
+fn header_faults(rt: HostRuntime) {
+    let octets = [0x01, 0x40, 0, 0, 2, 0, 0, 1, 0, 0x08];
+    let csbk = bptc_encode(&Bits::<96>::from_octets(&seal(&octets, Mask::Csbk)));
+    assert!(rt; header_read(&csbk) == Err(HeaderFault::Crc));
+    let mut word = sent(&octets);
+    // Two bits of the first column and two of the second, no two in one row but the first.
+    for at in [181, 152, 166, 108] {
+        let bit = word.get(at);
+        word.set(at, !bit);
+    }
+    assert!(rt; header_read(&word) == Err(HeaderFault::Bptc));
+}
+
+// Each block begins with the 7 bits of its serial and the masked check.
+#[test]
+fn first_block_of_zeros(rt: HostRuntime) {
+    let first = Block {
+        serial: Some(0),
+        octets: Octets::from_slice(&[0; 10]),
+    };
+    let bits = block_info(&first, Rate::Half);
+    let message = Bits::<96>::zero().with_field(0, 16, 0x010F);
+    assert!(rt; bptc_decode(&bits) == Some(message));
+    assert!(rt; block_read(&bits, Rate::Half, Some(1)) == Ok(first));
+}
+
+#[test]
+fn second_block_of_zeros(rt: HostRuntime) {
+    let second = Block {
+        serial: Some(1),
+        octets: Octets::from_slice(&[0; 10]),
+    };
+    let bits = block_info(&second, Rate::Half);
+    let message = Bits::<96>::zero().with_field(0, 16, 0x0356);
+    assert!(rt; bptc_decode(&bits) == Some(message));
+    assert!(rt; block_read(&bits, Rate::Half, Some(1)) == Err(BlockFault::Serial));
+    assert!(rt; block_read(&bits, Rate::Half, Some(2)) == Ok(second));
+}
+
+#[test]
+fn full_block_of_zeros(rt: HostRuntime) {
+    let full = Block {
+        serial: Some(0),
+        octets: Octets::from_slice(&[0; 22]),
+    };
+    let bits = block_info(&full, Rate::Full);
+    assert!(rt; bits == Bits::<196>::zero().with_field(0, 16, 0x00F0));
+    assert!(rt; block_read(&bits, Rate::Full, Some(64)) == Ok(full));
+}
+
+#[test]
+fn unconfirmed_block(rt: HostRuntime) {
+    let half = Block {
+        serial: None,
+        octets: Octets::from_slice(&[0x12, 0x34, 0, 1, 0, 0x13, 0x9A, 0, 1, 2, 3, 4]),
+    };
+    let bits = block_info(&half, Rate::Half);
+    assert!(rt; block_read(&bits, Rate::Half, Some(1)) == Err(BlockFault::Crc9));
+    assert!(rt; block_read(&bits, Rate::Half, None) == Ok(half));
+}
+
+// The four bits between the halves are ignored.
+#[test]
+fn full_unconfirmed_block(rt: HostRuntime) {
+    let full = Block {
+        serial: None,
+        octets: Octets::from_slice(&[0xFF; 24]),
+    };
+    let bits = block_info(&full, Rate::Full);
+    assert_eq!(rt; bits.field(92, 12), 0xF0F);
+    assert!(rt; block_read(&bits.with_field(96, 4, 9), Rate::Full, None) == Ok(full));
+}
+
+#[test]
+fn no_word_of_a_block(rt: HostRuntime) {
+    let mut bits = bptc_encode(&Bits::<96>::zero());
+    for at in [181, 152, 166, 108] {
+        let bit = bits.get(at);
+        bits.set(at, !bit);
+    }
+    assert!(rt; block_read(&bits, Rate::Half, None) == Err(BlockFault::Bptc));
+}
+
+#[test]
+fn join_refusals(rt: HostRuntime) {
+    assert!(rt; join_packet(&[], 0) == Err(JoinFault::Short));
+    assert!(rt; join_packet(&DATAGRAM_BLOCK, 1) == Ok(Octets::from_slice(&DATAGRAM_BLOCK[..7])));
+    assert!(rt; join_packet(&DATAGRAM_BLOCK, 9) == Err(JoinFault::Pad));
+    let mut wrong = DATAGRAM_BLOCK;
+    wrong[11] = 0x67;
+    assert!(rt; join_packet(&wrong, 1) == Err(JoinFault::Crc32));
+}
+
+#[test]
+fn datagram_in_a_block(rt: HostRuntime) {
+    let packet = split_packet(&DATAGRAM_BLOCK[..7], Rate::Half, false);
+    assert_eq!(rt; packet.pad, 1);
+    let blocks = packet.blocks.as_slice();
+    assert_eq!(rt; blocks.len(), 1);
+    let block = Block {
+        serial: None,
+        octets: Octets::from_slice(&DATAGRAM_BLOCK),
+    };
+    assert!(rt; packet.blocks.get(0) == Some(&block));
+    assert!(rt; packet.blocks.get(1) == None);
+}
+
+// The flags that ask a packet of 64 blocks again for its first and its last.
+#[test]
+fn selective_flags(rt: HostRuntime) {
+    let flags = [0xFE, 0xFF, 0xFF, 0xFF, 0xFF, 0xFF, 0xFF, 0x7F];
+    let packet = split_packet(&flags, Rate::Half, false);
+    assert_eq!(rt; packet.pad, 0);
+    let octets = [
+        0xFE, 0xFF, 0xFF, 0xFF, 0xFF, 0xFF, 0xFF, 0x7F, 0xAB, 0xD6, 0xDB, 0x63,
+    ];
+    let mut blocks = Blocks::new();
+    blocks.push(Block {
+        serial: None,
+        octets: Octets::from_slice(&octets),
+    });
+    assert!(rt; packet.blocks == blocks);
+    assert!(rt; join_packet(&octets, 0) == Ok(Octets::from_slice(&flags)));
+}
+
+// A body of 22 octets fills two blocks of 10 but for four, and with the check takes three.
+#[test]
+fn confirmed_packets(rt: HostRuntime) {
+    for rate in [Rate::Half, Rate::Full] {
+        let body = [0x5A; 22];
+        let packet = split_packet(&body, rate, true);
+        let mut octets = Octets::<72>::new();
+        let mut serial = 0;
+        for block in packet.blocks.as_slice() {
+            assert!(rt; block.serial == Some(serial));
+            serial = serial.wrapping_add(1);
+            let copy = block.copy();
+            if octets.as_slice().len() < 48 {
+                octets.extend_from_slice(copy.octets.as_slice());
+            }
+        }
+        let (blocks, pad) = match rate {
+            Rate::Half => (3, 4),
+            Rate::Full => (2, 18),
+        };
+        assert_eq!(rt; serial, blocks);
+        assert_eq!(rt; packet.pad, pad);
+        assert_eq!(rt; octets.as_slice().len() % 2, 0);
+        if octets.as_slice().len() % 2 == 0 {
+            assert!(rt; join_packet(octets.as_slice(), pad) == Ok(Octets::from_slice(&body)));
+        }
+    }
+}
+
+// As much as 127 blocks hold, and the octets of all of them.
+#[test]
+fn longest_packets(rt: HostRuntime) {
+    let confirmed = split_packet(&[0x5A; 1266], Rate::Half, true);
+    assert_eq!(rt; confirmed.blocks.as_slice().len(), 127);
+    assert_eq!(rt; confirmed.pad, 0);
+    let body = [0x5A; 3044];
+    let packet = split_packet(&body, Rate::Full, false);
+    assert_eq!(rt; packet.blocks.as_slice().len(), 127);
+    assert_eq!(rt; packet.pad, 0);
+    let mut octets = Octets::<3072>::new();
+    for block in packet.blocks.as_slice() {
+        let copy = block.copy();
+        if octets.as_slice().len() < 3048 {
+            octets.extend_from_slice(copy.octets.as_slice());
+        }
+    }
+    assert_eq!(rt; octets.as_slice().len(), 3048);
+    assert!(rt; join_packet(octets.as_slice(), 0) == Ok(Octets::from_slice(&body)));
+}

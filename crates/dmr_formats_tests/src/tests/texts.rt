@@ -1,0 +1,85 @@
+//! The texts of the faults. Those of files are tested where they are printed.
+use dmr_csbk::CsbkFault;
+use dmr_data::{BlockFault, HeaderFault, JoinFault};
+use dmr_embedded::EmbedFault;
+use dmr_ip::{ExpandFault, IpFault};
+use dmr_link::LcFault;
+use std::alloc::Global;
+use std::fmt::Display;
+
+const CSBK: [(CsbkFault, &str); 2] = [
+    (CsbkFault::Bptc, "no product word"),
+    (CsbkFault::Crc, "wrong check"),
+];
+
+const EMBEDDED: [(EmbedFault, &str); 3] = [
+    (EmbedFault::Row, "unreadable row"),
+    (EmbedFault::Columns, "odd columns"),
+    (EmbedFault::Checksum, "bad checksum"),
+];
+
+const LINK: [(LcFault, &str); 2] = [
+    (LcFault::Bptc, "no product word"),
+    (LcFault::Parity, "wrong parity"),
+];
+
+const HEADER: [(HeaderFault, &str); 3] = [
+    (HeaderFault::Bptc, "no product word"),
+    (HeaderFault::Crc, "wrong check"),
+    (HeaderFault::Format, "unknown format"),
+];
+
+const BLOCK: [(BlockFault, &str); 3] = [
+    (BlockFault::Bptc, "no product word"),
+    (BlockFault::Crc9, "wrong check"),
+    (BlockFault::Serial, "serial past the last block"),
+];
+
+const JOIN: [(JoinFault, &str); 3] = [
+    (JoinFault::Short, "no block"),
+    (JoinFault::Pad, "pad exceeds the octets"),
+    (JoinFault::Crc32, "wrong check"),
+];
+
+const DATAGRAM: [(IpFault, &str); 8] = [
+    (IpFault::Length, "bad length"),
+    (IpFault::Version, "bad version"),
+    (IpFault::Options, "header with options"),
+    (IpFault::HeaderSum, "bad header checksum"),
+    (IpFault::Fragment, "fragment"),
+    (IpFault::Protocol, "not UDP"),
+    (IpFault::UdpLength, "bad UDP length"),
+    (IpFault::UdpSum, "bad UDP checksum"),
+];
+
+const EXPAND: [(ExpandFault, &str); 5] = [
+    (ExpandFault::Short, "too short"),
+    (ExpandFault::Opcode, "unknown opcode"),
+    (ExpandFault::Address, "unknown address identifier"),
+    (ExpandFault::Port, "unknown port identifier"),
+    (ExpandFault::Long, "too long"),
+];
+
+/// Each fault has its text.
+fn are_texts<T: Display>(alloc: Global, rows: &[(T, &str)]) -> bool {
+    for (fault, text) in rows {
+        match format!(in alloc; "{fault}") {
+            Ok(printed) if printed.as_str() == *text => (),
+            _ => return false,
+        }
+    }
+    true
+}
+
+#[test]
+fn texts(rt: HostRuntime) {
+    let alloc = rt.alloc();
+    assert!(rt; are_texts(alloc, &CSBK));
+    assert!(rt; are_texts(alloc, &EMBEDDED));
+    assert!(rt; are_texts(alloc, &LINK));
+    assert!(rt; are_texts(alloc, &HEADER));
+    assert!(rt; are_texts(alloc, &BLOCK));
+    assert!(rt; are_texts(alloc, &JOIN));
+    assert!(rt; are_texts(alloc, &DATAGRAM));
+    assert!(rt; are_texts(alloc, &EXPAND));
+}
