@@ -3,7 +3,7 @@ ghost use Rattle.std.specs.Prelude.{◌≡◌};
 ghost use Rattle.dmr_listing.specs.Strips.{has};
 
 /// Frames of a recording that follow one another.
-#[derive(Clone, Copy, Debug, Drop, PartialEq, Eq)]
+#[derive(Clone, Copy, Drop)]
 pub struct Frames {
     /// The first of them.
     pub first: u32,

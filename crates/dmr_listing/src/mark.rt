@@ -8,7 +8,7 @@ use dmr_report::Reading;
 use std::fmt;
 
 /// What stands in a slot of a frame: what a strip shows of it.
-#[derive(Clone, Copy, Debug, Default, PartialEq, Eq, Drop)]
+#[derive(Clone, Copy, Default, Drop)]
 pub enum Mark {
     /// Nothing.
     #[default]
