@@ -13,7 +13,7 @@ pub struct Frames {
 
 impl Frames {
     /// Whether a frame is one of them.
-    pub fn has(&self, frame: u32) -> bool
+    pub(crate) fn has(&self, frame: u32) -> bool
         ensures value { result ≡ has self.now frame }
     {
         self.first <= frame && frame <= self.last
