@@ -8,7 +8,7 @@ use dmr_bits::{Bits, Writer};
 use dmr_codes::{BlockCode, Hamming7};
 
 /// Whether the CACH before a downlink burst announces the channel as busy, by its bit AT. ETSI TS 102 361-1, clause 9.1.4.
-#[derive(Clone, Copy, Debug, PartialEq, Eq, Drop)]
+#[derive(Clone, Copy, Drop)]
 pub enum Activity {
     /// AT is 1.
     Busy,

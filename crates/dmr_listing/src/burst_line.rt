@@ -13,7 +13,7 @@ use std::fmt;
 use std::fmt::Write;
 
 /// All that a line shows of a burst.
-#[derive(Clone, Copy, Debug, PartialEq, Eq, Drop)]
+#[derive(Clone, Copy, Drop)]
 pub struct BurstLine {
     /// Where it stands.
     pub place: Place,

@@ -19,7 +19,7 @@ use dmr_report::Information;
 use std::fmt;
 
 /// What the information of a data burst holds, as far as its type tells.
-#[derive(Clone, Copy, Debug, PartialEq, Eq, Drop)]
+#[derive(Clone, Copy, Drop)]
 pub enum Contents {
     /// A link control, of a voice LC header or a terminator.
     LinkControl(FullLc),

@@ -1,5 +1,6 @@
 //! What a line says of a control signalling block.
 use crate::digits::Digits;
+use crate::way::Way;
 use dmr_csbk::{BsDownAct, Csbk, Preamble};
 use std::fmt;
 
@@ -10,21 +11,20 @@ pub(crate) struct ControlBlock(pub(crate) Csbk);
 /// The feature set of the standard, whose opcodes have meanings here.
 const STANDARD: u8 = 0;
 
+/// What follows a preamble: the blocks of a packet, or control signalling blocks.
+fn name_of_rest(packet: bool) -> &'static str {
+    if packet { "data" } else { "CSBKs" }
+}
+
 /// Says what follows a preamble, from whom to whom.
 fn write_preamble<W: fmt::Write>(preamble: &Preamble, f: &mut fmt::Formatter<W>) -> fmt::Result {
-    let Preamble {
-        packet,
-        group,
-        left,
-        target,
-        source,
-    } = *preamble;
-    let what = if packet { "data" } else { "CSBKs" };
-    let to = if group { "group " } else { "" };
-    write!(
-        f,
-        "preamble, {what} to follow {left}, {source} -> {to}{target}"
-    )
+    let way = Way {
+        source: preamble.source,
+        to_group: preamble.group,
+        destination: preamble.target,
+    };
+    let rest = name_of_rest(preamble.packet);
+    write!(f, "preamble, {rest} to follow {}, {way}", preamble.left)
 }
 
 impl fmt::Display for ControlBlock {

@@ -5,10 +5,14 @@ use std::fmt;
 #[derive(Clone, Copy, Drop)]
 pub(crate) struct Counted(pub(crate) usize, pub(crate) &'static str);
 
+/// The ending of a name behind a number.
+fn ending_of(count: usize) -> &'static str {
+    if count == 1 { "" } else { "s" }
+}
+
 impl fmt::Display for Counted {
     fn fmt<W: fmt::Write>(&self, f: &mut fmt::Formatter<W>) -> fmt::Result {
-        let Counted(count, what) = *self;
-        let ending = if count == 1 { "" } else { "s" };
-        write!(f, "{count} {what}{ending}")
+        let ending = ending_of(self.0);
+        write!(f, "{} {}{ending}", self.0, self.1)
     }
 }

@@ -1,5 +1,6 @@
 //! What a line says of a data header.
 use crate::counted::Counted;
+use crate::way::Way;
 use dmr_data::{Confirmed, Header, Response, ShortData, Status, Unconfirmed};
 use std::fmt;
 
@@ -7,25 +8,27 @@ use std::fmt;
 #[derive(Clone, Copy, Drop)]
 pub(crate) struct DataHeader(pub(crate) Header);
 
-/// What stands before the number of a group.
-fn group_name(group: bool) -> &'static str {
-    if group { "group " } else { "" }
+/// How many blocks follow.
+fn blocks(count: u8) -> Counted {
+    Counted(usize::from(count), "block")
 }
 
 fn write_response<W: fmt::Write>(response: &Response, f: &mut fmt::Formatter<W>) -> fmt::Result {
-    let Response {
-        sap,
-        destination,
-        source,
-        blocks,
-        class,
-        kind,
-        status,
-    } = *response;
-    let blocks = Counted(usize::from(blocks), "block");
+    let way = Way {
+        source: response.source,
+        to_group: false,
+        destination: response.destination,
+    };
+    let blocks = blocks(response.blocks);
     write!(
         f,
-        "response {source} -> {destination}, SAP {sap}, class {class}, type {kind}, status {status}, {blocks}"
+        "response {way}, SAP {}, class {}, ",
+        response.sap, response.class
+    )?;
+    write!(
+        f,
+        "type {}, status {}, {blocks}",
+        response.kind, response.status
     )
 }
 
@@ -33,70 +36,57 @@ fn write_unconfirmed<W: fmt::Write>(
     header: &Unconfirmed,
     f: &mut fmt::Formatter<W>,
 ) -> fmt::Result {
-    let to = group_name(header.group);
-    let Unconfirmed {
-        sap,
-        destination,
-        source,
-        blocks,
-        pad,
-        ..
-    } = *header;
-    let blocks = Counted(usize::from(blocks), "block");
+    let way = Way {
+        source: header.source,
+        to_group: header.group,
+        destination: header.destination,
+    };
+    let blocks = blocks(header.blocks);
     write!(
         f,
-        "unconfirmed {source} -> {to}{destination}, SAP {sap}, {blocks}, pad {pad}"
+        "unconfirmed {way}, SAP {}, {blocks}, pad {}",
+        header.sap, header.pad
     )
 }
 
 fn write_confirmed<W: fmt::Write>(header: &Confirmed, f: &mut fmt::Formatter<W>) -> fmt::Result {
-    let to = group_name(header.group);
-    let Confirmed {
-        sap,
-        destination,
-        source,
-        blocks,
-        number,
-        pad,
-        ..
-    } = *header;
-    let blocks = Counted(usize::from(blocks), "block");
+    let way = Way {
+        source: header.source,
+        to_group: header.group,
+        destination: header.destination,
+    };
+    let blocks = blocks(header.blocks);
     write!(
         f,
-        "confirmed {source} -> {to}{destination}, SAP {sap}, N(S) {number}, {blocks}, pad {pad}"
+        "confirmed {way}, SAP {}, N(S) {}, {blocks}, pad {}",
+        header.sap, header.number, header.pad
     )
 }
 
 fn write_short_data<W: fmt::Write>(header: &ShortData, f: &mut fmt::Formatter<W>) -> fmt::Result {
-    let to = group_name(header.group);
-    let ShortData {
-        destination,
-        source,
-        data_format,
-        blocks,
-        bit_padding,
-        ..
-    } = *header;
-    let blocks = Counted(usize::from(blocks), "block");
+    let way = Way {
+        source: header.source,
+        to_group: header.group,
+        destination: header.destination,
+    };
+    let blocks = blocks(header.blocks);
     write!(
         f,
-        "short data {source} -> {to}{destination}, format {data_format}, {blocks}, bit padding {bit_padding}"
+        "short data {way}, format {}, {blocks}, bit padding {}",
+        header.data_format, header.bit_padding
     )
 }
 
 fn write_status<W: fmt::Write>(header: &Status, f: &mut fmt::Formatter<W>) -> fmt::Result {
-    let to = group_name(header.group);
-    let Status {
-        destination,
-        source,
-        source_port,
-        destination_port,
-        status,
-        ..
-    } = *header;
+    let way = Way {
+        source: header.source,
+        to_group: header.group,
+        destination: header.destination,
+    };
     write!(
         f,
-        "status {source} -> {to}{destination}, port {source_port} -> {destination_port}, status {status}"
+        "status {way}, port {} -> {}, status {}",
+        header.source_port, header.destination_port, header.status
     )
 }
 

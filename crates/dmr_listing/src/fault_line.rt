@@ -4,7 +4,7 @@ use dmr_record::RecordFault;
 use std::fmt;
 
 /// A fault of a file, and the record that shows it.
-#[derive(Clone, Copy, Debug, PartialEq, Eq, Drop)]
+#[derive(Clone, Copy, PartialEq, Eq, Drop)]
 pub struct FaultLine {
     /// The fault.
     pub fault: RecordFault,

@@ -8,7 +8,7 @@ use dmr_link::FullLc;
 use std::marker::Model;
 
 /// What one voice burst carries of a link control.
-#[derive(Clone, Copy, Debug, Drop)]
+#[derive(Clone, Copy, Drop)]
 pub(crate) struct Fragment {
     /// The link control start and stop of its embedded signalling.
     pub(crate) lcss: u8,
@@ -17,7 +17,7 @@ pub(crate) struct Fragment {
 }
 
 /// What the newest four frames of a slot carry of a link control.
-#[derive(Debug, Drop)]
+#[derive(Drop)]
 pub(crate) struct Fragments {
     newest: [Option<Fragment>; 4],
 }

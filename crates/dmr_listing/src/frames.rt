@@ -3,7 +3,7 @@ ghost use Rattle.std.specs.Prelude.{◌≡◌};
 ghost use Rattle.dmr_listing.specs.Strips.{has};
 
 /// Frames of a recording that follow one another.
-#[derive(Clone, Copy, Debug, Drop, PartialEq, Eq)]
+#[derive(Clone, Copy, Drop)]
 pub struct Frames {
     /// The first of them.
     pub first: u32,
@@ -13,7 +13,7 @@ pub struct Frames {
 
 impl Frames {
     /// Whether a frame is one of them.
-    pub fn has(&self, frame: u32) -> bool
+    pub(crate) fn has(&self, frame: u32) -> bool
         ensures value { result ≡ has self.now frame }
     {
         self.first <= frame && frame <= self.last

@@ -48,6 +48,7 @@ mod strip;
 mod strips;
 mod summary;
 mod voice_place;
+mod way;
 mod wrong;
 
 pub use activity::Activity;

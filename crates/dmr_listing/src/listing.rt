@@ -36,7 +36,7 @@ pub trait BurstLines {
 }
 
 /// Why a listing stopped.
-#[derive(Clone, Copy, Debug, Drop, PartialEq, Eq)]
+#[derive(Clone, Copy, Drop, PartialEq, Eq)]
 pub enum ListingEnd {
     /// The file is at fault.
     File(FaultLine),

@@ -8,7 +8,7 @@ use dmr_report::Reading;
 use std::fmt;
 
 /// What stands in a slot of a frame: what a strip shows of it.
-#[derive(Clone, Copy, Debug, Default, PartialEq, Eq, Drop)]
+#[derive(Clone, Copy, Default, Drop)]
 pub enum Mark {
     /// Nothing.
     #[default]
@@ -54,7 +54,7 @@ fn mark_of_type(kind: u8) -> Mark
 
 impl Mark {
     /// The mark of the burst that has this line.
-    pub fn of_line(line: &BurstLine) -> Mark
+    pub(crate) fn of_line(line: &BurstLine) -> Mark
         ensures value { result ≡ mark_of line.now }
     {
         match line.reading {

@@ -7,7 +7,7 @@ use std::fmt;
 use std::fmt::Write;
 
 /// A slot of a frame.
-#[derive(Clone, Copy, Debug, Drop, PartialEq, Eq)]
+#[derive(Clone, Copy, Drop, PartialEq, Eq)]
 pub struct Place {
     /// The frame, from 0 on.
     pub frame: u32,

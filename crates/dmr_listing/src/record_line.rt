@@ -24,6 +24,20 @@ pub struct ReceivedLine<'a> {
     pub octets: &'a [u8],
 }
 
+/// How a packet is sent.
+fn mode_name(confirmed: bool) -> &'static str {
+    if confirmed {
+        "confirmed"
+    } else {
+        "unconfirmed"
+    }
+}
+
+/// The rate of its blocks.
+fn rate_name(full: bool) -> &'static str {
+    if full { "1" } else { "1/2" }
+}
+
 impl fmt::Display for OutgoingLine<'_> {
     /// Time, frame and slot, how it is sent, and what it is.
     fn fmt<W: fmt::Write>(&self, f: &mut fmt::Formatter<W>) -> fmt::Result {
@@ -31,15 +45,11 @@ impl fmt::Display for OutgoingLine<'_> {
             frame: self.record.frame,
             slot: self.record.slot,
         };
-        let mode = if self.record.confirmed {
-            "confirmed"
-        } else {
-            "unconfirmed"
-        };
-        let rate = if self.record.full { "1" } else { "1/2" };
+        let mode = mode_name(self.record.confirmed);
+        let rate = rate_name(self.record.full);
         let count = Counted(usize::from(self.record.length), "octet");
-        let datagram = DatagramText(self.record.octets.as_slice());
-        write!(f, "{place}  {mode}, rate {rate}, {count}: {datagram}")
+        write!(f, "{place}  {mode}, rate {rate}, {count}: ")?;
+        write!(f, "{}", DatagramText(self.record.octets.as_slice()))
     }
 }
 
@@ -59,31 +69,29 @@ impl fmt::Display for StatusText<'_> {
     }
 }
 
+/// What came.
+fn kind_name(kind: ReceivedKind) -> &'static str {
+    match kind {
+        ReceivedKind::Datagram => "datagram",
+        ReceivedKind::ShortData => "short data",
+        ReceivedKind::Status => "status",
+    }
+}
+
 impl fmt::Display for ReceivedLine<'_> {
     /// Time, frame and slot, from whom it came, and what it is.
     fn fmt<W: fmt::Write>(&self, f: &mut fmt::Formatter<W>) -> fmt::Result {
-        let Received {
-            frame,
-            slot,
-            kind,
-            source,
-            ..
-        } = self.record;
-        let place = Place { frame, slot };
+        let place = Place {
+            frame: self.record.frame,
+            slot: self.record.slot,
+        };
+        let kind = kind_name(self.record.kind);
         let count = Counted(self.octets.len(), "octet");
-        match kind {
-            ReceivedKind::Datagram => {
-                let datagram = DatagramText(self.octets);
-                write!(f, "{place}  datagram from {source}, {count}: {datagram}")
-            }
-            ReceivedKind::ShortData => {
-                let octets = Digits(self.octets);
-                write!(f, "{place}  short data from {source}, {count}: {octets}")
-            }
-            ReceivedKind::Status => {
-                let status = StatusText(self.octets);
-                write!(f, "{place}  status from {source}, {count}: {status}")
-            }
+        write!(f, "{place}  {kind} from {}, {count}: ", self.record.source)?;
+        match self.record.kind {
+            ReceivedKind::Datagram => write!(f, "{}", DatagramText(self.octets)),
+            ReceivedKind::ShortData => write!(f, "{}", Digits(self.octets)),
+            ReceivedKind::Status => write!(f, "{}", StatusText(self.octets)),
         }
     }
 }

@@ -9,7 +9,7 @@ ghost use Rattle.dmr_listing.specs.Recordings.{IsSlotOf, ShowsSlotFaultOf, most_
 use dmr_record::{RecordFault, Source, read_slot, read_uplink_slot};
 
 /// Which of the two recordings a file is.
-#[derive(Clone, Copy, Debug, Drop, PartialEq, Eq)]
+#[derive(Clone, Copy, Drop)]
 pub enum Recording {
     /// The bursts that a base station received.
     Uplink,
@@ -18,7 +18,7 @@ pub enum Recording {
 }
 
 /// A burst of a recording.
-#[derive(Clone, Copy, Debug, Drop, PartialEq, Eq)]
+#[derive(Clone, Copy, Drop)]
 pub struct RecordedBurst {
     /// The CACH before it, on the downlink.
     pub cach: Option<[u8; 3]>,

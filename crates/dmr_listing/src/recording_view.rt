@@ -14,7 +14,7 @@ use std::mem;
 
 /// What the lines of a recording need of the slots before: how many there were, what is kept of both slots of a frame, and what was
 /// counted.
-#[derive(Debug, Drop)]
+#[derive(Drop)]
 pub(crate) struct RecordingView {
     slots: u32,
     next: SlotView,

@@ -16,7 +16,7 @@ use dmr_report::{Reading, read_burst};
 use std::marker::Model;
 
 /// What the lines of a slot need of the frames before: where superframes stand, and what was carried of a link control.
-#[derive(Debug, Drop)]
+#[derive(Drop)]
 pub struct SlotView {
     places: VoicePlaces,
     fragments: Fragments,

@@ -43,20 +43,17 @@ pub struct RecordingSummary {
 
 impl fmt::Display for RecordingSummary {
     fn fmt<W: fmt::Write>(&self, f: &mut fmt::Formatter<W>) -> fmt::Result {
-        let frames = self.frames;
         let end = Place {
-            frame: frames,
+            frame: self.frames,
             slot: 1,
         };
         let seconds = Seconds(end.milliseconds());
-        let BurstCounts {
-            slot_1,
-            slot_2,
-            unreadable,
-        } = self.bursts;
+        let bursts = self.bursts;
+        write!(f, "frames {} seconds {seconds} ", self.frames)?;
         write!(
             f,
-            "frames {frames} seconds {seconds} slot-1 {slot_1} slot-2 {slot_2} unreadable {unreadable}"
+            "slot-1 {} slot-2 {} unreadable {}",
+            bursts.slot_1, bursts.slot_2, bursts.unreadable
         )
     }
 }

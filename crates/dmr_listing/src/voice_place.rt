@@ -6,7 +6,7 @@ use dmr_report::Reading;
 use std::marker::Model;
 
 /// A place of a superframe. ETSI TS 102 361-1, clause 5.1.2.1.
-#[derive(Clone, Copy, Debug, PartialEq, Eq)]
+#[derive(Clone, Copy, PartialEq, Eq)]
 pub enum VoicePlace {
     /// The burst with the voice sync.
     A,
@@ -39,7 +39,7 @@ impl VoicePlace {
 }
 
 /// Where the frames of one slot stand in superframes, one frame at a time.
-#[derive(Debug, Drop)]
+#[derive(Drop)]
 pub struct VoicePlaces {
     last: Option<VoicePlace>,
 }

@@ -15,7 +15,7 @@ use std::fmt;
 
 /// How many bits of a burst are wrong, field by field: how far what came is from the word that it was read as. It is 0 of what a
 /// burst doesn't have, and of what wasn't read.
-#[derive(Clone, Copy, Debug, PartialEq, Eq, Drop)]
+#[derive(Clone, Copy, Drop)]
 pub struct Wrong {
     /// Of the 48 bits of the sync.
     pub sync: usize,
@@ -169,6 +169,7 @@ impl fmt::Display for Wrong {
     /// The parts that are wrong in brackets, and nothing where none is.
     fn fmt<W: fmt::Write>(&self, f: &mut fmt::Formatter<W>) -> fmt::Result {
         let mut before = "  [wrong: ";
+        let mut end = "";
         for (name, wrong) in [
             ("sync", self.sync),
             ("slot type", self.slot_type),
@@ -178,12 +179,9 @@ impl fmt::Display for Wrong {
             if wrong > 0 {
                 write!(f, "{before}{name} {wrong}")?;
                 before = ", ";
+                end = "]";
             }
         }
-        if *self == NONE {
-            Ok(())
-        } else {
-            write!(f, "]")
-        }
+        write!(f, "{end}")
     }
 }

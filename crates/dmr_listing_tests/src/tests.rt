@@ -51,7 +51,7 @@ fn places_of_a_superframe(rt: HostRuntime) {
     let mut places = VoicePlaces::new();
     for (reading, want) in frames {
         let place = places.next(reading);
-        assert!(rt; place == want, "{want:?}");
+        assert!(rt; place == want);
     }
 }
 
