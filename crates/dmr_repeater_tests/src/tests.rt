@@ -180,6 +180,12 @@ fn block_of_another_colour(rt: HostRuntime) {
 }
 
 #[test]
+fn header_alone(rt: HostRuntime) {
+    let ran = run_pieces(&rt, rt.alloc(), &[&UPLINK], &[&OUTGOING]);
+    expect_sent(&rt, rt.alloc(), &ran, summary(6, 0), &[&DOWNLINK, &[0; 12]]);
+}
+
+#[test]
 fn idle_for_the_channel_hang(rt: HostRuntime) {
     let ran = run_pieces(
         &rt,
