@@ -1,4 +1,6 @@
 //! Worked histories of what a gateway receives and answers, frame by frame.
+ghost use Rattle.std.specs.Prelude.{◌≤◌, length};
+
 use crate::traffic::{
     answer, answered_by, block, confirmed, confirmed_by, frame, gateway, headed, hear_try,
     next_flags, octets_of, status,
@@ -58,7 +60,9 @@ fn first_try(rt: &impl Abort, gateway: &mut Gateway, packet: &Packet) -> Octets<
 }
 
 /// What the gateway has of a confirmed packet of radio 2 with these octets.
-fn received(octets: &[u8]) -> Option<Received> {
+fn received(octets: &[u8]) -> Option<Received>
+    requires fits { length octets.now ≤ 3044 }
+{
     Some(Received {
         slot: 1,
         kind: ReceivedKind::Datagram,
