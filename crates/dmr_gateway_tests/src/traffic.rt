@@ -12,7 +12,7 @@ use dmr_data::{
     header_info, header_read,
 };
 use dmr_gateway::{Config, Gateway};
-use dmr_record::{Octets as Kept, Outgoing};
+use dmr_record::Outgoing;
 use std::alloc::Global;
 use std::process::Abort;
 
@@ -27,7 +27,7 @@ pub fn outgoing_in(slot: u8, confirmed: bool, octets: &[u8]) -> Outgoing
     requires slot { IsSlot slot }
     ensures slot { IsSlot result.slot }
 {
-    let mut kept = Kept::new();
+    let mut kept = Octets::new();
     kept.keep(octets);
     Outgoing {
         frame: 0,

@@ -10,10 +10,8 @@ use crate::fields::{
     UDP_LENGTH, VERSION, number_at,
 };
 use arrayvec::ArrayVec;
+use dmr_octets::DATAGRAM_LIMIT;
 use std::marker::Model;
-
-/// How many octets a datagram has at most.
-pub const DATAGRAM_LIMIT: usize = 1400;
 
 /// A UDP datagram over IPv4 of at most 1,400 octets, without options, and not a fragment. RFC 791 and RFC 768.
 #[derive(Debug, Drop)]

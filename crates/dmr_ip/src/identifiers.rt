@@ -2,10 +2,10 @@
 ghost use Rattle.std.specs.Prelude.{◌≡◌, ◌+◌, ◌≤◌, ◌++◌, length};
 ghost use Rattle.dmr_ip.specs.Spelling.{address_identifiers, form_fault, identifier_of, port_from, port_length, port_octets};
 
-use crate::datagram::DATAGRAM_LIMIT;
 use crate::fault::ExpandFault;
 use crate::fields::{HEADERS, number_at};
 use arrayvec::ArrayVec;
+use dmr_octets::DATAGRAM_LIMIT;
 
 /// How many octets a compressed form has at most: the identifiers, both ports, and the payload.
 pub const FORM_LIMIT: usize = IDENTIFIERS + 4 + DATAGRAM_LIMIT - HEADERS;

@@ -19,6 +19,6 @@ pub mod laws;
 mod message;
 
 pub use compression::{compress, expand};
-pub use datagram::{DATAGRAM_LIMIT, Datagram};
+pub use datagram::Datagram;
 pub use fault::{ExpandFault, IpFault};
 pub use identifiers::FORM_LIMIT;

@@ -3,7 +3,7 @@ ghost use Rattle.std.specs.Prelude.{◌≡◌, ◌+◌, ◌^◌, ◌<◌, ◌≤
 ghost use Rattle.dmr_ip.specs.Contents.{FitsDatagram, datagram_between, datagram_of, shown_contents};
 ghost use Rattle.dmr_ip.specs.Spelling.{behind_identifiers, behind_ports, ports_length, read_contents, written_form};
 
-use crate::datagram::{DATAGRAM_LIMIT, Datagram};
+use crate::datagram::Datagram;
 use crate::fields::{
     DESTINATION_PORT, HEADERS, IDENTIFICATION, IP_HEADER, SOURCE_PORT, UDP_HEADER, number_at,
 };
@@ -13,6 +13,7 @@ use crate::identifiers::{
     port_from, port_length, push_port,
 };
 use arrayvec::ArrayVec;
+use dmr_octets::DATAGRAM_LIMIT;
 use std::marker::Model;
 
 /// What differs between two datagrams that have a compressed form and go from one radio to another.

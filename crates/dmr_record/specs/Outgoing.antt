@@ -5,7 +5,6 @@ use Rattle.byteorder.specs.Endian.{big_bytes}
 use Rattle.dmr_record.specs.declared.head.TheConstants.{OUTGOING_MAGIC}
 use Rattle.dmr_record.specs.declared.fault.RecordFault.{RecordFault}
 use Rattle.dmr_record.specs.declared.fault.RecordFault.TheVariants.{CutRecord, BadTag, FrameOrder, TooLong, Read}
-use Rattle.dmr_record.specs.declared.octets.TheConstants.{DATAGRAM_LIMIT}
 use Rattle.dmr_record.specs.declared.outgoing.Outgoing.{Outgoing}
 use Rattle.dmr_record.specs.Head.{head_octets}
 
@@ -78,7 +77,7 @@ sending_of o datagram =
 -- What was read keeps the length of the datagram, and the first of its octets.
 pub record Keeps (o : Outgoing) (datagram : List ℕ) : Type 0 where
   pub count : o.length ≡ length datagram
-  pub front : o.octets ≡ take DATAGRAM_LIMIT datagram
+  pub front : o.octets ≡ take 1400 datagram
 
 -- the record with none of its octets
 abbrev pub emptied : Outgoing → Outgoing

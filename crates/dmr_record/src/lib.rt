@@ -16,13 +16,13 @@ mod downlink;
 mod fault;
 mod head;
 pub mod laws;
-mod octets;
 mod outgoing;
 mod received;
 mod tag;
 mod transfer;
 mod uplink;
 
+pub use dmr_octets::{DATAGRAM_LIMIT, Octets};
 pub use device::{DeviceFault, FromRead, Sink, Source, ToWrite};
 pub use downlink::{SLOT_LIMIT, read_slot, write_slot};
 pub use fault::RecordFault;
@@ -30,7 +30,6 @@ pub use head::{
     DOWNLINK_MAGIC, FileFormat, OUTGOING_MAGIC, RECEIVED_MAGIC, UPLINK_MAGIC, read_any_head,
     read_head, write_head,
 };
-pub use octets::{DATAGRAM_LIMIT, Octets};
 pub use outgoing::{Outgoing, RECORD_LIMIT, read_outgoing, read_outgoing_into};
 pub use received::{
     OCTET_LIMIT, RECEIVED_LIMIT, Received, ReceivedKind, read_received, write_received,

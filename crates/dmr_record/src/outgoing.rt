@@ -9,10 +9,10 @@ ghost use Rattle.dmr_record.specs.Outgoing.{IsSending, emptied, sending_of, send
 
 use crate::device::Source;
 use crate::fault::RecordFault;
-use crate::octets::{DATAGRAM_LIMIT, Octets};
 use crate::tag::OUTGOING;
 use crate::transfer::{fill, fill_whole, read_octet};
 use byteorder::{BigEndian, ByteOrder};
+use dmr_octets::{DATAGRAM_LIMIT, Octets};
 
 /// How many records an outgoing file has at most.
 pub const RECORD_LIMIT: u32 = 1 << 20;
@@ -31,7 +31,7 @@ pub struct Outgoing {
     /// How many octets it has, those that aren't kept too.
     pub length: u16,
     /// The first of its octets.
-    pub octets: Octets,
+    pub octets: Octets<DATAGRAM_LIMIT>,
 }
 
 /// The fields of a record between its tag and its octets.
@@ -67,12 +67,12 @@ fn fields_of(octets: [u8; 8]) -> Fields
 fn read_octets<S: Source>(
     source: &mut S,
     count: u16,
-    octets: &mut Octets,
+    octets: &mut Octets<DATAGRAM_LIMIT>,
 ) -> Result<(), RecordFault>
     requires well { S.has_failed source.old ≡ false }
     requires empty { octets.old ≡ [] }
     ensures octets { OnOk result ((all : List ℕ) × (length all ≡ count)
-        × (octets.new ≡ take DATAGRAM_LIMIT all) × Consumes (S.left source.old) (S.left source.new) all) }
+        × (octets.new ≡ take 1400 all) × Consumes (S.left source.old) (S.left source.new) all) }
     ensures well { OnOk result (S.has_failed source.new ≡ false) }
     ensures part { OnErr result ((part : List ℕ) × (length part < count)
         × Consumes (S.left source.old) (S.left source.new) part) }
