@@ -1,7 +1,7 @@
 //! What the newest frames of a slot carry of a link control.
 ghost use Rattle.std.specs.Prelude.{◌≡◌, ◌∷◌, ◌++◌, [], drop, None, replicate};
+ghost use Rattle.dmr_hearing.specs.Fields.{IsReadFrom};
 ghost use Rattle.dmr_listing.specs.Fragments.{IsEmbedded};
-ghost use Rattle.dmr_voice.specs.Carried.{IsReadFrom};
 
 use dmr_embedded::extract;
 use dmr_link::FullLc;
