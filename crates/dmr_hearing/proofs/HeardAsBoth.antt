@@ -1,21 +1,20 @@
 -- A slot that is a recording of two things that may be sent can be heard as both of them.
 use Rattle.std.proofs.Common.{◌≡◌, ℕ, ◌⊎◌, Bool, true, false, List, length, Option, Some, None, IfSome}
-use Rattle.std.proofs.Common.{refl, ap, ◌∙◌, subst, arith, inl, inr}
+use Rattle.std.proofs.Common.{refl, sym, ap, ◌∙◌, subst, arith, inl, inr}
 use Rattle.dmr_bits.specs.Bits.{bits_of_octets, number_of}
 use Rattle.dmr_bits.proofs.OctetFronts.{length-bits_of_octets}
 use Rattle.dmr_burst.specs.Layout.{HasSync, HasEmb, information_field, embedded_field, vocoder_field}
 use Rattle.dmr_burst.specs.declared.burst.Emb.{Emb}
 use Rattle.dmr_burst.specs.declared.burst.Side.TheVariants.{Ms}
 use Rattle.dmr_burst.specs.declared.burst.SlotType.{SlotType}
-use Rattle.dmr_hearing.specs.Recorded.{IsSilenceOrBurst, vocoder_of}
 use Rattle.dmr_hearing.specs.Damage.{Sends, IsDamagedPayload, IsSentSlot, IsDamagedData, IsDamagedForeignData, HasNoMobileSync}
 use Rattle.dmr_hearing.specs.Damage.{IsDamagedBurst, IsRecordedAs}
 use Rattle.dmr_hearing.specs.DataTypes.{payload_of}
+use Rattle.dmr_hearing.specs.Recorded.{IsSilenceOrBurst, IsHearing}
 use Rattle.dmr_hearing.specs.Slots.{Slot, Silent, Data, VoiceSync, Voice, ForeignVoice, ForeignData, CutOff, silence, IsHeardAs}
 use Rattle.dmr_hearing.specs.declared.heard.Datum.{Datum}
 use Rattle.dmr_hearing.specs.declared.heard.Heard.{Heard}
 use Rattle.dmr_hearing.proofs.OneField.{one_sync, one_slot_type, one_emb, one_payload}
-use Rattle.dmr_hearing.proofs.HeardAsBoth.{silent}
 use Rattle.dmr_link.specs.declared.full_lc.FullLc.{FullLc}
 
 -- ---- what the centre shows

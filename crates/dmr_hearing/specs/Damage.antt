@@ -81,7 +81,7 @@ IsDamagedBurst colour (Data kind information lc) bits = IsDamagedData colour kin
 -- at most three wrong bits in the sync
 IsDamagedBurst colour VoiceSync bits = HasSync (record { side = Ms; voice = true }) bits
 -- At most two wrong bits in the EMB, and the embedded field as it is received: at most one wrong bit in each row of the table of
--- an embedded word is said of its four fields at once, where a superframe has them all (`IsReceived`, WellFormed.antt).
+-- an embedded word is said of its four fields at once, where they are all received (`IsReceived`, Fields.antt).
 IsDamagedBurst colour (Voice emb embedded) bits = HasEmb emb bits × (number_of (embedded_field bits) ≡ embedded)
 IsDamagedBurst colour (ForeignVoice emb) bits = HasEmb emb bits × HasNoMobileSync bits
 IsDamagedBurst colour ForeignData bits = IsDamagedForeignData colour bits

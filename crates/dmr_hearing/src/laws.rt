@@ -7,7 +7,8 @@ ghost use Rattle.dmr_burst.specs.declared.burst.Emb.{Emb};
 ghost use Rattle.dmr_burst.specs.declared.burst.Side.TheVariants as side;
 ghost use Rattle.dmr_hearing.specs.Damage.{IsSentSlot, IsRecordedAs, HasNoMobileSync};
 ghost use Rattle.dmr_hearing.specs.Hearing.{Hears};
-ghost use Rattle.dmr_hearing.specs.Slots.{Data, VoiceSync, Voice, ForeignVoice, ForeignData};
+ghost use Rattle.dmr_hearing.specs.Recorded.{IsSilenceOrBurst, IsHearing};
+ghost use Rattle.dmr_hearing.specs.Slots.{Slot, Data, VoiceSync, Voice, ForeignVoice, ForeignData};
 ghost use Rattle.dmr_hearing.specs.declared.heard.Heard.{Heard};
 ghost use Rattle.dmr_link.specs.declared.full_lc.FullLc.{FullLc};
 
@@ -37,4 +38,10 @@ pub fn sent_is_recorded()
         → IsSentSlot colour (ForeignVoice emb) → HasNoMobileSync (bits_of_octets octets)
         → IsEncoding (burst.Voice emb embedded vocoder) side.Ms (bits_of_octets octets)
         → IsRecordedAs colour (ForeignVoice emb) (Some octets) }
+{}
+
+/// A slot that is a recording of two things that may be sent can be heard as both: they ask for nothing that excludes the other.
+pub fn heard_as_both()
+    ensures law { (colour : ℕ) (slot : Option (List ℕ)) (a b : Slot) → IsSilenceOrBurst slot → IsRecordedAs colour a slot
+        → IsRecordedAs colour b slot → (heard : Heard) × IsHearing slot a heard × IsHearing slot b heard }
 {}
