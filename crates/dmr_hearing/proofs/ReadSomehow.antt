@@ -1,6 +1,6 @@
 -- Any four fields carry a link control or nothing: there is what is read from them.
 use Rattle.std.proofs.Common.{◌≡◌, ℕ, ◌*◌, ◌^◌, ◌<◌, Bool, true, false, List, [], ◌∷◌, ◌++◌, length, take, drop, cond}
-use Rattle.std.proofs.Common.{Option, Some, None, Ok, Err, refl, sym, ap, ◌∙◌, subst, arith, inl, inr}
+use Rattle.std.proofs.Common.{Option, Some, None, Ok, Err, sym, ap, ◌∙◌, subst, arith, inl, inr}
 use Rattle.std.proofs.lemmas.List.{length-take-le, length-drop, take-append-drop}
 use Rattle.dmr_bits.specs.Bits.{number_of, bits_of, bits_of_octets, octets_of}
 use Rattle.dmr_bits.proofs.Lists.{number_of-lt, bits_of_spelled}
