@@ -1,9 +1,9 @@
 //! Bursts from outside, heard by a repeater of colour code 1.
 use dmr_bits::Bits;
 use dmr_burst::Emb;
+use dmr_hearing::{Datum, Heard, hear};
 use dmr_link::FullLc;
 use dmr_test_values::{CALL_HEADER, CALL_TERMINATOR, ONE_CSBK, PRINTED_VOICE_BURST, REPEATED_CSBK};
-use dmr_voice::{Datum, Heard, hear};
 
 /// A call to talk group 1 from radio 2, no option set.
 const GROUP_CALL: FullLc = FullLc {
@@ -140,7 +140,7 @@ fn silence(rt: HostRuntime) {
         vocoder: Bits::<216>::zero(),
     };
     assert!(rt; hear(&None, 1) == nothing);
-    assert!(rt; dmr_voice::silence() == nothing);
+    assert!(rt; dmr_hearing::silence() == nothing);
 }
 
 #[test]
