@@ -1,8 +1,8 @@
 -- The link control that four frames of a slot carry.
 use Rattle.std.specs.Prelude.{◌≡◌, List, [], ◌∷◌, Option, Some, None}
+use Rattle.dmr_hearing.specs.Fields.{IsReadFrom}
 use Rattle.dmr_link.specs.declared.full_lc.FullLc.{FullLc}
 use Rattle.dmr_listing.specs.declared.fragments.Fragment.{Fragment}
-use Rattle.dmr_voice.specs.Carried.{IsReadFrom}
 
 -- The four say by their LCSS that they carry one: first, continuation, continuation, last.
 pub record AreWhole (b c d e : Fragment) : Type 0 where

@@ -1,9 +1,8 @@
 //! What the newest frames of a slot carry of a link control.
 ghost use Rattle.std.specs.Prelude.{◌≡◌, ◌∷◌, ◌++◌, [], drop, None, replicate};
 ghost use Rattle.dmr_listing.specs.Fragments.{IsEmbedded};
-ghost use Rattle.dmr_voice.specs.Carried.{IsReadFrom};
 
-use dmr_embedded::extract;
+use dmr_hearing::read_fields;
 use dmr_link::FullLc;
 use std::marker::Model;
 
@@ -60,15 +59,5 @@ impl Fragments {
             }
             _ => None,
         }
-    }
-}
-
-/// The link control that four embedded fields carry.
-fn read_fields(fields: &[u32; 4]) -> Option<FullLc>
-    ensures read { IsReadFrom fields.now result }
-{
-    match extract(fields) {
-        Ok(octets) => Some(FullLc::from_octets(&octets)),
-        Err(_) => None,
     }
 }

@@ -3,16 +3,16 @@ use Rattle.std.proofs.Common.{◌≡◌, ℕ, ◌+◌, ◌-◌, ◌<◌, ◌≤�
 use Rattle.std.proofs.Common.{Option, Some, None, false, refl, sym, subst, ◌∙◌, ap, arith, is_some}
 use Rattle.std.proofs.lemmas.List.{append-nil, append_assoc, length-append, length-drop, length-replicate}
 use Rattle.std.proofs.lemmas.List.{replicate-append-replicate}
+use Rattle.dmr_hearing.specs.Hearing.{Hears}
+use Rattle.dmr_hearing.specs.Slots.{silence}
+use Rattle.dmr_hearing.specs.declared.heard.Heard.{Heard}
+use Rattle.dmr_hearing.proofs.HeardAsBoth.{silent as quiet_sent}
 use Rattle.dmr_link.specs.declared.full_lc.FullLc.{FullLc}
-use Rattle.dmr_voice.specs.Hearing.{Hears}
 use Rattle.dmr_voice.specs.Rules.{step_of, nothing}
-use Rattle.dmr_voice.specs.Slots.{silence}
-use Rattle.dmr_voice.specs.declared.heard.Heard.{Heard}
 use Rattle.dmr_voice.specs.declared.place.Place.TheVariants.{A, B, C, D, E, F}
 use Rattle.dmr_voice.specs.declared.said.Said.{Said}
 use Rattle.dmr_voice.specs.declared.track.Track.{Track}
 use Rattle.dmr_voice.specs.declared.track.Track.TheVariants.{Idle, AfterHeader, Gap, InCall}
-use Rattle.dmr_voice.proofs.Recorded.{silent as quiet_sent}
 use Rattle.dmr_slot.specs.Push.{Memory, EndsSilent, IsPush, moved}
 use Rattle.dmr_slot.specs.declared.line.SlotOut.{SlotOut}
 

@@ -1,6 +1,6 @@
 //! The embedded fields of a superframe, which its places from B to E carry in turn.
 ghost use Rattle.std.specs.Prelude.{◌≡◌, ◌<◌, ◌^◌, All, length, slice_index_or};
-ghost use Rattle.dmr_voice.specs.Bursts.{IsCarrier};
+ghost use Rattle.dmr_hearing.specs.Fields.{IsCarrier};
 ghost use Rattle.dmr_voice.specs.Places.{field_number};
 
 use crate::place::Place;
@@ -17,8 +17,8 @@ pub struct Carrier {
 
 // Clauses see the link control.
 impl Model for Carrier {
+    ghost use Rattle.dmr_hearing.specs.Fields.{IsCarrier};
     ghost use Rattle.dmr_link.specs.declared.full_lc.FullLc.{FullLc};
-    ghost use Rattle.dmr_voice.specs.Bursts.{IsCarrier};
 
     ghost Value = { FullLc };
 

@@ -1,9 +1,11 @@
 //! Bursts from outside, heard by a repeater of colour code 1.
 use dmr_bits::Bits;
 use dmr_burst::Emb;
+use dmr_hearing::{Datum, Heard, hear, read_fields};
 use dmr_link::FullLc;
-use dmr_test_values::{CALL_HEADER, CALL_TERMINATOR, ONE_CSBK, PRINTED_VOICE_BURST, REPEATED_CSBK};
-use dmr_voice::{Datum, Heard, hear};
+use dmr_test_values::{
+    CALL_FIELDS, CALL_HEADER, CALL_TERMINATOR, ONE_CSBK, PRINTED_VOICE_BURST, REPEATED_CSBK,
+};
 
 /// A call to talk group 1 from radio 2, no option set.
 const GROUP_CALL: FullLc = FullLc {
@@ -140,7 +142,7 @@ fn silence(rt: HostRuntime) {
         vocoder: Bits::<216>::zero(),
     };
     assert!(rt; hear(&None, 1) == nothing);
-    assert!(rt; dmr_voice::silence() == nothing);
+    assert!(rt; dmr_hearing::silence() == nothing);
 }
 
 #[test]
@@ -163,6 +165,17 @@ fn printed_voice_burst(rt: HostRuntime) {
 }
 
 #[test]
+fn parts_of_a_voice_burst(rt: HostRuntime) {
+    let heard = hear(&Some(PRINTED_VOICE_BURST), 1);
+    assert!(rt; heard.is_own(1));
+    assert!(rt; !heard.is_own(2));
+    assert!(rt; heard.has_lcss(1, 1));
+    assert!(rt; !heard.pi());
+    assert!(rt; !heard.is_absent(1));
+    assert!(rt; heard.is_absent(2));
+}
+
+#[test]
 fn voice_sync(rt: HostRuntime) {
     let burst: [u8; 33] = Bits::<264>::zero()
         .with_field(108, 48, 0x7F7D_5DD5_7DFD)
@@ -173,4 +186,13 @@ fn voice_sync(rt: HostRuntime) {
     assert!(rt; heard.embedded == 0x7D5D_D57D);
     assert!(rt; hear(&Some(turned(&burst, &[108, 120, 155])), 1).voice);
     assert!(rt; !hear(&Some(turned(&burst, &[108, 120, 130, 155])), 1).voice);
+}
+
+#[test]
+fn embedded_link_control(rt: HostRuntime) {
+    let [b, c, d, e] = CALL_FIELDS;
+    assert!(rt; read_fields(&CALL_FIELDS) == Some(GROUP_CALL));
+    // One wrong bit in a row of the table, and two.
+    assert!(rt; read_fields(&[b ^ 0x8000_0000, c, d, e]) == Some(GROUP_CALL));
+    assert!(rt; read_fields(&[b ^ 0x8080_0000, c, d, e]) == None);
 }

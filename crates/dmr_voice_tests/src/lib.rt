@@ -1,4 +1,4 @@
-//! Tests of `dmr_voice` and `dmr_slot`: worked slots, worked recordings of calls, and frames of the channel.
+//! Tests of `dmr_hearing`, `dmr_voice` and `dmr_slot`: worked slots, worked recordings of calls, and frames of the channel.
 #![tactic(auto)]
 
 #[cfg(test)]

@@ -2,7 +2,7 @@
 //! More of them stand with the tests of slots, whose lines repeat them.
 ghost use Rattle.std.specs.Prelude.{◌<◌};
 ghost use Rattle.dmr_burst.specs.Layout.{IsBurst};
-ghost use Rattle.dmr_voice.specs.Fit.{IsFitHeard};
+ghost use Rattle.dmr_hearing.specs.Fit.{IsFitHeard};
 
 use dmr_bits::Bits;
 use dmr_bptc::bptc_encode;

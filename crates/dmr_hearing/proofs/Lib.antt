@@ -1,0 +1,11 @@
+pub mod Damaged
+pub mod HeardAsBoth
+pub mod HeardFit
+pub mod OneField
+pub mod OneHearing
+pub mod OneLinkControl
+pub mod Payloads
+pub mod ReadSomehow
+pub mod SlotTypes
+pub mod Syncs
+pub mod Undamaged

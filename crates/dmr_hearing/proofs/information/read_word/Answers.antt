@@ -1,0 +1,16 @@
+use Rattle.dmr_hearing.proofs.Payloads.{word_read, word_unread}
+use Rattle.dmr_hearing.proofs.information.read_word.Goals as goal
+
+pub returns-in_default : goal.returns-in_default
+returns-in_default c = record { reading = word_unread c.args.kind c.args.received.now c.in_default.ensures.decoded }
+
+pub returns : goal.returns
+returns c = record {
+  reading = word_read c.args.kind c.args.received.now c.in-Some.message c.message_datum.result c.in-Some.ensures.decoded
+      (record {
+        kind_is = c.message_datum.ensures.kind;
+        encoded = c.message_datum.ensures.information;
+        plain =
+            c.message_datum.ensures.link_control;
+      });
+}

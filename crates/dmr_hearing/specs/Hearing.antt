@@ -1,0 +1,65 @@
+-- What a slot of the uplink is heard as, whatever it holds.
+use Rattle.std.specs.Prelude.{◌≡◌, ℕ, ◌↔◌, Bool, true, false, List, Option, Some, None, IfSome, IsTrue, length}
+use Rattle.dmr_bits.specs.Bits.{bits_of_octets, number_of, octets_of}
+use Rattle.dmr_bptc.specs.Decoding.{IsDecoded}
+use Rattle.dmr_bptc.specs.ProductWord.{IsWritten}
+use Rattle.dmr_burst.specs.Layout.{HasSync, HasSlotType, HasEmb, information_field, embedded_field, vocoder_field}
+use Rattle.dmr_burst.specs.declared.burst.Side.TheVariants.{Ms}
+use Rattle.dmr_burst.specs.declared.burst.Emb.{Emb}
+use Rattle.dmr_checks.specs.Sealed.{IsSealed}
+use Rattle.dmr_hearing.specs.DataTypes.{payload_of}
+use Rattle.dmr_hearing.specs.Slots.{silence}
+use Rattle.dmr_hearing.specs.declared.data_types.Payload.{Payload}
+use Rattle.dmr_hearing.specs.declared.data_types.Payload.TheVariants.{Word, Sealed, LinkControl, Raw, Nothing}
+use Rattle.dmr_hearing.specs.declared.heard.Datum.{Datum}
+use Rattle.dmr_hearing.specs.declared.heard.Heard.{Heard}
+use Rattle.dmr_link.specs.Sealed.{IsLc, IsRead}
+use Rattle.dmr_link.specs.declared.full_lc.FullLc.{FullLc}
+
+-- The 196 bits that 96 bits are encoded as.
+pub record IsEncoded (message information : List Bool) : Type 0 where
+  pub long : length information ≡ 196
+  pub written : IsWritten message information
+
+-- What received information is read as, by what it holds: the information to repeat, and a link control.
+abbrev pub Reads : Payload → List Bool → List Bool → Option FullLc → Type 0
+-- a word: where the product code gives 96 bits, those are encoded anew
+Reads Word received information lc =
+    (message : List Bool) × IsDecoded received (Some message) × IsEncoded message information × (lc ≡ None)
+-- sealed bits: the same, where they are sealed under the mask
+Reads (Sealed mask) received information lc =
+    (message : List Bool) × IsDecoded received (Some message) × IsSealed mask (octets_of 12 message)
+    × IsEncoded message information × (lc ≡ None)
+-- a link control: where one is read for its use, it is sealed and encoded anew
+Reads (LinkControl lc_use) received information lc =
+    (read : FullLc) × (message : List Bool) × IsRead lc_use received read × IsLc lc_use read message
+    × IsEncoded message information × (lc ≡ Some read)
+-- raw bits are repeated as they are received
+Reads Raw received information lc = (information ≡ received) × (lc ≡ None)
+-- any other type is not read
+Reads Nothing received information lc = ⊥
+
+-- A burst is heard as a datum: it has the data sync of a mobile station, a slot type of the colour code, and information
+-- that its type reads so.
+pub record IsDatum (colour : ℕ) (datum : Datum) (bits : List Bool) : Type 0 where
+  pub sync : HasSync (record { side = Ms; voice = false }) bits
+  pub slot_type : HasSlotType (record { colour = colour; kind = datum.kind }) bits
+  pub reads : Reads (payload_of datum.kind) (information_field bits) datum.information datum.link_control
+
+-- What a burst is heard as. Each part is read whatever the others say.
+pub record IsHeardBurst (colour : ℕ) (bits : List Bool) (heard : Heard) : Type 0 where
+  -- a datum that is heard is the burst's, and each datum of the burst is heard
+  pub datum_within : IfSome heard.datum (λ datum. IsDatum colour datum bits)
+  pub datum_only : (datum : Datum) → IsDatum colour datum bits → heard.datum ≡ Some datum
+  -- voice is the voice sync of a mobile station
+  pub voice : IsTrue heard.voice ↔ HasSync (record { side = Ms; voice = true }) bits
+  -- an EMB that is heard is the burst's, and each EMB of the burst is heard
+  pub emb_within : IfSome heard.emb (λ emb. HasEmb emb bits)
+  pub emb_only : (emb : Emb) → HasEmb emb bits → heard.emb ≡ Some emb
+  pub embedded : heard.embedded ≡ number_of (embedded_field bits)
+  pub vocoder : heard.vocoder ≡ vocoder_field bits
+
+-- What a slot is heard as: silence as nothing, and a burst by its fields.
+abbrev pub Hears : ℕ → Option (List ℕ) → Heard → Type 0
+Hears colour None heard = heard ≡ silence
+Hears colour (Some octets) heard = IsHeardBurst colour (bits_of_octets octets) heard

@@ -1,0 +1,9 @@
+pub mod Damage
+pub mod DataTypes
+pub mod Fields
+pub mod Fit
+pub mod Hearing
+pub mod Parts
+pub mod Reading
+pub mod Recorded
+pub mod Slots

@@ -1,0 +1,19 @@
+-- What reading the information of a data burst answers.
+use Rattle.std.specs.Prelude.{◌≡◌, ℕ, Bool, List, Option, Some, IfSome}
+use Rattle.dmr_hearing.specs.Damage.{Sends, IsDamagedPayload}
+use Rattle.dmr_hearing.specs.Hearing.{Reads}
+use Rattle.dmr_hearing.specs.declared.data_types.Payload.{Payload}
+use Rattle.dmr_hearing.specs.declared.heard.Datum.{Datum}
+use Rattle.dmr_link.specs.declared.full_lc.FullLc.{FullLc}
+
+-- Received information is read by what it holds, as a datum of a data type.
+pub record IsReading (payload : Payload) (kind : ℕ) (received : List Bool) (result : Option Datum) : Type 0 where
+  -- a datum is read so
+  pub within : IfSome result (λ datum. (datum.kind ≡ kind) × Reads payload received datum.information datum.link_control)
+  -- what can be read so is the datum
+  pub only : (information : List Bool) (lc : Option FullLc) → Reads payload received information lc
+      → result ≡ Some (record { kind = kind; information = information; link_control = lc })
+  -- and so is what was sent, where the damage is within the limits
+  pub undone : (information : List Bool) (lc : Option FullLc) → Sends payload information lc
+      → IsDamagedPayload payload information received
+      → result ≡ Some (record { kind = kind; information = information; link_control = lc })

@@ -1,0 +1,39 @@
+-- What a slot may send, and what it is heard as.
+use Rattle.std.specs.Prelude.{◌≡◌, ℕ, Bool, true, false, List, replicate, Option, Some, None}
+use Rattle.dmr_burst.specs.declared.burst.Emb.{Emb}
+use Rattle.dmr_hearing.specs.declared.heard.Heard.{Heard}
+use Rattle.dmr_link.specs.declared.full_lc.FullLc.{FullLc}
+
+-- What one slot of the uplink sends.
+pub data Slot : Type 0 where
+  -- nothing
+  Silent : Slot
+  -- a data burst of the own colour code: its data type, its information as it is repeated, and the link control of a voice LC
+  -- header and of a terminator
+  Data : ℕ → List Bool → Option FullLc → Slot
+  -- a burst with a voice sync, of any colour code
+  VoiceSync : Slot
+  -- a voice burst of a call, with its EMB and its embedded field as it is received
+  Voice : Emb → ℕ → Slot
+  -- a voice burst of another colour code, with its EMB
+  ForeignVoice : Emb → Slot
+  -- a data burst of another colour code
+  ForeignData : Slot
+  -- a burst of a call that began before the recording
+  CutOff : Slot
+
+-- What a slot is heard as in which nothing is sent.
+abbrev pub silence : Heard
+silence = record { datum = None; voice = false; emb = None; embedded = 0; vocoder = replicate 216 false }
+
+-- What such a slot is heard as. A data burst and a voice sync may have any EMB, and a voice burst of a call may read as data:
+-- a call looks at neither there.
+abbrev pub IsHeardAs : Slot → Heard → Type 0
+IsHeardAs Silent heard = heard ≡ silence
+IsHeardAs (Data kind information lc) heard =
+    (heard.datum ≡ Some (record { kind = kind; information = information; link_control = lc })) × (heard.voice ≡ false)
+IsHeardAs VoiceSync heard = (heard.datum ≡ None) × (heard.voice ≡ true)
+IsHeardAs (Voice emb embedded) heard = (heard.emb ≡ Some emb) × (heard.embedded ≡ embedded)
+IsHeardAs (ForeignVoice emb) heard = (heard.datum ≡ None) × (heard.voice ≡ false) × (heard.emb ≡ Some emb)
+IsHeardAs ForeignData heard = (heard.datum ≡ None) × (heard.voice ≡ false)
+IsHeardAs CutOff heard = (heard.datum ≡ None) × (heard.voice ≡ false)

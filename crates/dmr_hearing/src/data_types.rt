@@ -1,0 +1,36 @@
+//! What the information of each data type holds. ETSI TS 102 361-1, clause 9.3.6.
+ghost use Rattle.std.specs.Prelude.{◌≡◌};
+ghost use Rattle.dmr_hearing.specs.DataTypes.{payload_of as payload};
+
+use dmr_checks::Mask;
+use dmr_link::LcUse;
+
+/// What the 196 bits of information of a data burst hold.
+#[derive(Clone, Copy, Debug, PartialEq, Eq, Drop)]
+pub enum Payload {
+    /// 96 bits of any kind, in a product word.
+    Word,
+    /// 96 bits that are sealed under a mask, in a product word.
+    Sealed(Mask),
+    /// A link control that is sealed for its use, in a product word.
+    LinkControl(LcUse),
+    /// 196 bits of any kind.
+    Raw,
+    /// Nothing that a repeater takes from a mobile station.
+    Nothing,
+}
+
+/// What the information of a data type holds.
+pub(crate) fn payload_of(kind: u8) -> Payload
+    ensures value { result ≡ payload kind }
+{
+    match kind {
+        1 => Payload::LinkControl(LcUse::Header),
+        2 => Payload::LinkControl(LcUse::Terminator),
+        3 => Payload::Sealed(Mask::Csbk),
+        6 => Payload::Sealed(Mask::Header),
+        0 | 4 | 5 | 7 | 11 => Payload::Word,
+        8 | 10 => Payload::Raw,
+        _ => Payload::Nothing,
+    }
+}

@@ -1,0 +1,138 @@
+//! What a slot of the uplink is heard as.
+ghost use Rattle.std.specs.Prelude.{◌≡◌, ◌≢◌, ◌↔◌, ℕ, List, Bool, true, false, Option, Some, None, IsTrue, IfSome};
+ghost use Rattle.dmr_bits.specs.Bits.{bits_of_octets};
+ghost use Rattle.dmr_burst.specs.Layout.{HasSync, HasSlotType, information_field};
+ghost use Rattle.dmr_burst.specs.declared.burst.Side.TheVariants as side;
+ghost use Rattle.dmr_hearing.specs.DataTypes.{payload_of as payload};
+ghost use Rattle.dmr_hearing.specs.Damage.{Sends, IsSentSlot, IsRecordedAs};
+ghost use Rattle.dmr_hearing.specs.Damage.{IsDamagedPayload, IsDamagedData, IsDamagedForeignData, IsDamagedBurst};
+ghost use Rattle.dmr_hearing.specs.Fit.{IsFitHeard};
+ghost use Rattle.dmr_hearing.specs.Hearing.{Reads, IsDatum, IsHeardBurst, Hears};
+ghost use Rattle.dmr_hearing.specs.Slots.{Slot, IsHeardAs, silence as silence_heard};
+ghost use Rattle.dmr_hearing.specs.declared.heard.Datum.{Datum};
+ghost use Rattle.dmr_link.specs.declared.full_lc.FullLc.{FullLc};
+
+use crate::heard::{Datum, Heard};
+use crate::information::read_datum;
+use dmr_bits::Bits;
+use dmr_burst::{
+    Side, read_emb, read_embedded, read_information, read_slot_type, read_sync, read_vocoder,
+};
+
+/// What a slot of the uplink is heard as by a repeater of a colour code below 16: silence as nothing, and a burst by its
+/// fields, what is wrong within the reach of a code or a sync word undone. Only the sync words of mobile stations count
+/// (this project's own). A data burst of another colour code is no datum; an EMB is heard of any colour code.
+pub fn hear(slot: &Option<[u8; 33]>, colour: u8) -> Heard
+    // Each part is heard exactly where the burst has it,
+    ensures heard { Hears colour slot.now result }
+    // and what was sent is heard where the damage is within the limits.
+    ensures damaged { (sent : Slot) → IsRecordedAs colour sent slot.now → IsHeardAs sent result }
+    // What is read fits its fields.
+    ensures fit { IsFitHeard result }
+{
+    match slot {
+        Some(burst) => hear_burst(burst, colour),
+        None => silence(),
+    }
+}
+
+/// What nothing is heard as, whatever the colour code.
+pub fn silence() -> Heard
+    ensures value { result ≡ silence_heard }
+{
+    Heard {
+        datum: None,
+        voice: false,
+        emb: None,
+        embedded: 0,
+        vocoder: Bits::<216>::zero(),
+    }
+}
+
+/// What a burst is heard as.
+fn hear_burst(burst: &[u8; 33], colour: u8) -> Heard
+    ensures heard { IsHeardBurst colour (bits_of_octets burst.now) result }
+    ensures damaged { (sent : Slot) → IsSentSlot colour sent → IsDamagedBurst colour sent (bits_of_octets burst.now)
+        → IsHeardAs sent result }
+{
+    let sync = read_mobile_sync(burst);
+    Heard {
+        datum: hear_datum(burst, sync, colour),
+        voice: hear_voice(burst, sync),
+        emb: read_emb(burst),
+        embedded: read_embedded(burst),
+        vocoder: read_vocoder(burst),
+    }
+}
+
+/// Whether a burst, of which this is the sync, has the voice sync of a mobile station.
+fn hear_voice(burst: &[u8; 33], sync: Option<bool>) -> bool
+    requires within { IfSome sync (λ voice. HasSync (record { side = side.Ms; voice = voice }) (bits_of_octets burst.now)) }
+    requires only { (voice : Bool) → HasSync (record { side = side.Ms; voice = voice }) (bits_of_octets burst.now)
+        → sync ≡ Some voice }
+    ensures voice { IsTrue result ↔ HasSync (record { side = side.Ms; voice = true }) (bits_of_octets burst.now) }
+    ensures data { HasSync (record { side = side.Ms; voice = false }) (bits_of_octets burst.now) → result ≡ false }
+{
+    let _ = burst;
+    match sync {
+        Some(voice) => voice,
+        None => false,
+    }
+}
+
+/// The datum of a burst, of which this is the sync, with the data sync of a mobile station.
+fn hear_datum(burst: &[u8; 33], sync: Option<bool>, colour: u8) -> Option<Datum>
+    requires within { IfSome sync (λ voice. HasSync (record { side = side.Ms; voice = voice }) (bits_of_octets burst.now)) }
+    requires only { (voice : Bool) → HasSync (record { side = side.Ms; voice = voice }) (bits_of_octets burst.now)
+        → sync ≡ Some voice }
+    ensures within { IfSome result (λ datum. IsDatum colour datum (bits_of_octets burst.now)) }
+    ensures only { (datum : Datum) → IsDatum colour datum (bits_of_octets burst.now) → result ≡ Some datum }
+    ensures undone { (kind : ℕ) (information : List Bool) (lc : Option FullLc) → Sends (payload kind) information lc
+        → IsDamagedData colour kind information (bits_of_octets burst.now)
+        → result ≡ Some (record { kind = kind; information = information; link_control = lc }) }
+    ensures foreign { IsDamagedForeignData colour (bits_of_octets burst.now) → result ≡ None }
+    ensures voice { HasSync (record { side = side.Ms; voice = true }) (bits_of_octets burst.now) → result ≡ None }
+{
+    match sync {
+        Some(true) => None,
+        Some(false) => own_datum(burst, colour),
+        None => None,
+    }
+}
+
+/// The datum of a data burst of the colour code.
+fn own_datum(burst: &[u8; 33], colour: u8) -> Option<Datum>
+    ensures within { IfSome result (λ datum. HasSlotType (record { colour = colour; kind = datum.kind }) (bits_of_octets burst.now)
+        × Reads (payload datum.kind) (information_field (bits_of_octets burst.now)) datum.information datum.link_control) }
+    ensures only { (kind : ℕ) (information : List Bool) (lc : Option FullLc)
+        → HasSlotType (record { colour = colour; kind = kind }) (bits_of_octets burst.now)
+        → Reads (payload kind) (information_field (bits_of_octets burst.now)) information lc
+        → result ≡ Some (record { kind = kind; information = information; link_control = lc }) }
+    ensures undone { (kind : ℕ) (information : List Bool) (lc : Option FullLc)
+        → HasSlotType (record { colour = colour; kind = kind }) (bits_of_octets burst.now) → Sends (payload kind) information lc
+        → IsDamagedPayload (payload kind) information (information_field (bits_of_octets burst.now))
+        → result ≡ Some (record { kind = kind; information = information; link_control = lc }) }
+    ensures foreign { (other kind : ℕ) → other ≢ colour
+        → HasSlotType (record { colour = other; kind = kind }) (bits_of_octets burst.now) → result ≡ None }
+{
+    let Some(slot_type) = read_slot_type(burst) else {
+        return None;
+    };
+    if slot_type.colour != colour {
+        return None;
+    }
+    read_datum(slot_type.kind, &read_information(burst))
+}
+
+/// The sync of a mobile station: whether it is voice.
+fn read_mobile_sync(burst: &[u8; 33]) -> Option<bool>
+    ensures within { IfSome result (λ voice. HasSync (record { side = side.Ms; voice = voice }) (bits_of_octets burst.now)) }
+    ensures only { (voice : Bool) → HasSync (record { side = side.Ms; voice = voice }) (bits_of_octets burst.now)
+        → result ≡ Some voice }
+{
+    let sync = read_sync(burst)?;
+    match sync.side {
+        Side::Bs => None,
+        Side::Ms => Some(sync.voice),
+    }
+}

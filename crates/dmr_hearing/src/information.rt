@@ -1,0 +1,99 @@
+//! What the information of a data burst is read as.
+ghost use Rattle.std.specs.Prelude.{◌≡◌, None};
+ghost use Rattle.dmr_hearing.specs.DataTypes.{payload_of as payload};
+ghost use Rattle.dmr_hearing.specs.Hearing.{IsEncoded};
+ghost use Rattle.dmr_hearing.specs.Reading.{IsReading};
+ghost use Rattle.dmr_hearing.specs.declared.data_types.Payload.TheVariants as holds;
+
+use crate::data_types::{Payload, payload_of};
+use crate::heard::Datum;
+use dmr_bits::Bits;
+use dmr_bptc::{bptc_decode, bptc_encode};
+use dmr_checks::{Mask, opens};
+use dmr_link::{LcUse, lc_info, lc_read};
+
+/// The datum that received information of a data type is read as.
+pub(crate) fn read_datum(kind: u8, received: &Bits<196>) -> Option<Datum>
+    ensures reading { IsReading (payload kind) kind received.now result }
+{
+    match payload_of(kind) {
+        Payload::Word => read_word(kind, received),
+        Payload::Sealed(mask) => read_sealed(kind, mask, received),
+        Payload::LinkControl(lc_use) => read_link_control(kind, lc_use, received),
+        Payload::Raw => Some(raw_datum(kind, received)),
+        Payload::Nothing => None,
+    }
+}
+
+/// Any 96 bits in a product word.
+fn read_word(kind: u8, received: &Bits<196>) -> Option<Datum>
+    ensures reading { IsReading holds.Word kind received.now result }
+{
+    let Some(message) = bptc_decode(received) else {
+        return None;
+    };
+    Some(message_datum(kind, &message))
+}
+
+/// 96 bits in a product word, where they are sealed under the mask.
+fn read_sealed(kind: u8, mask: Mask, received: &Bits<196>) -> Option<Datum>
+    ensures reading { IsReading (holds.Sealed mask) kind received.now result }
+{
+    let Some(message) = bptc_decode(received) else {
+        return None;
+    };
+    if !opens(&message.octets(), mask) {
+        return None;
+    }
+    Some(message_datum(kind, &message))
+}
+
+/// A link control, sealed anew.
+fn read_link_control(kind: u8, lc_use: LcUse, received: &Bits<196>) -> Option<Datum>
+    ensures reading { IsReading (holds.LinkControl lc_use) kind received.now result }
+{
+    match lc_read(received, lc_use) {
+        Ok(lc) => Some(Datum {
+            kind,
+            information: encode(&lc_info(&lc, lc_use)),
+            link_control: Some(lc),
+        }),
+        Err(_) => None,
+    }
+}
+
+/// Any 196 bits, as they are received.
+fn raw_datum(kind: u8, received: &Bits<196>) -> Datum
+    ensures kind { result.kind ≡ kind }
+    ensures information { result.information ≡ received.now }
+    ensures link_control { result.link_control ≡ None }
+{
+    Datum {
+        kind,
+        information: *received,
+        link_control: None,
+    }
+}
+
+/// A message, encoded anew.
+fn message_datum(kind: u8, message: &Bits<96>) -> Datum
+    ensures kind { result.kind ≡ kind }
+    ensures information { IsEncoded message.now result.information }
+    ensures link_control { result.link_control ≡ None }
+{
+    Datum {
+        kind,
+        information: encode(message),
+        link_control: None,
+    }
+}
+
+/// The information that a message is encoded as.
+fn encode(message: &Bits<96>) -> Bits<196>
+    ensures encoded { IsEncoded message.now result }
+{
+    let information = bptc_encode(message);
+    // The proof learns here that there are 196 bits.
+    let _places = information.len();
+    information
+}
