@@ -1,9 +1,11 @@
 -- A burst that was damaged within the limits is heard as what was sent.
 use Rattle.std.proofs.Common.{◌≡◌, ℕ, List, Bool, true, false, Option, Some, None, IfSome, IsTrue, refl, ◌∙◌, arith}
 use Rattle.dmr_bits.specs.Bits.{number_of}
-use Rattle.dmr_burst.specs.Layout.{HasSync, HasEmb, embedded_field}
-use Rattle.dmr_burst.specs.declared.burst.Emb.{Emb}
-use Rattle.dmr_burst.specs.declared.burst.Side.TheVariants.{Ms}
+use Rattle.dmr_burst.specs.Emb.{HasEmb}
+use Rattle.dmr_burst.specs.Layout.{embedded_field}
+use Rattle.dmr_burst.specs.Sync.{HasSync}
+use Rattle.dmr_burst.specs.declared.emb.Emb.{Emb}
+use Rattle.dmr_burst.specs.declared.sync.Side.TheVariants.{Ms}
 use Rattle.dmr_hearing.specs.DataTypes.{payload_of}
 use Rattle.dmr_hearing.specs.Damage.{Sends, IsSentSlot, IsDamagedData, IsDamagedForeignData, IsDamagedBurst, HasNoMobileSync}
 use Rattle.dmr_hearing.specs.Hearing.{IsDatum}

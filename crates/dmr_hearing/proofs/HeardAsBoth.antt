@@ -3,10 +3,12 @@ use Rattle.std.proofs.Common.{◌≡◌, ℕ, ◌⊎◌, Bool, true, false, List
 use Rattle.std.proofs.Common.{refl, sym, ap, ◌∙◌, subst, arith, inl, inr}
 use Rattle.dmr_bits.specs.Bits.{bits_of_octets, number_of}
 use Rattle.dmr_bits.proofs.OctetFronts.{length-bits_of_octets}
-use Rattle.dmr_burst.specs.Layout.{HasSync, HasEmb, information_field, embedded_field, vocoder_field}
-use Rattle.dmr_burst.specs.declared.burst.Emb.{Emb}
-use Rattle.dmr_burst.specs.declared.burst.Side.TheVariants.{Ms}
-use Rattle.dmr_burst.specs.declared.burst.SlotType.{SlotType}
+use Rattle.dmr_burst.specs.Emb.{HasEmb}
+use Rattle.dmr_burst.specs.Layout.{information_field, embedded_field, vocoder_field}
+use Rattle.dmr_burst.specs.Sync.{HasSync}
+use Rattle.dmr_burst.specs.declared.emb.Emb.{Emb}
+use Rattle.dmr_burst.specs.declared.sync.Side.TheVariants.{Ms}
+use Rattle.dmr_burst.specs.declared.slot_type.SlotType.{SlotType}
 use Rattle.dmr_hearing.specs.Damage.{Sends, IsDamagedPayload, IsSentSlot, IsDamagedData, IsDamagedForeignData, HasNoMobileSync}
 use Rattle.dmr_hearing.specs.Damage.{IsDamagedBurst, IsRecordedAs}
 use Rattle.dmr_hearing.specs.DataTypes.{payload_of}

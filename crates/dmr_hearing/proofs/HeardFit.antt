@@ -4,8 +4,8 @@ use Rattle.std.proofs.Math.Pow.{pow_mono}
 use Rattle.std.proofs.lemmas.List.{length-take}
 use Rattle.dmr_bits.specs.Bits.{number_of}
 use Rattle.dmr_bits.proofs.Lists.{number_of-lt}
-use Rattle.dmr_burst.specs.Layout.{HasSlotType}
-use Rattle.dmr_burst.specs.declared.burst.SlotType.{SlotType}
+use Rattle.dmr_burst.specs.SlotType.{HasSlotType}
+use Rattle.dmr_burst.specs.declared.slot_type.SlotType.{SlotType}
 use Rattle.dmr_hearing.specs.DataTypes.{payload_of}
 use Rattle.dmr_hearing.specs.Fit.{IsFitLc, IsFitDatum, IsFitHeard}
 use Rattle.dmr_hearing.specs.Hearing.{Reads, IsDatum, Hears}

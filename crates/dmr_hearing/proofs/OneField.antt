@@ -11,11 +11,14 @@ use Rattle.dmr_bptc.specs.ProductWord.{IsProductWord, information as held_by}
 use Rattle.dmr_bptc.specs.Table.{row, column}
 use Rattle.dmr_bptc.proofs.Cells.{length-row, length-column, get_or-row, cells_of_row, cells_of_column, information_same}
 use Rattle.dmr_bptc.proofs.Near.{agree_but_one}
-use Rattle.dmr_burst.specs.Layout.{HasSync, HasSlotType, HasEmb, slot_type_of, emb_of, slot_type_field, emb_field, sync_field}
-use Rattle.dmr_burst.specs.declared.burst.Emb.{Emb}
-use Rattle.dmr_burst.specs.declared.burst.Side.TheVariants.{Ms}
-use Rattle.dmr_burst.specs.declared.burst.SlotType.{SlotType}
-use Rattle.dmr_burst.specs.declared.burst.Sync.{Sync}
+use Rattle.dmr_burst.specs.Emb.{HasEmb, emb_of}
+use Rattle.dmr_burst.specs.Layout.{slot_type_field, emb_field, sync_field}
+use Rattle.dmr_burst.specs.SlotType.{HasSlotType, slot_type_of}
+use Rattle.dmr_burst.specs.Sync.{HasSync}
+use Rattle.dmr_burst.specs.declared.emb.Emb.{Emb}
+use Rattle.dmr_burst.specs.declared.slot_type.SlotType.{SlotType}
+use Rattle.dmr_burst.specs.declared.sync.Side.TheVariants.{Ms}
+use Rattle.dmr_burst.specs.declared.sync.Sync.{Sync}
 use Rattle.dmr_burst.proofs.Syncs.{first_is}
 use Rattle.dmr_codes.specs.LeastColumns.{least_three}
 use Rattle.dmr_codes.specs.LeastWords.{least_by_words}

@@ -1,8 +1,8 @@
 -- A slot is heard in one way.
 use Rattle.std.proofs.Common.{◌≡◌, ℕ, List, Bool, true, false, Option, Some, None, IfSome, IsTrue, refl, sym, ◌∙◌}
 use Rattle.dmr_bits.specs.Bits.{bits_of_octets}
-use Rattle.dmr_burst.specs.Layout.{HasEmb}
-use Rattle.dmr_burst.specs.declared.burst.Emb.{Emb}
+use Rattle.dmr_burst.specs.Emb.{HasEmb}
+use Rattle.dmr_burst.specs.declared.emb.Emb.{Emb}
 use Rattle.dmr_hearing.specs.Hearing.{IsDatum, IsHeardBurst, Hears}
 use Rattle.dmr_hearing.specs.declared.heard.Datum.{Datum}
 use Rattle.dmr_hearing.specs.declared.heard.Heard.{Heard}

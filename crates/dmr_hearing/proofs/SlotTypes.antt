@@ -1,7 +1,7 @@
 -- The slot type of a data burst.
 use Rattle.std.proofs.Common.{◌≡◌, ℕ, List, Bool, Option, Some, None, ap, subst}
-use Rattle.dmr_burst.specs.Layout.{HasSlotType}
-use Rattle.dmr_burst.specs.declared.burst.SlotType.{SlotType}
+use Rattle.dmr_burst.specs.SlotType.{HasSlotType}
+use Rattle.dmr_burst.specs.declared.slot_type.SlotType.{SlotType}
 use Rattle.dmr_hearing.specs.DataTypes.{payload_of}
 use Rattle.dmr_hearing.specs.Reading.{IsReading}
 use Rattle.dmr_hearing.specs.declared.heard.Datum.{Datum}

@@ -4,10 +4,11 @@ use Rattle.dmr_bits.specs.Bits.{bits_of_octets}
 use Rattle.dmr_bptc.specs.Decoding.{IsDamaged}
 use Rattle.dmr_bptc.specs.Table.{column}
 use Rattle.dmr_bptc.proofs.Near.{no_distance}
-use Rattle.dmr_burst.specs.Layout.{IsEncoding, information_field}
+use Rattle.dmr_burst.specs.Burst.{IsEncoding}
+use Rattle.dmr_burst.specs.Layout.{information_field}
 use Rattle.dmr_burst.specs.declared.burst.Burst.TheVariants as burst
-use Rattle.dmr_burst.specs.declared.burst.Emb.{Emb}
-use Rattle.dmr_burst.specs.declared.burst.Side.TheVariants.{Ms}
+use Rattle.dmr_burst.specs.declared.emb.Emb.{Emb}
+use Rattle.dmr_burst.specs.declared.sync.Side.TheVariants.{Ms}
 use Rattle.dmr_burst.proofs.Same.{read_back}
 use Rattle.dmr_hearing.specs.DataTypes.{payload_of}
 use Rattle.dmr_hearing.specs.Damage.{Sends, HoldsDamaged, IsDamagedPayload, IsSentSlot, IsRecordedAs, HasNoMobileSync}

@@ -3,8 +3,11 @@ use Rattle.std.specs.Prelude.{◌≡◌, ◌≢◌, ℕ, ◌<◌, Bool, true, fa
 use Rattle.dmr_bits.specs.Bits.{bits_of_octets, number_of, octets_of, distance}
 use Rattle.dmr_bptc.specs.Decoding.{IsDamaged}
 use Rattle.dmr_bptc.specs.ProductWord.{IsProductWord, information as held_by}
-use Rattle.dmr_burst.specs.Layout.{HasSync, HasSlotType, HasEmb, information_field, embedded_field, sync_field, sync_word}
-use Rattle.dmr_burst.specs.declared.burst.Side.TheVariants.{Ms}
+use Rattle.dmr_burst.specs.Emb.{HasEmb}
+use Rattle.dmr_burst.specs.Layout.{information_field, embedded_field, sync_field}
+use Rattle.dmr_burst.specs.SlotType.{HasSlotType}
+use Rattle.dmr_burst.specs.Sync.{HasSync, sync_word}
+use Rattle.dmr_burst.specs.declared.sync.Side.TheVariants.{Ms}
 use Rattle.dmr_checks.specs.Sealed.{IsSealed}
 use Rattle.dmr_hearing.specs.DataTypes.{payload_of}
 use Rattle.dmr_hearing.specs.Hearing.{IsEncoded}

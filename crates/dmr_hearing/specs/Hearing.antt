@@ -3,9 +3,12 @@ use Rattle.std.specs.Prelude.{◌≡◌, ℕ, ◌↔◌, Bool, true, false, List
 use Rattle.dmr_bits.specs.Bits.{bits_of_octets, number_of, octets_of}
 use Rattle.dmr_bptc.specs.Decoding.{IsDecoded}
 use Rattle.dmr_bptc.specs.ProductWord.{IsWritten}
-use Rattle.dmr_burst.specs.Layout.{HasSync, HasSlotType, HasEmb, information_field, embedded_field, vocoder_field}
-use Rattle.dmr_burst.specs.declared.burst.Side.TheVariants.{Ms}
-use Rattle.dmr_burst.specs.declared.burst.Emb.{Emb}
+use Rattle.dmr_burst.specs.Emb.{HasEmb}
+use Rattle.dmr_burst.specs.Layout.{information_field, embedded_field, vocoder_field}
+use Rattle.dmr_burst.specs.SlotType.{HasSlotType}
+use Rattle.dmr_burst.specs.Sync.{HasSync}
+use Rattle.dmr_burst.specs.declared.emb.Emb.{Emb}
+use Rattle.dmr_burst.specs.declared.sync.Side.TheVariants.{Ms}
 use Rattle.dmr_checks.specs.Sealed.{IsSealed}
 use Rattle.dmr_hearing.specs.DataTypes.{payload_of}
 use Rattle.dmr_hearing.specs.Slots.{silence}

@@ -1,6 +1,6 @@
 -- What the parts say of a slot that is heard.
 use Rattle.std.specs.Prelude.{ℕ, ◌==◌, ◌&&◌, not, Bool, true, false, Option, Some, None}
-use Rattle.dmr_burst.specs.declared.burst.Emb.{Emb}
+use Rattle.dmr_burst.specs.declared.emb.Emb.{Emb}
 use Rattle.dmr_hearing.specs.declared.heard.Datum.{Datum}
 use Rattle.dmr_hearing.specs.declared.heard.Heard.{Heard}
 

@@ -1,6 +1,6 @@
 -- What a slot may send, and what it is heard as.
 use Rattle.std.specs.Prelude.{◌≡◌, ℕ, Bool, true, false, List, replicate, Option, Some, None}
-use Rattle.dmr_burst.specs.declared.burst.Emb.{Emb}
+use Rattle.dmr_burst.specs.declared.emb.Emb.{Emb}
 use Rattle.dmr_hearing.specs.declared.heard.Heard.{Heard}
 use Rattle.dmr_link.specs.declared.full_lc.FullLc.{FullLc}
 

@@ -1,8 +1,10 @@
 //! What a slot of the uplink is heard as.
 ghost use Rattle.std.specs.Prelude.{◌≡◌, ◌≢◌, ◌↔◌, ℕ, List, Bool, true, false, Option, Some, None, IsTrue, IfSome};
 ghost use Rattle.dmr_bits.specs.Bits.{bits_of_octets};
-ghost use Rattle.dmr_burst.specs.Layout.{HasSync, HasSlotType, information_field};
-ghost use Rattle.dmr_burst.specs.declared.burst.Side.TheVariants as side;
+ghost use Rattle.dmr_burst.specs.Layout.{information_field};
+ghost use Rattle.dmr_burst.specs.SlotType.{HasSlotType};
+ghost use Rattle.dmr_burst.specs.Sync.{HasSync};
+ghost use Rattle.dmr_burst.specs.declared.sync.Side.TheVariants as side;
 ghost use Rattle.dmr_hearing.specs.DataTypes.{payload_of as payload};
 ghost use Rattle.dmr_hearing.specs.Damage.{Sends, IsSentSlot, IsRecordedAs};
 ghost use Rattle.dmr_hearing.specs.Damage.{IsDamagedPayload, IsDamagedData, IsDamagedForeignData, IsDamagedBurst};

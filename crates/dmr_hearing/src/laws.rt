@@ -1,10 +1,10 @@
 //! Laws of what a slot is heard as, as the contracts of functions that do nothing.
 ghost use Rattle.std.specs.Prelude.{◌≡◌, ◌≢◌, ℕ, List, Bool, Option, Some};
 ghost use Rattle.dmr_bits.specs.Bits.{bits_of_octets};
-ghost use Rattle.dmr_burst.specs.Layout.{IsEncoding};
+ghost use Rattle.dmr_burst.specs.Burst.{IsEncoding};
 ghost use Rattle.dmr_burst.specs.declared.burst.Burst.TheVariants as burst;
-ghost use Rattle.dmr_burst.specs.declared.burst.Emb.{Emb};
-ghost use Rattle.dmr_burst.specs.declared.burst.Side.TheVariants as side;
+ghost use Rattle.dmr_burst.specs.declared.emb.Emb.{Emb};
+ghost use Rattle.dmr_burst.specs.declared.sync.Side.TheVariants as side;
 ghost use Rattle.dmr_hearing.specs.Damage.{IsSentSlot, IsRecordedAs, HasNoMobileSync};
 ghost use Rattle.dmr_hearing.specs.Hearing.{Hears};
 ghost use Rattle.dmr_hearing.specs.Recorded.{IsSilenceOrBurst, IsHearing};

@@ -2,11 +2,14 @@
 use Rattle.std.specs.Prelude.{◌≡◌, ℕ, ◌≤◌, Bool, true, false, List, Some}
 use Rattle.dmr_bits.specs.Bits.{distance, part}
 use Rattle.dmr_bptc.specs.ProductWord.{IsWritten}
-use Rattle.dmr_burst.specs.Layout.{sync_word, sync_field, slot_type_of, slot_type_field, emb_of, emb_field, information_field}
-use Rattle.dmr_burst.specs.declared.burst.Emb.{Emb}
-use Rattle.dmr_burst.specs.declared.burst.Side.{Side}
-use Rattle.dmr_burst.specs.declared.burst.SlotType.{SlotType}
-use Rattle.dmr_burst.specs.declared.burst.Sync.{Sync}
+use Rattle.dmr_burst.specs.Emb.{emb_of}
+use Rattle.dmr_burst.specs.Layout.{sync_field, slot_type_field, emb_field, information_field}
+use Rattle.dmr_burst.specs.SlotType.{slot_type_of}
+use Rattle.dmr_burst.specs.Sync.{sync_word}
+use Rattle.dmr_burst.specs.declared.emb.Emb.{Emb}
+use Rattle.dmr_burst.specs.declared.slot_type.SlotType.{SlotType}
+use Rattle.dmr_burst.specs.declared.sync.Side.{Side}
+use Rattle.dmr_burst.specs.declared.sync.Sync.{Sync}
 use Rattle.dmr_codes.specs.Seven.{IsGolay20, IsResidue16}
 use Rattle.dmr_listing.specs.declared.wrong.Wrong.{Wrong}
 use Rattle.dmr_report.specs.declared.reading.Information.{Information}

@@ -1,7 +1,10 @@
 //! How many bits of a burst are wrong.
 ghost use Rattle.std.specs.Prelude.{◌≡◌};
 ghost use Rattle.dmr_bits.specs.Bits.{bits_of_octets};
-ghost use Rattle.dmr_burst.specs.Layout.{HasEmb, HasSlotType, emb_field, slot_type_field, sync_field, sync_word};
+ghost use Rattle.dmr_burst.specs.Emb.{HasEmb};
+ghost use Rattle.dmr_burst.specs.Layout.{emb_field, slot_type_field, sync_field};
+ghost use Rattle.dmr_burst.specs.SlotType.{HasSlotType};
+ghost use Rattle.dmr_burst.specs.Sync.{sync_word};
 ghost use Rattle.dmr_report.specs.Reading.{IsReadAs};
 ghost use Rattle.dmr_listing.specs.Wrong.{IsWrong, IsWrongIn, IsWrongOfEmb, IsWrongOfInformation, IsWrongOfSlotType};
 ghost use Rattle.dmr_listing.specs.Wrong.{data_sync, wrong_of_sync};

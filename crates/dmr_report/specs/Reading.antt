@@ -1,10 +1,13 @@
 -- What a burst is read as.
 use Rattle.std.specs.Prelude.{◌≡◌, ◌==◌, ◌||◌, ℕ, Bool, true, false, not, List}
 use Rattle.dmr_bptc.specs.Decoding.{IsDecoded}
-use Rattle.dmr_burst.specs.Layout.{HasEmb, HasSlotType, HasSync, information_field}
-use Rattle.dmr_burst.specs.declared.burst.Emb.{Emb}
-use Rattle.dmr_burst.specs.declared.burst.SlotType.{SlotType}
-use Rattle.dmr_burst.specs.declared.burst.Sync.{Sync}
+use Rattle.dmr_burst.specs.Emb.{HasEmb}
+use Rattle.dmr_burst.specs.Layout.{information_field}
+use Rattle.dmr_burst.specs.SlotType.{HasSlotType}
+use Rattle.dmr_burst.specs.Sync.{HasSync}
+use Rattle.dmr_burst.specs.declared.emb.Emb.{Emb}
+use Rattle.dmr_burst.specs.declared.slot_type.SlotType.{SlotType}
+use Rattle.dmr_burst.specs.declared.sync.Sync.{Sync}
 use Rattle.dmr_report.specs.declared.reading.Information.{Information}
 use Rattle.dmr_report.specs.declared.reading.Information.TheVariants.{Coded, Uncoded}
 use Rattle.dmr_report.specs.declared.reading.Reading.{Reading}

@@ -1,7 +1,7 @@
 //! What a burst is read as.
 ghost use Rattle.std.specs.Prelude.{◌≡◌, false};
 ghost use Rattle.dmr_bits.specs.Bits.{bits_of_octets};
-ghost use Rattle.dmr_burst.specs.Layout.{HasSync};
+ghost use Rattle.dmr_burst.specs.Sync.{HasSync};
 ghost use Rattle.dmr_report.specs.Reading.{IsInformation, IsReadAs, is_coded, IsWithoutSync};
 
 use dmr_bits::Bits;

@@ -1,6 +1,6 @@
 -- What a line keeps of the call hang beside what it remembers.
 use Rattle.std.specs.Prelude.{ℕ, Option, IfSome}
-use Rattle.dmr_burst.specs.Layout.{IsBurst}
+use Rattle.dmr_burst.specs.Burst.{IsBurst}
 use Rattle.dmr_burst.specs.declared.burst.Burst.{Burst}
 use Rattle.dmr_link.specs.declared.full_lc.FullLc.{FullLc}
 use Rattle.dmr_slot.specs.Bursts.{IsHeldBy}

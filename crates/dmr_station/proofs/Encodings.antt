@@ -6,7 +6,7 @@ use Rattle.dmr_bits.specs.Bits.{bits_of_octets}
 use Rattle.dmr_bits.proofs.OctetFronts.{length-bits_of_octets}
 use Rattle.dmr_bits.proofs.Spelled.{same_octets}
 use Rattle.dmr_burst.specs.Cach.{IsCach}
-use Rattle.dmr_burst.specs.declared.burst.Side.TheVariants.{Bs}
+use Rattle.dmr_burst.specs.declared.sync.Side.TheVariants.{Bs}
 use Rattle.dmr_burst.proofs.Same as same
 use Rattle.dmr_burst.proofs.Interleaving.{one_announcement}
 use Rattle.dmr_embedded.proofs.ShortUnique.{one_short}

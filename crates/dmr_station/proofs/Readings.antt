@@ -6,12 +6,14 @@ use Rattle.dmr_bits.specs.Bits.{bits_of_octets, part}
 use Rattle.dmr_bits.proofs.Parts.{length-part}
 use Rattle.dmr_codes.specs.Code.{ones_over}
 use Rattle.dmr_codes.specs.Seven.{IsResidue16, residue16_columns}
-use Rattle.dmr_burst.specs.Layout.{IsEncoding, emb_field, sync_field, sync_word}
+use Rattle.dmr_burst.specs.Burst.{IsEncoding}
+use Rattle.dmr_burst.specs.Layout.{emb_field, sync_field}
+use Rattle.dmr_burst.specs.Sync.{sync_word}
 use Rattle.dmr_burst.specs.declared.burst.Burst.{Burst}
 use Rattle.dmr_burst.specs.declared.burst.Burst.TheVariants.{Data, VoiceSync, Voice}
-use Rattle.dmr_burst.specs.declared.burst.Emb.{Emb}
-use Rattle.dmr_burst.specs.declared.burst.Side.TheVariants.{Bs}
-use Rattle.dmr_burst.specs.declared.burst.SlotType.{SlotType}
+use Rattle.dmr_burst.specs.declared.emb.Emb.{Emb}
+use Rattle.dmr_burst.specs.declared.slot_type.SlotType.{SlotType}
+use Rattle.dmr_burst.specs.declared.sync.Side.TheVariants.{Bs}
 use Rattle.dmr_burst.proofs.Pieces.{parts_meet}
 use Rattle.dmr_station.specs.Clean.{IsEncodedAs}
 

@@ -1,10 +1,10 @@
 -- What may be transmitted on the downlink.
 use Rattle.std.specs.Prelude.{ℕ, ◌≡◌, Bool, List, [], ◌∷◌, Option, Some, None, IsSomeAnd, map}
 use Rattle.dmr_bits.specs.Bits.{bits_of_octets}
+use Rattle.dmr_burst.specs.Burst.{IsEncoding}
 use Rattle.dmr_burst.specs.Cach.{IsCach}
-use Rattle.dmr_burst.specs.Layout.{IsEncoding}
 use Rattle.dmr_burst.specs.declared.burst.Burst.{Burst}
-use Rattle.dmr_burst.specs.declared.burst.Side.TheVariants.{Bs}
+use Rattle.dmr_burst.specs.declared.sync.Side.TheVariants.{Bs}
 use Rattle.dmr_slot.specs.Clean.{AreCleanBursts}
 use Rattle.dmr_station.specs.declared.sending.DownlinkBurst.{DownlinkBurst}
 use Rattle.dmr_station.specs.Pairs.{Pairwise}

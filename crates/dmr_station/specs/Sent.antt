@@ -2,9 +2,9 @@
 use Rattle.std.specs.Prelude.{ℕ, ◌≡◌, ◌+◌, ◌%◌, ◌==◌, ◌<◌, Bool, List, [], ◌∷◌, Option, Some, None, All, IfSome, IsSomeAnd}
 use Rattle.std.specs.Prelude.{slice_index_or, if◌then◌else◌}
 use Rattle.dmr_bits.specs.Bits.{bits_of_octets}
+use Rattle.dmr_burst.specs.Burst.{IsBurst, IsEncoding}
 use Rattle.dmr_burst.specs.Cach.{IsCach}
-use Rattle.dmr_burst.specs.Layout.{IsBurst, IsEncoding}
-use Rattle.dmr_burst.specs.declared.burst.Side.TheVariants.{Bs}
+use Rattle.dmr_burst.specs.declared.sync.Side.TheVariants.{Bs}
 use Rattle.dmr_embedded.specs.ShortLc.{IsShortLc}
 use Rattle.dmr_station.specs.Announced.{IsFitMessage}
 use Rattle.dmr_station.specs.declared.announcing.Message.{Message}

@@ -1,6 +1,6 @@
 //! The lines of both slots, the channel that they share, and the gateway.
 ghost use Rattle.std.specs.Prelude.{◌≡◌, All, IfOk, IfSome};
-ghost use Rattle.dmr_burst.specs.Layout.{IsBurst};
+ghost use Rattle.dmr_burst.specs.Burst.{IsBurst};
 ghost use Rattle.dmr_gateway.specs.Gateway.{IsSlot};
 ghost use Rattle.dmr_station.specs.Announced.{IsFitMessage};
 ghost use Rattle.dmr_station.specs.Frames.{marked as marked_burst, marked_slots as marked_bursts, IsSlotAsked};

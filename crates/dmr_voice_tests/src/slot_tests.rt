@@ -1,6 +1,6 @@
 //! Worked recordings of slots, and frames of the channel. All bursts are of colour code 1, unless said.
 ghost use Rattle.std.specs.Prelude.{◌<◌, IfSome};
-ghost use Rattle.dmr_burst.specs.Layout.{IsBurst};
+ghost use Rattle.dmr_burst.specs.Burst.{IsBurst};
 
 use dmr_bits::Bits;
 use dmr_bptc::bptc_encode;

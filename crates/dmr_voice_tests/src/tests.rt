@@ -1,7 +1,7 @@
 //! Worked recordings of voice calls: what transmissions send and mean, slot by slot, beside what is repeated of their octets.
 //! More of them stand with the tests of slots, whose lines repeat them.
 ghost use Rattle.std.specs.Prelude.{◌<◌};
-ghost use Rattle.dmr_burst.specs.Layout.{IsBurst};
+ghost use Rattle.dmr_burst.specs.Burst.{IsBurst};
 ghost use Rattle.dmr_hearing.specs.Fit.{IsFitHeard};
 
 use dmr_bits::Bits;

@@ -4,7 +4,7 @@ use Rattle.std.proofs.lemmas.Nat.{xor_lt}
 use Rattle.dmr_bits.specs.Bits.{bits_of, xor_bits, weight}
 use Rattle.dmr_bits.proofs.Lists.{bits_of_field}
 use Rattle.dmr_bits.proofs.Sums.{bits_of_xor, weight-bits_of}
-use Rattle.dmr_burst.specs.Layout.{sync_word}
+use Rattle.dmr_burst.specs.Sync.{sync_word}
 use Rattle.dmr_burst.proofs.sync.distance_from.Goals as goal
 
 pub returns : goal.returns
