@@ -5,7 +5,7 @@ ghost use Rattle.dmr_gateway.specs.Gateway.{IsSlot};
 
 use dmr_bits::Bits;
 use dmr_bptc::{bptc_decode, bptc_encode};
-use dmr_burst::Burst;
+use dmr_burst::{Burst, data_type};
 use dmr_csbk::{Csbk, csbk_info};
 use dmr_data::{
     Block, Confirmed, Header, Octets, Packet, Rate, Response, Status, block_info, block_read,
@@ -58,7 +58,7 @@ pub fn word(kind: u8, message: &Bits<96>) -> Burst {
 /// A control signalling block, which says nothing to a gateway.
 pub fn control() -> Burst {
     word(
-        3,
+        data_type::CSBK,
         &csbk_info(&Csbk {
             last: false,
             protect: false,
@@ -73,7 +73,7 @@ pub fn control() -> Burst {
 pub fn headed(header: &Header) -> Burst
     requires fit { IsFitHeader header.now }
 {
-    word(6, &header_info(header))
+    word(data_type::DATA_HEADER, &header_info(header))
 }
 
 /// What a burst of the gateway is: a preamble, a header, a block, or an answer.
@@ -87,13 +87,13 @@ pub fn letter(burst: &Option<Burst>) -> u8 {
                 ..
             },
         ) => match kind {
-            3 => b'P',
-            6 => match header_read(information) {
+            data_type::CSBK => b'P',
+            data_type::DATA_HEADER => match header_read(information) {
                 Ok(Header::Response(_)) => b'A',
                 Ok(_) => b'H',
                 Err(_) => b'?',
             },
-            7 => b'B',
+            data_type::RATE_HALF_DATA => b'B',
             _ => b'?',
         },
         Some(_) => b'?',
@@ -199,7 +199,7 @@ fn block_burst(block: &Block) -> Option<Burst> {
     if fits {
         Some(Burst::Data {
             colour: 1,
-            kind: 7,
+            kind: data_type::RATE_HALF_DATA,
             information: block_info(block, Rate::Half),
         })
     } else {

@@ -2,6 +2,7 @@
 ghost use Rattle.std.specs.Prelude.{◌≡◌};
 ghost use Rattle.dmr_hearing.specs.DataTypes.{payload_of as payload};
 
+use dmr_burst::data_type;
 use dmr_checks::Mask;
 use dmr_link::LcUse;
 
@@ -25,12 +26,16 @@ pub(crate) fn payload_of(kind: u8) -> Payload
     ensures value { result ≡ payload kind }
 {
     match kind {
-        1 => Payload::LinkControl(LcUse::Header),
-        2 => Payload::LinkControl(LcUse::Terminator),
-        3 => Payload::Sealed(Mask::Csbk),
-        6 => Payload::Sealed(Mask::Header),
-        0 | 4 | 5 | 7 | 11 => Payload::Word,
-        8 | 10 => Payload::Raw,
+        data_type::VOICE_LC_HEADER => Payload::LinkControl(LcUse::Header),
+        data_type::TERMINATOR_WITH_LC => Payload::LinkControl(LcUse::Terminator),
+        data_type::CSBK => Payload::Sealed(Mask::Csbk),
+        data_type::DATA_HEADER => Payload::Sealed(Mask::Header),
+        data_type::PI_HEADER
+        | data_type::MBC_HEADER
+        | data_type::MBC_CONTINUATION
+        | data_type::RATE_HALF_DATA
+        | data_type::UNIFIED_SINGLE_BLOCK_DATA => Payload::Word,
+        data_type::RATE_THREE_QUARTERS_DATA | data_type::RATE_ONE_DATA => Payload::Raw,
         _ => Payload::Nothing,
     }
 }

@@ -2,6 +2,7 @@
 use Rattle.std.specs.Prelude.{◌≡◌, ◌≢◌, ℕ, Bool, true, false, List, Some, None}
 use Rattle.dmr_bits.specs.Bits.{bits_of_octets}
 use Rattle.dmr_bptc.specs.Decoding.{IsDecoded}
+use Rattle.dmr_burst.specs.DataTypes as data_type
 use Rattle.dmr_csbk.specs.Block as block
 use Rattle.dmr_csbk.specs.declared.fault.CsbkFault.TheVariants as block_fault
 use Rattle.dmr_data.specs.HeaderForms as header
@@ -57,18 +58,18 @@ HoldsOctets bits contents = ⊥
 -- a type in the product code whose octets have no meaning here
 pub record IsOther (kind : ℕ) : Type 0 where
   pub coded : is_coded kind ≡ true
-  pub voice_header : kind ≢ 1
-  pub terminator : kind ≢ 2
-  pub control_block : kind ≢ 3
-  pub data_header : kind ≢ 6
-  pub idle : kind ≢ 9
+  pub voice_header : kind ≢ data_type.voice_lc_header
+  pub terminator : kind ≢ data_type.terminator_with_lc
+  pub control_block : kind ≢ data_type.csbk
+  pub data_header : kind ≢ data_type.data_header
+  pub idle : kind ≢ data_type.idle
 
 -- What the information of a data burst of a type holds.
 pub record Holds (kind : ℕ) (bits : List Bool) (contents : Contents) : Type 0 where
-  pub voice_header : kind ≡ 1 → HoldsLinkControl Header bits contents
-  pub terminator : kind ≡ 2 → HoldsLinkControl Terminator bits contents
-  pub control_block : kind ≡ 3 → HoldsControlBlock bits contents
-  pub data_header : kind ≡ 6 → HoldsDataHeader bits contents
-  pub idle : kind ≡ 9 → HoldsNothing bits contents
+  pub voice_header : kind ≡ data_type.voice_lc_header → HoldsLinkControl Header bits contents
+  pub terminator : kind ≡ data_type.terminator_with_lc → HoldsLinkControl Terminator bits contents
+  pub control_block : kind ≡ data_type.csbk → HoldsControlBlock bits contents
+  pub data_header : kind ≡ data_type.data_header → HoldsDataHeader bits contents
+  pub idle : kind ≡ data_type.idle → HoldsNothing bits contents
   pub other : IsOther kind → HoldsOctets bits contents
   pub uncoded : is_coded kind ≡ false → contents ≡ AsReceived

@@ -6,7 +6,7 @@ use crate::place::{Place, Seconds};
 use crate::voice_place::VoicePlace;
 use crate::wrong::Wrong;
 use arrayvec::ArrayString;
-use dmr_burst::{Emb, Side, SlotType};
+use dmr_burst::{Emb, Side, SlotType, data_type};
 use dmr_link::FullLc;
 use dmr_report::Reading;
 use std::fmt;
@@ -38,18 +38,18 @@ struct Name(Reading, Option<VoicePlace>);
 /// The name of a data type, if it has one. ETSI TS 102 361-1, clause 9.3.6.
 fn type_name(kind: u8) -> Option<&'static str> {
     match kind {
-        0 => Some("PI header"),
-        1 => Some("voice header"),
-        2 => Some("terminator"),
-        3 => Some("CSBK"),
-        4 => Some("MBC header"),
-        5 => Some("MBC block"),
-        6 => Some("data header"),
-        7 => Some("rate 1/2"),
-        8 => Some("rate 3/4"),
-        9 => Some("idle"),
-        10 => Some("rate 1"),
-        11 => Some("unified block"),
+        data_type::PI_HEADER => Some("PI header"),
+        data_type::VOICE_LC_HEADER => Some("voice header"),
+        data_type::TERMINATOR_WITH_LC => Some("terminator"),
+        data_type::CSBK => Some("CSBK"),
+        data_type::MBC_HEADER => Some("MBC header"),
+        data_type::MBC_CONTINUATION => Some("MBC block"),
+        data_type::DATA_HEADER => Some("data header"),
+        data_type::RATE_HALF_DATA => Some("rate 1/2"),
+        data_type::RATE_THREE_QUARTERS_DATA => Some("rate 3/4"),
+        data_type::IDLE => Some("idle"),
+        data_type::RATE_ONE_DATA => Some("rate 1"),
+        data_type::UNIFIED_SINGLE_BLOCK_DATA => Some("unified block"),
         _ => None,
     }
 }

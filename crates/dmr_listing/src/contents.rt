@@ -11,7 +11,7 @@ use crate::data_header::DataHeader;
 use crate::digits::Digits;
 use crate::link_control::LinkControl;
 use dmr_bits::Bits;
-use dmr_burst::read_information;
+use dmr_burst::{data_type, read_information};
 use dmr_csbk::{Csbk, CsbkFault, csbk_read};
 use dmr_data::{Header, HeaderFault, header_read};
 use dmr_link::{FullLc, LcFault, LcUse, lc_read};
@@ -40,17 +40,6 @@ pub enum Contents {
     /// It is too damaged.
     Unreadable,
 }
-
-/// Types of data bursts. ETSI TS 102 361-1, clause 9.3.6.
-const VOICE_HEADER: u8 = 1;
-
-const TERMINATOR: u8 = 2;
-
-const CSBK: u8 = 3;
-
-const DATA_HEADER: u8 = 6;
-
-const IDLE: u8 = 9;
 
 /// The link control of a burst, or its octets where none is sealed.
 fn link_control_of(received: &Bits<196>, message: &Bits<96>, lc_use: LcUse) -> Contents
@@ -96,11 +85,11 @@ fn coded_contents(kind: u8, received: &Bits<196>, message: &Bits<96>) -> Content
     ensures holds { Holds kind received.now result }
 {
     match kind {
-        VOICE_HEADER => link_control_of(received, message, LcUse::Header),
-        TERMINATOR => link_control_of(received, message, LcUse::Terminator),
-        CSBK => control_block_of(received, message),
-        DATA_HEADER => data_header_of(received, message),
-        IDLE => Contents::Idle,
+        data_type::VOICE_LC_HEADER => link_control_of(received, message, LcUse::Header),
+        data_type::TERMINATOR_WITH_LC => link_control_of(received, message, LcUse::Terminator),
+        data_type::CSBK => control_block_of(received, message),
+        data_type::DATA_HEADER => data_header_of(received, message),
+        data_type::IDLE => Contents::Idle,
         _ => Contents::Octets(message.octets()),
     }
 }

@@ -2,6 +2,7 @@
 ghost use Rattle.std.specs.Prelude.{◌≡◌, ◌∷◌, ◌++◌, [], drop, None, replicate};
 ghost use Rattle.dmr_listing.specs.Fragments.{IsEmbedded};
 
+use dmr_burst::lcss;
 use dmr_hearing::read_fields;
 use dmr_link::FullLc;
 use std::marker::Model;
@@ -54,7 +55,10 @@ impl Fragments {
     {
         match self.newest {
             [Some(b), Some(c), Some(d), Some(e)]
-                if b.lcss == 1 && c.lcss == 3 && d.lcss == 3 && e.lcss == 2 => {
+                if b.lcss == lcss::FIRST_FRAGMENT
+                    && c.lcss == lcss::CONTINUATION_FRAGMENT
+                    && d.lcss == lcss::CONTINUATION_FRAGMENT
+                    && e.lcss == lcss::LAST_FRAGMENT => {
                 read_fields(&[b.field, c.field, d.field, e.field])
             }
             _ => None,

@@ -4,6 +4,7 @@ ghost use Rattle.dmr_listing.specs.Marks.{mark_of, mark_of_type};
 
 use crate::burst_line::{BurstLine, place_letter};
 use crate::voice_place::VoicePlace;
+use dmr_burst::data_type;
 use dmr_report::Reading;
 use std::fmt;
 
@@ -40,14 +41,18 @@ fn mark_of_type(kind: u8) -> Mark
     ensures value { result ≡ mark_of_type kind }
 {
     match kind {
-        0 => Mark::PrivacyHeader,
-        1 => Mark::VoiceHeader,
-        2 => Mark::Terminator,
-        3 => Mark::ControlBlock,
-        4 | 5 | 11 => Mark::MultiBlock,
-        6 => Mark::DataHeader,
-        7 | 8 | 10 => Mark::DataBlock,
-        9 => Mark::Idle,
+        data_type::PI_HEADER => Mark::PrivacyHeader,
+        data_type::VOICE_LC_HEADER => Mark::VoiceHeader,
+        data_type::TERMINATOR_WITH_LC => Mark::Terminator,
+        data_type::CSBK => Mark::ControlBlock,
+        data_type::MBC_HEADER
+        | data_type::MBC_CONTINUATION
+        | data_type::UNIFIED_SINGLE_BLOCK_DATA => Mark::MultiBlock,
+        data_type::DATA_HEADER => Mark::DataHeader,
+        data_type::RATE_HALF_DATA
+        | data_type::RATE_THREE_QUARTERS_DATA
+        | data_type::RATE_ONE_DATA => Mark::DataBlock,
+        data_type::IDLE => Mark::Idle,
         _ => Mark::Unreadable,
     }
 }

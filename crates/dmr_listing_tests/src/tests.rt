@@ -1,5 +1,5 @@
 //! The lines of bursts, and the places of superframes.
-use dmr_burst::{Emb, Side};
+use dmr_burst::{Emb, Side, lcss};
 use dmr_csbk::Csbk;
 use dmr_link::FullLc;
 use dmr_listing::{
@@ -19,7 +19,7 @@ fn voice() -> Option<Reading> {
     Some(Reading::Voice(Emb {
         colour: 1,
         pi: false,
-        lcss: 0,
+        lcss: lcss::SINGLE_FRAGMENT,
     }))
 }
 

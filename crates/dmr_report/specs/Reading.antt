@@ -1,6 +1,7 @@
 -- What a burst is read as.
 use Rattle.std.specs.Prelude.{◌≡◌, ◌==◌, ◌||◌, ℕ, Bool, true, false, not, List}
 use Rattle.dmr_bptc.specs.Decoding.{IsDecoded}
+use Rattle.dmr_burst.specs.DataTypes as data_type
 use Rattle.dmr_burst.specs.Emb.{HasEmb}
 use Rattle.dmr_burst.specs.Layout.{information_field}
 use Rattle.dmr_burst.specs.SlotType.{HasSlotType}
@@ -27,7 +28,7 @@ IsWithoutEmb bits = (emb : Emb) → HasEmb emb bits → ⊥
 
 -- all types of data but rate 3/4 and rate 1 are sent in the block product turbo code
 abbrev pub is_coded : ℕ → Bool
-is_coded kind = not (kind == 8 || kind == 10)
+is_coded kind = not (kind == data_type.rate_three_quarters_data || kind == data_type.rate_one_data)
 
 -- what the information of a data burst of this type is
 abbrev pub IsInformation : ℕ → List Bool → Information → Type 0

@@ -6,7 +6,9 @@ ghost use Rattle.dmr_report.specs.Reading.{IsInformation, IsReadAs, is_coded, Is
 
 use dmr_bits::Bits;
 use dmr_bptc::bptc_decode;
-use dmr_burst::{Emb, Side, SlotType, read_emb, read_information, read_slot_type, read_sync};
+use dmr_burst::{
+    Emb, Side, SlotType, data_type, read_emb, read_information, read_slot_type, read_sync,
+};
 use std::fmt;
 
 /// What the 196 bits of information of a data burst are.
@@ -33,18 +35,12 @@ pub enum Reading {
     Unreadable,
 }
 
-/// Rate 3/4 data, in a trellis code (ETSI TS 102 361-1, clause 9.3.6).
-const RATE_THREE_QUARTERS: u8 = 8;
-
-/// Rate 1 data, in no code (ETSI TS 102 361-1, clause 9.3.6).
-const RATE_ONE: u8 = 10;
-
 /// What the information of a data burst of this type is.
 fn information_of(kind: u8, burst: &[u8; 33]) -> Information
     ensures read { IsInformation kind (bits_of_octets burst.now) result }
 {
     match kind {
-        RATE_THREE_QUARTERS | RATE_ONE => Information::Uncoded,
+        data_type::RATE_THREE_QUARTERS_DATA | data_type::RATE_ONE_DATA => Information::Uncoded,
         _ => Information::Coded(bptc_decode(&read_information(burst))),
     }
 }

@@ -4,6 +4,7 @@ use Rattle.std.specs.Prelude.{slice_index_or, if◌then◌else◌}
 use Rattle.dmr_bits.specs.Bits.{bits_of_octets}
 use Rattle.dmr_burst.specs.Burst.{IsBurst, IsEncoding}
 use Rattle.dmr_burst.specs.Cach.{IsCach}
+use Rattle.dmr_burst.specs.Lcss.{first_fragment, last_fragment, continuation_fragment}
 use Rattle.dmr_burst.specs.declared.sync.Side.TheVariants.{Bs}
 use Rattle.dmr_embedded.specs.ShortLc.{IsShortLc}
 use Rattle.dmr_station.specs.Announced.{IsFitMessage}
@@ -17,7 +18,8 @@ FitsItsFields slot = IfSome slot (λ d. IsBurst d.burst × IsFitMessage d.messag
 -- The records of the downlink are counted from 0, slot 1 first. Four of them carry one Short LC: the first fragment, two that
 -- continue it, and the last.
 abbrev pub lcss_of : ℕ → ℕ
-lcss_of place = if place % 4 == 0 then 1 else (if place % 4 == 3 then 2 else 3)
+lcss_of place =
+    if place % 4 == 0 then first_fragment else (if place % 4 == 3 then last_fragment else continuation_fragment)
 
 -- The CACH of a record: AT is 1 where a repeated burst follows, TC is 0 where slot 1 follows, and of the four fragments of a
 -- message it has the one of its place.

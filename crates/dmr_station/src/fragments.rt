@@ -6,7 +6,7 @@ ghost use Rattle.dmr_station.specs.Sent.{AreCachs, lcss_of};
 
 use crate::announcing::Message;
 use dmr_bits::Bits;
-use dmr_burst::cach;
+use dmr_burst::{cach, lcss};
 use dmr_embedded::short_lc;
 use std::marker::Model;
 
@@ -109,8 +109,8 @@ fn link_control_start_stop(place: u32) -> u8
     ensures fits { result < 4 }
 {
     match place % 4 {
-        0 => 0b01,
-        3 => 0b10,
-        _ => 0b11,
+        0 => lcss::FIRST_FRAGMENT,
+        3 => lcss::LAST_FRAGMENT,
+        _ => lcss::CONTINUATION_FRAGMENT,
     }
 }

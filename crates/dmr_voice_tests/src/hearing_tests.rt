@@ -1,6 +1,6 @@
 //! Bursts from outside, heard by a repeater of colour code 1.
 use dmr_bits::Bits;
-use dmr_burst::Emb;
+use dmr_burst::{Emb, data_type, lcss};
 use dmr_hearing::{Datum, Heard, hear, read_fields};
 use dmr_link::FullLc;
 use dmr_test_values::{
@@ -75,7 +75,7 @@ fn information(burst: &[u8; 33]) -> Bits<196> {
 #[test]
 fn voice_lc_header(rt: HostRuntime) {
     let datum = Some(Datum {
-        kind: 1,
+        kind: data_type::VOICE_LC_HEADER,
         information: information(&CALL_HEADER),
         link_control: Some(GROUP_CALL),
     });
@@ -90,7 +90,7 @@ fn voice_lc_header(rt: HostRuntime) {
 #[test]
 fn terminator_with_lc(rt: HostRuntime) {
     let datum = Some(Datum {
-        kind: 2,
+        kind: data_type::TERMINATOR_WITH_LC,
         information: information(&CALL_TERMINATOR),
         link_control: Some(GROUP_CALL),
     });
@@ -101,7 +101,7 @@ fn terminator_with_lc(rt: HostRuntime) {
 #[test]
 fn one_csbk(rt: HostRuntime) {
     let datum = Some(Datum {
-        kind: 3,
+        kind: data_type::CSBK,
         information: information(&ONE_CSBK),
         link_control: None,
     });
@@ -112,7 +112,7 @@ fn one_csbk(rt: HostRuntime) {
 #[test]
 fn data_header_by_its_check(rt: HostRuntime) {
     let datum = Some(Datum {
-        kind: 6,
+        kind: data_type::DATA_HEADER,
         information: information(&DATA_HEADER),
         link_control: None,
     });
@@ -153,7 +153,7 @@ fn printed_voice_burst(rt: HostRuntime) {
         emb: Some(Emb {
             colour: 1,
             pi: false,
-            lcss: 1,
+            lcss: lcss::FIRST_FRAGMENT,
         }),
         embedded: 0,
         vocoder: Bits::<216>::zero(),

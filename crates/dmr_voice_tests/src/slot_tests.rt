@@ -4,7 +4,7 @@ ghost use Rattle.dmr_burst.specs.Burst.{IsBurst};
 
 use dmr_bits::Bits;
 use dmr_bptc::bptc_encode;
-use dmr_burst::{Burst, Emb, Side, encode_burst};
+use dmr_burst::{Burst, Emb, Side, data_type, encode_burst, lcss};
 use dmr_link::{FullLc, LcUse, lc_info};
 use dmr_slot::{Channel, SlotLine, SlotOut};
 use dmr_test_values::{CALL_FIELDS, IDLE_BLOCK, IDLE_BURST, TERMINATOR_BLOCK};
@@ -62,15 +62,23 @@ fn burst_of(letter: u8, colour: u8) -> Option<Burst>
         Bits::<216>::zero().with_field(100, 16, 0x0505)
     };
     match letter {
-        b'H' => Some(data(colour, 1, &lc_info(&CALL, LcUse::Header))),
-        b'P' => Some(data(colour, 0, &Bits::<96>::zero())),
+        b'H' => Some(data(
+            colour,
+            data_type::VOICE_LC_HEADER,
+            &lc_info(&CALL, LcUse::Header),
+        )),
+        b'P' => Some(data(colour, data_type::PI_HEADER, &Bits::<96>::zero())),
         b'A' | b'a' => Some(Burst::VoiceSync { vocoder }),
-        b'B' | b'b' => Some(voice(colour, 1, CALL_FIELDS[0], vocoder)),
-        b'C' | b'c' => Some(voice(colour, 3, CALL_FIELDS[1], vocoder)),
-        b'D' | b'd' => Some(voice(colour, 3, CALL_FIELDS[2], vocoder)),
-        b'E' | b'e' => Some(voice(colour, 2, CALL_FIELDS[3], vocoder)),
-        b'F' | b'f' => Some(voice(colour, 0, 0, vocoder)),
-        b'K' => Some(data(colour, 3, &Bits::<96>::zero().with_field(80, 16, 0x5A5A))),
+        b'B' | b'b' => Some(voice(colour, lcss::FIRST_FRAGMENT, CALL_FIELDS[0], vocoder)),
+        b'C' | b'c' => Some(voice(colour, lcss::CONTINUATION_FRAGMENT, CALL_FIELDS[1], vocoder)),
+        b'D' | b'd' => Some(voice(colour, lcss::CONTINUATION_FRAGMENT, CALL_FIELDS[2], vocoder)),
+        b'E' | b'e' => Some(voice(colour, lcss::LAST_FRAGMENT, CALL_FIELDS[3], vocoder)),
+        b'F' | b'f' => Some(voice(colour, lcss::SINGLE_FRAGMENT, 0, vocoder)),
+        b'K' => Some(data(
+            colour,
+            data_type::CSBK,
+            &Bits::<96>::zero().with_field(80, 16, 0x5A5A),
+        )),
         _ => None,
     }
 }
@@ -97,9 +105,15 @@ fn letter_of(burst: &Option<Burst>) -> u8 {
         }
     }
     let idle = Bits::<96>::from_octets(&IDLE_BLOCK);
-    if *burst == data(1, 2, &Bits::<96>::from_octets(&TERMINATOR_BLOCK)) {
+    if *burst
+        == data(
+            1,
+            data_type::TERMINATOR_WITH_LC,
+            &Bits::<96>::from_octets(&TERMINATOR_BLOCK),
+        )
+    {
         b'T'
-    } else if *burst == data(1, 9, &idle) {
+    } else if *burst == data(1, data_type::IDLE, &idle) {
         b'I'
     } else {
         b'?'
@@ -300,7 +314,7 @@ fn gateway_burst(rt: HostRuntime) {
 #[test]
 fn idle(rt: HostRuntime) {
     // The other tests tell it by the letter I.
-    let idle = data(1, 9, &Bits::<96>::from_octets(&IDLE_BLOCK));
+    let idle = data(1, data_type::IDLE, &Bits::<96>::from_octets(&IDLE_BLOCK));
     assert!(rt; encode_burst(&idle, Side::Bs) == IDLE_BURST);
     let mut channel = Channel::new(1, 2);
     assert_eq!(rt; channel_frame(&mut channel, b"..", b"K."), *b"KI");

@@ -6,7 +6,7 @@ ghost use Rattle.dmr_hearing.specs.Fit.{IsFitHeard};
 
 use dmr_bits::Bits;
 use dmr_bptc::bptc_encode;
-use dmr_burst::{Burst, Emb, Side, encode_burst};
+use dmr_burst::{Burst, Emb, Side, data_type, encode_burst, lcss};
 use dmr_embedded::embed;
 use dmr_link::{FullLc, LcUse, lc_info};
 use dmr_test_values::CALL_FIELDS;
@@ -85,13 +85,13 @@ impl Carried {
         ensures small { result < 4 }
     {
         if self == Carried::Nothing {
-            return 0;
+            return lcss::SINGLE_FRAGMENT;
         }
         match place {
-            1 => 1,
-            2 | 3 => 3,
-            4 => 2,
-            _ => 0,
+            1 => lcss::FIRST_FRAGMENT,
+            2 | 3 => lcss::CONTINUATION_FRAGMENT,
+            4 => lcss::LAST_FRAGMENT,
+            _ => lcss::SINGLE_FRAGMENT,
         }
     }
 }
@@ -133,7 +133,7 @@ type Recorded = Option<[u8; 33]>;
 /// What a data burst of the call says: a header, or a terminator.
 fn message(kind: u8) -> Bits<96> {
     match kind {
-        1 => lc_info(&GROUP, LcUse::Header),
+        data_type::VOICE_LC_HEADER => lc_info(&GROUP, LcUse::Header),
         _ => lc_info(&GROUP, LcUse::Terminator),
     }
 }
@@ -205,12 +205,12 @@ fn recorded_place(place: Place) -> Recorded {
 fn recorded_as(sent: Sent) -> Recorded {
     match sent {
         Sent::Silence | Sent::Gap => None,
-        Sent::Header => recorded_data(1),
-        Sent::Terminator => recorded_data(2),
+        Sent::Header => recorded_data(data_type::VOICE_LC_HEADER),
+        Sent::Terminator => recorded_data(data_type::TERMINATOR_WITH_LC),
         Sent::Place(place) => recorded_place(place),
-        Sent::CutOff => recorded(&voice_burst(COLOUR, 3, 0, 7)),
+        Sent::CutOff => recorded(&voice_burst(COLOUR, lcss::CONTINUATION_FRAGMENT, 0, 7)),
         Sent::ForeignSync => recorded(&sync_burst(8)),
-        Sent::ForeignVoice => recorded(&voice_burst(2, 0, 0, 9)),
+        Sent::ForeignVoice => recorded(&voice_burst(2, lcss::SINGLE_FRAGMENT, 0, 9)),
     }
 }
 
@@ -241,8 +241,8 @@ fn meant_place(place: Place) -> VoiceOut {
 /// What a slot means.
 fn meant_by(sent: Sent) -> VoiceOut {
     match sent {
-        Sent::Header | Sent::Gap => data_of_the_call(1),
-        Sent::Terminator => data_of_the_call(2),
+        Sent::Header | Sent::Gap => data_of_the_call(data_type::VOICE_LC_HEADER),
+        Sent::Terminator => data_of_the_call(data_type::TERMINATOR_WITH_LC),
         Sent::Place(place) => meant_place(place),
         Sent::Silence | Sent::CutOff | Sent::ForeignSync | Sent::ForeignVoice => VoiceOut::Nothing,
     }
@@ -334,8 +334,8 @@ fn letter_of(out: &VoiceOut) -> u8 {
         VoiceOut::Nothing => b'.',
         VoiceOut::Repeat { burst, .. } => match burst {
             Burst::Data { kind, .. } => match kind {
-                1 => b'H',
-                2 => b'T',
+                data_type::VOICE_LC_HEADER => b'H',
+                data_type::TERMINATOR_WITH_LC => b'T',
                 _ => b'D',
             },
             Burst::VoiceSync { .. } => b'A',
@@ -384,11 +384,11 @@ fn expect_fields(rt: &impl Abort, slots: &[Sent], from: usize, fields: &[u32; 4]
 fn recorded_late_call(carried: &[u32; 4], number: usize) -> Recorded {
     match number {
         0 => recorded(&sync_burst(0)),
-        1 => recorded(&voice_burst(COLOUR, 1, carried[0], 0)),
-        2 => recorded(&voice_burst(COLOUR, 3, carried[1], 0)),
-        3 => recorded(&voice_burst(COLOUR, 3, carried[2], 0)),
-        4 => recorded(&voice_burst(COLOUR, 2, carried[3], 0)),
-        5 => recorded(&voice_burst(COLOUR, 0, 0, 0)),
+        1 => recorded(&voice_burst(COLOUR, lcss::FIRST_FRAGMENT, carried[0], 0)),
+        2 => recorded(&voice_burst(COLOUR, lcss::CONTINUATION_FRAGMENT, carried[1], 0)),
+        3 => recorded(&voice_burst(COLOUR, lcss::CONTINUATION_FRAGMENT, carried[2], 0)),
+        4 => recorded(&voice_burst(COLOUR, lcss::LAST_FRAGMENT, carried[3], 0)),
+        5 => recorded(&voice_burst(COLOUR, lcss::SINGLE_FRAGMENT, 0, 0)),
         _ => None,
     }
 }

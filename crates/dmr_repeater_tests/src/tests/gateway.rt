@@ -8,7 +8,7 @@ use super::{
 };
 use dmr_bits::Bits;
 use dmr_bptc::{bptc_decode, bptc_encode};
-use dmr_burst::{Burst, Side, encode_burst, read_information};
+use dmr_burst::{Burst, Side, data_type, encode_burst, read_information};
 use dmr_checks::{Mask, seal};
 use dmr_data::{Block, Octets, Packet, Rate, block_info, split_packet};
 use dmr_repeater::Summary;
@@ -31,7 +31,7 @@ fn header_burst(octets: &[u8; 10]) -> [u8; 33] {
     encode_burst(
         &Burst::Data {
             colour: 1,
-            kind: 6,
+            kind: data_type::DATA_HEADER,
             information,
         },
         Side::Ms,
@@ -70,7 +70,7 @@ fn block_burst(rt: &impl Abort, packet: &Packet, serial: u8) -> [u8; 33]
     encode_burst(
         &Burst::Data {
             colour: 1,
-            kind: 7,
+            kind: data_type::RATE_HALF_DATA,
             information: block_info(&sent, Rate::Half),
         },
         Side::Ms,

@@ -3,7 +3,7 @@
 use super::{new_station, next_frame};
 use dmr_bits::Bits;
 use dmr_bptc::{bptc_decode, bptc_encode};
-use dmr_burst::{Burst, Side, encode_burst, read_information};
+use dmr_burst::{Burst, Side, data_type, encode_burst, read_information};
 use dmr_checks::{Mask, seal};
 use dmr_record::{Octets, Outgoing, ReceivedKind};
 use dmr_station::{Counts, SILENCE, Station, UplinkFrame};
@@ -17,7 +17,7 @@ fn status_burst() -> [u8; 33] {
     encode_burst(
         &Burst::Data {
             colour: 1,
-            kind: 6,
+            kind: data_type::DATA_HEADER,
             information,
         },
         Side::Ms,

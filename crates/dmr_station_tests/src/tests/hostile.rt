@@ -6,8 +6,8 @@ use super::{new_station, next_frame};
 use dmr_bits::Bits;
 use dmr_bptc::{bptc_decode, bptc_encode};
 use dmr_burst::{
-    Burst, Emb, Side, encode_burst, read_emb, read_embedded, read_information, read_slot_type,
-    read_sync,
+    Burst, Emb, Side, data_type, encode_burst, lcss, read_emb, read_embedded, read_information,
+    read_slot_type, read_sync,
 };
 use dmr_checks::{Mask, opens, seal};
 use dmr_csbk::csbk_read;
@@ -103,7 +103,7 @@ impl Numbers {
         encode_burst(
             &Burst::Data {
                 colour: 1,
-                kind: 6,
+                kind: data_type::DATA_HEADER,
                 information: bptc_encode(&Bits::<96>::from_octets(&seal(&octets, Mask::Header))),
             },
             Side::Ms,
@@ -142,9 +142,9 @@ impl Superframe {
         match self.place {
             1 => {
                 self.place = 2;
-                self.carries = emb.lcss == 1;
+                self.carries = emb.lcss == lcss::FIRST_FRAGMENT;
                 self.fields = [embedded, 0, 0, 0];
-                self.carries || (emb.lcss == 0 && embedded == 0)
+                self.carries || (emb.lcss == lcss::SINGLE_FRAGMENT && embedded == 0)
             }
             2 | 3 | 4 => {
                 let place = self.place;
@@ -154,7 +154,7 @@ impl Superframe {
             }
             5 => {
                 self.place = 0;
-                emb.lcss == 0
+                emb.lcss == lcss::SINGLE_FRAGMENT
             }
             _ => false,
         }
@@ -163,13 +163,13 @@ impl Superframe {
     /// Whether the fields so far, up to this place, go on as they began.
     fn is_continued(&self, place: usize, lcss: u8) -> bool {
         if !self.carries {
-            return lcss == 0 && self.fields == [0; 4];
+            return lcss == lcss::SINGLE_FRAGMENT && self.fields == [0; 4];
         }
         if place < 4 {
-            return lcss == 3;
+            return lcss == lcss::CONTINUATION_FRAGMENT;
         }
         match extract(&self.fields) {
-            Ok(octets) => lcss == 2 && embed(&octets) == self.fields,
+            Ok(octets) => lcss == lcss::LAST_FRAGMENT && embed(&octets) == self.fields,
             Err(_) => false,
         }
     }
@@ -177,19 +177,19 @@ impl Superframe {
 
 /// Whether the information of a data type is clean.
 fn is_clean_information(kind: u8, information: &Bits<196>) -> bool {
-    if kind == 8 || kind == 10 {
+    if kind == data_type::RATE_THREE_QUARTERS_DATA || kind == data_type::RATE_ONE_DATA {
         return true;
     }
     let Some(message) = bptc_decode(information) else {
         return false;
     };
     let sealed = match kind {
-        1 => lc_read(information, LcUse::Header).is_ok(),
-        2 => lc_read(information, LcUse::Terminator).is_ok(),
-        3 => csbk_read(information).is_ok(),
-        6 => opens(&message.octets(), Mask::Header),
-        9 => message == Bits::<96>::from_octets(&IDLE_BLOCK),
-        _ => kind < 12,
+        data_type::VOICE_LC_HEADER => lc_read(information, LcUse::Header).is_ok(),
+        data_type::TERMINATOR_WITH_LC => lc_read(information, LcUse::Terminator).is_ok(),
+        data_type::CSBK => csbk_read(information).is_ok(),
+        data_type::DATA_HEADER => opens(&message.octets(), Mask::Header),
+        data_type::IDLE => message == Bits::<96>::from_octets(&IDLE_BLOCK),
+        _ => kind <= data_type::UNIFIED_SINGLE_BLOCK_DATA,
     };
     sealed && bptc_encode(&message) == *information
 }
