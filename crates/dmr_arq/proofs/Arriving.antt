@@ -31,7 +31,7 @@ pub record PlacedFits (p : receiver.Placed) : Type 0 where
   pub state : IsFitReceiver p.state
   pub out : IsFitReceiverOut p.out
 
-nothing_fits : IsFitReceiverOut receiver.nothing
+nothing_fits : IsFitReceiverOut receiver.gives_nothing
 nothing_fits = record { delivered = tt; answer = tt }
 
 -- 1. A header.

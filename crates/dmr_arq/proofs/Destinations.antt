@@ -34,7 +34,7 @@ due_keeps selection h s = by_cond (Keeps s.table) (ltb 0 h.tries_left) _ _ (λ a
 all_out_keeps : (h : Held) (s : SenderState) → Keeps s.table (sender.all_out h s)
 all_out_keeps h s = by_cond (Keeps s.table) h.packet.confirmed _ _ (λ yes. refl) (λ no. refl)
 
-sent_at_keeps : (p : Phase) (h : Held) (s : SenderState) → Keeps s.table (sender.sent_at p h s)
+sent_at_keeps : (p : Phase) (h : Held) (s : SenderState) → Keeps s.table (sender.burst_out_at p h s)
 sent_at_keeps Due h s = refl
 sent_at_keeps (Sending out) h s =
     by_cond (Keeps s.table) (ltb (out + 1) (length h.selection.serials + 3)) _ _ (λ more. refl) (λ all. all_out_keeps h s)

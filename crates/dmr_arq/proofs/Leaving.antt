@@ -5,7 +5,7 @@ use Rattle.std.proofs.lemmas.List.Elements.{All-get_or}
 use Rattle.std.proofs.lemmas.Option.{slice_get_cases, get_or_from_slice_get}
 use Rattle.dmr_data.proofs.Packets.{written_is_packet}
 use Rattle.dmr_data.proofs.WrittenPackets.{packet_fits}
-use Rattle.dmr_data.specs.Block.{IsFit, payload}
+use Rattle.dmr_data.specs.Block.{FitsBlock, payload}
 use Rattle.dmr_data.specs.Header.{IsFitHeader}
 use Rattle.dmr_data.specs.declared.block.Block.{Block}
 use Rattle.dmr_data.specs.declared.header.Header.TheVariants as header
@@ -148,7 +148,7 @@ out_is_fit out h s own fit =
     (λ c. record { llid = own; held = phase_fit h (phase.Waiting 20) fit })
     (λ u. record { llid = own; held = tt }))
 
-sent_at_fit : (p : Phase) (h : Held) (s : SenderState) → IsFitHeld h → IsFitSender s → IsFitSender (sender.sent_at p h s)
+sent_at_fit : (p : Phase) (h : Held) (s : SenderState) → IsFitHeld h → IsFitSender s → IsFitSender (sender.burst_out_at p h s)
 sent_at_fit phase.Due h s fit own =
     record {
       llid = own.llid;
@@ -213,16 +213,16 @@ header_fits llid h own fit =
 
 -- a block of a packet that is offered fits its rate
 block_fits : (packet : Packet) (place : ℕ) (b : Block) → IsOfferedPacket packet → slice_get packet.blocks place ≡ Some b →
-    IsFit packet.rate b.serial b.octets
+    FitsBlock packet.rate b.serial b.octets
 block_fits packet place b fit found =
     elim (slice_get_cases packet.blocks place).1 [
-      | inl k ↦ let P : Block → Type 0 = λ x. IsFit packet.rate x.serial x.octets in
+      | inl k ↦ let P : Block → Type 0 = λ x. FitsBlock packet.rate x.serial x.octets in
           subst P (get_or_from_slice_get packet.blocks place b b found)
           (All-get_or P packet.blocks place b k.1 (packet_fits fit.0 packet (written_is_packet fit.0 packet fit.1)))
       | inr k ↦ let z : ◌≡◌ {A = Option Block} None (Some b) = sym k.1 ∙ found in cc
     ]
 
-found_fits : (rate : Rate) (found : Option Block) → ((b : Block) → found ≡ Some b → IsFit rate b.serial b.octets) →
+found_fits : (rate : Rate) (found : Option Block) → ((b : Block) → found ≡ Some b → FitsBlock rate b.serial b.octets) →
     IfSome (option_map (sender.block_burst rate) found) IsFitGateBurst
 found_fits rate None fits = tt
 found_fits rate (Some b) fits = fits b refl

@@ -1,6 +1,6 @@
 -- What fits its fields: all that goes out, and all that is kept for it.
 use Rattle.std.specs.Prelude.{ℕ, ◌^◌, ◌<◌, ◌≤◌, List, length, IfSome}
-use Rattle.dmr_data.specs.Block.{IsFit}
+use Rattle.dmr_data.specs.Block.{FitsBlock}
 use Rattle.dmr_data.specs.Header.{IsFitHeader}
 use Rattle.dmr_data.specs.Packet.{IsWrittenPacket}
 use Rattle.dmr_data.specs.declared.header.Header.TheVariants as header
@@ -39,7 +39,7 @@ pub record IsFitReceiverOut (out : ReceiverOut) : Type 0 where
 abbrev pub IsFitGateBurst : GateBurst → Type 0
 IsFitGateBurst (burst.Preamble left route) = (left < 2 ^ 8) × IsFitRoute route
 IsFitGateBurst (burst.Header h) = IsFitHeader h
-IsFitGateBurst (burst.Block block rate) = IsFit rate block.serial block.octets
+IsFitGateBurst (burst.Block block rate) = FitsBlock rate block.serial block.octets
 
 -- 2. What is offered, and what is kept.
 

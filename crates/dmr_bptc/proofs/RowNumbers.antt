@@ -8,21 +8,21 @@ use Rattle.std.proofs.lemmas.List.FromFn.{length-map-range_with_len, get_or-map-
 use Rattle.dmr_bits.specs.Bits.{bits_of, number_of}
 use Rattle.dmr_bits.proofs.Lists.{length-bits_of, bits_of_spelled}
 use Rattle.dmr_bptc.specs.Table.{place, cell, row}
-use Rattle.dmr_bptc.specs.Rows.{row_bit, numbered, laid}
+use Rattle.dmr_bptc.specs.Rows.{row_bit, numbered_bit, laid}
 use Rattle.dmr_bptc.proofs.Cells.{unplace, place_below, row_from}
 
 pub length-laid : (rows : List ℕ) → length (laid rows) ≡ 196
 unfolding laid
-length-laid rows = length-map-range_with_len (λ p. numbered rows (13 * p % 196)) 0 196
+length-laid rows = length-map-range_with_len (λ p. numbered_bit rows (13 * p % 196)) 0 196
 
-pub sent_at : (rows : List ℕ) (p : ℕ) → p < 196 → get_or (laid rows) p false ≡ numbered rows (13 * p % 196)
+pub sent_at : (rows : List ℕ) (p : ℕ) → p < 196 → get_or (laid rows) p false ≡ numbered_bit rows (13 * p % 196)
 unfolding laid
-sent_at rows p h = get_or-map-range_with_len (λ p. numbered rows (13 * p % 196)) 0 196 p p false h (omega arith)
+sent_at rows p h = get_or-map-range_with_len (λ p. numbered_bit rows (13 * p % 196)) 0 196 p p false h (omega arith)
 
 pub first_laid : (rows : List ℕ) → get_or (laid rows) 0 false ≡ false
 first_laid rows = sent_at rows 0 (omega arith)
 
-numbered_cell : (rows : List ℕ) (r c : ℕ) → c < 15 → numbered rows (suc (15 * r + c)) ≡ row_bit rows r c
+numbered_cell : (rows : List ℕ) (r c : ℕ) → c < 15 → numbered_bit rows (suc (15 * r + c)) ≡ row_bit rows r c
 numbered_cell rows r c h =
     let line : (15 * r + c) / 15 ≡ r = omega arith in
     let across : (15 * r + c) % 15 ≡ c = omega arith in
@@ -32,7 +32,7 @@ pub cell_laid : (rows : List ℕ) (r c : ℕ) → r < 13 → c < 15 → cell (la
 cell_laid rows r c h k =
     let next : 1 + 15 * r + c ≡ suc (15 * r + c) = omega arith in
     sent_at rows (place r c) (place_below r c)
-    ∙ ap (numbered rows) (unplace (1 + 15 * r + c) (omega arith) ∙ next)
+    ∙ ap (numbered_bit rows) (unplace (1 + 15 * r + c) (omega arith) ∙ next)
     ∙ numbered_cell rows r c k
 
 -- the bit that is sent at a place whose cell has a number
@@ -43,7 +43,7 @@ numbered_at rows p n h e positive =
     let next : suc (15 * ((n - 1) / 15) + (n - 1) % 15) ≡ n = omega arith in
     cell_laid rows ((n - 1) / 15) ((n - 1) % 15) (omega arith) (omega arith)
     ∙ sym (numbered_cell rows ((n - 1) / 15) ((n - 1) % 15) (omega arith))
-    ∙ ap (numbered rows) (next ∙ e)
+    ∙ ap (numbered_bit rows) (next ∙ e)
     ∙ sym (sent_at rows p h)
 
 -- the row of a number

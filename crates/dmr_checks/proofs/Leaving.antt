@@ -11,7 +11,7 @@ use Rattle.std.proofs.lemmas.Nat.{xor_lt, pow_pos, shr_below}
 use Rattle.std.proofs.lemmas.List.{append_assoc, append-nil, length-append, take-append-drop}
 use Rattle.dmr_bits.specs.Bits.{bits_of, number_of, xor, xor_bits}
 use Rattle.dmr_bits.specs.Polynomials.{binary_field, add_front, scale}
-use Rattle.dmr_bits.specs.Register.{shift_in, run}
+use Rattle.dmr_bits.specs.Register.{shift_in, register_after}
 use Rattle.dmr_bits.proofs.Lists.{length-bits_of, xor_bits-append, xor_bits_twice, xor_false}
 use Rattle.dmr_bits.proofs.Lists.{number_of-lt, bits_of_spelled, bits_of_field, bits_of_none}
 use Rattle.dmr_bits.proofs.Numbers.{bits_of_xor, bits_of_append}
@@ -46,8 +46,8 @@ xor_moved q a e = sym (xor_bits-append q (false ∷ []) a (false ∷ []) e)
 
 -- what stands in the register's front and in the message alike only leaves
 pub run_leaving : (low a m h l : List Bool) → length a ≡ length h + length l → length m ≡ length h
-    → run binary_field low (xor_bits (h ++ l) a) (xor_bits h m)
-    ≡ xor_bits (l ++ replicate (length h) false) (run binary_field low a m)
+    → register_after binary_field low (xor_bits (h ++ l) a) (xor_bits h m)
+    ≡ xor_bits (l ++ replicate (length h) false) (register_after binary_field low a m)
 run_leaving low a [] [] l e f = ap (λ x. xor_bits x a) (sym (append-nil l))
 run_leaving low a (m ∷ ms) [] l e f = absurd (omega arith)
 run_leaving low a [] (h ∷ hs) l e f = absurd (omega arith)
@@ -64,9 +64,9 @@ run_leaving low (a ∷ rest) (m ∷ ms) (h ∷ hs) l e f =
     ∙ add_behind (scale binary_field (xor a m) low) (hs ++ (l ++ false ∷ [])) (rest ++ false ∷ []) in
     let long : length (shift_in binary_field low (a ∷ rest) m) ≡ length hs + length (l ++ false ∷ []) =
     length-shift_in binary_field low (a ∷ rest) m ∙ (let o = length-append l (false ∷ []) in omega arith) in
-    ap (λ r. run binary_field low r (xor_bits hs ms)) step
+    ap (λ r. register_after binary_field low r (xor_bits hs ms)) step
     ∙ run_leaving low (shift_in binary_field low (a ∷ rest) m) ms hs (l ++ false ∷ []) long (omega arith)
-    ∙ ap (λ x. xor_bits x (run binary_field low (shift_in binary_field low (a ∷ rest) m) ms))
+    ∙ ap (λ x. xor_bits x (register_after binary_field low (shift_in binary_field low (a ∷ rest) m) ms))
     (append_assoc l (false ∷ []) (replicate (length hs) false))
 
 xor_zeros : (x : List Bool) → xor_bits x (replicate (length x) false) ≡ x
@@ -78,11 +78,12 @@ one_more zero = refl
 one_more (suc n) = ap (λ x. false ∷ x) (one_more n)
 
 -- zeros leave an empty register empty
-run_zeros : (low : List Bool) (n k : ℕ) → run binary_field low (replicate n false) (replicate k false) ≡ replicate n false
+run_zeros : (low : List Bool) (n k : ℕ)
+    → register_after binary_field low (replicate n false) (replicate k false) ≡ replicate n false
 run_zeros low n zero = refl
 run_zeros low zero (suc k) = run_zeros low zero k
 run_zeros low (suc n) (suc k) =
-    ap (λ r. run binary_field low r (replicate k false)) (scale_false low (replicate n false ++ false ∷ []) ∙ one_more n)
+    ap (λ r. register_after binary_field low r (replicate k false)) (scale_false low (replicate n false ++ false ∷ []) ∙ one_more n)
     ∙ run_zeros low (suc n) k
 
 -- ---- the remainders of a table
@@ -98,7 +99,7 @@ all_below p n i e h =
     (λ f. both_ways (list_all p (range_with_len 0 n)) (list_all_at p (range_with_len 0 n) i 0 long (ap p at ∙ f)) e)
 
 remainder : ℕ → ℕ → ℕ → List Bool
-remainder d low octet = run binary_field (bits_of d low) (bits_of d 0) (bits_of 8 octet)
+remainder d low octet = register_after binary_field (bits_of d low) (bits_of d 0) (bits_of 8 octet)
 
 length-remainder : (d low octet : ℕ) → length (remainder d low octet) ≡ d
 unfolding remainder
@@ -110,7 +111,7 @@ unfolding remainder
 remainder_is d low table i e h =
     eqb-true _ _
     (all_below (λ octet. get_or table octet 0
-    == number_of (run binary_field (bits_of d low) (bits_of d 0) (bits_of 8 octet))) 256 i e h)
+    == number_of (register_after binary_field (bits_of d low) (bits_of d 0) (bits_of 8 octet))) 256 i e h)
 
 pub remainder_fits : (d low : ℕ) (table : List ℕ) (i : ℕ) → are_remainders d low table ≡ true → i < 256 → get_or table i 0 < 2 ^ d
 remainder_fits d low table i e h =
@@ -136,7 +137,8 @@ leaving_octet d w register number wide narrow small h =
     omega arith
 
 -- fewer than eight bits leave what the octet that ends in them leaves
-few : (d w low n : ℕ) → w ≤ 8 → n < 2 ^ w → run binary_field (bits_of d low) (bits_of d 0) (bits_of w n) ≡ remainder d low n
+few : (d w low n : ℕ) → w ≤ 8 → n < 2 ^ w
+    → register_after binary_field (bits_of d low) (bits_of d 0) (bits_of w n) ≡ remainder d low n
 unfolding remainder
 few d w low n narrow h =
     let L : List Bool = bits_of d low in
@@ -145,13 +147,14 @@ few d w low n narrow h =
     let same : 0 * 2 ^ w + n ≡ n = omega arith in
     let octet : bits_of (8 - w) 0 ++ bits_of w n ≡ bits_of 8 n =
     bits_of_append (8 - w) w 8 0 n whole h ∙ ap (bits_of 8) same in
-    let none : run binary_field L Z (bits_of (8 - w) 0) ≡ Z =
-    ap (run binary_field L Z) (zeros_of (8 - w)) ∙ ap (λ z. run binary_field L z (replicate (8 - w) false)) (zeros_of d)
+    let none : register_after binary_field L Z (bits_of (8 - w) 0) ≡ Z =
+    ap (register_after binary_field L Z) (zeros_of (8 - w))
+        ∙ ap (λ z. register_after binary_field L z (replicate (8 - w) false)) (zeros_of d)
     ∙ run_zeros L d (8 - w)
     ∙ sym (zeros_of d) in
-    ap (λ z. run binary_field L z (bits_of w n)) (sym none)
+    ap (λ z. register_after binary_field L z (bits_of w n)) (sym none)
     ∙ sym (run_append binary_field L Z (bits_of (8 - w) 0) (bits_of w n))
-    ∙ ap (run binary_field L Z) octet
+    ∙ ap (register_after binary_field L Z) octet
 
 -- a number's bits by their front and their rest
 pub front_and_rest : (d w register : ℕ) → w ≤ d
@@ -173,7 +176,7 @@ rest_moved d w register wide =
 pub shifted_in : (d w low register number rest : ℕ) (table : List ℕ) → w ≤ d → w ≤ 8 → register < 2 ^ d → number < 2 ^ w
     → are_remainders d low table ≡ true → bits_of d rest ≡ bits_of d (register * 2 ^ w)
     → bits_of d (bit_xor rest (get_or table (bit_xor (register / 2 ^ (d - w)) number) 0))
-    ≡ run binary_field (bits_of d low) (bits_of d register) (bits_of w number)
+    ≡ register_after binary_field (bits_of d low) (bits_of d register) (bits_of w number)
 shifted_in d w low register number rest table wide narrow small h are is =
     let L : List Bool = bits_of d low in
     let Z : List Bool = bits_of d 0 in
@@ -193,39 +196,41 @@ shifted_in d w low register number rest table wide narrow small h are is =
     ap (xor_bits front) (bits_of_xor w (register / 2 ^ (d - w)) number) ∙ xor_bits_twice front (bits_of w number) level in
     let moved : back ++ replicate (length front) false ≡ bits_of d rest =
     ap (λ n. back ++ replicate n false) long ∙ rest_moved d w register wide ∙ sym is in
-    let added : run binary_field L Z (bits_of w leaving) ≡ bits_of d (get_or table leaving 0) =
+    let added : register_after binary_field L Z (bits_of w leaving) ≡ bits_of d (get_or table leaving 0) =
     few d w low leaving narrow fits ∙ sym (remainder_bits d low table leaving are octet) in
     bits_of_xor d rest (get_or table leaving 0)
     ∙ ap (λ x. xor_bits x (bits_of d (get_or table leaving 0))) (sym moved)
     ∙ ap (xor_bits (back ++ replicate (length front) false)) (sym added)
     ∙ sym (run_leaving L Z (bits_of w leaving) front back (length-bits_of d 0 ∙ sums) (length-bits_of w leaving ∙ sym long))
-    ∙ ap (λ r. run binary_field L r (xor_bits front (bits_of w leaving))) state
-    ∙ ap (run binary_field L (bits_of d register)) message
+    ∙ ap (λ r. register_after binary_field L r (xor_bits front (bits_of w leaving))) state
+    ∙ ap (register_after binary_field L (bits_of d register)) message
   where
     sums : d ≡ length (bits_of w (register / 2 ^ (d - w))) + length (bits_of (d - w) register)
     sums = omega (arith, length-bits_of w (register / 2 ^ (d - w)), length-bits_of (d - w) register)
 
 -- ---- a message of 28 bits, seven at a time
 pub next_bits : (low : List Bool) (part number : ℕ) (state next : List Bool) → part < 4
-    → next ≡ run binary_field low state (bits_of 7 (number / 2 ^ (21 - 7 * part) % 128))
-    → run binary_field low next (bits_of (28 - 7 * (part + 1)) number) ≡ run binary_field low state (bits_of (28 - 7 * part) number)
+    → next ≡ register_after binary_field low state (bits_of 7 (number / 2 ^ (21 - 7 * part) % 128))
+    → register_after binary_field low next (bits_of (28 - 7 * (part + 1)) number)
+        ≡ register_after binary_field low state (bits_of (28 - 7 * part) number)
 next_bits low part number state next h e =
     let left : 28 - 7 * part - 7 ≡ 21 - 7 * part = omega arith in
     let more : 28 - 7 * (part + 1) ≡ 21 - 7 * part = omega arith in
     let split : bits_of (28 - 7 * part) number ≡ bits_of 7 (number / 2 ^ (21 - 7 * part)) ++ bits_of (21 - 7 * part) number =
     front_and_rest (28 - 7 * part) 7 number (omega arith)
     ∙ ap (λ k. bits_of 7 (number / 2 ^ k) ++ bits_of k number) left in
-    ap (λ k. run binary_field low next (bits_of k number)) more
-    ∙ ap (λ r. run binary_field low r (bits_of (21 - 7 * part) number))
-    (e ∙ ap (run binary_field low state) (bits_of-mod 7 (number / 2 ^ (21 - 7 * part))))
+    ap (λ k. register_after binary_field low next (bits_of k number)) more
+    ∙ ap (λ r. register_after binary_field low r (bits_of (21 - 7 * part) number))
+    (e ∙ ap (register_after binary_field low state) (bits_of-mod 7 (number / 2 ^ (21 - 7 * part))))
     ∙ sym (run_append binary_field low state (bits_of 7 (number / 2 ^ (21 - 7 * part))) (bits_of (21 - 7 * part) number))
-    ∙ ap (run binary_field low state) (sym split)
+    ∙ ap (register_after binary_field low state) (sym split)
 
 pub whole_message : (low empty state bits : List Bool) (number part : ℕ) → length bits ≡ 28
     → number ≡ number_of (take 28 (drop 0 bits)) → 4 ≤ part
-    → run binary_field low state (bits_of (28 - 7 * part) number) ≡ run binary_field low empty (bits_of 28 number)
-    → state ≡ run binary_field low empty bits
+    → register_after binary_field low state (bits_of (28 - 7 * part) number)
+        ≡ register_after binary_field low empty (bits_of 28 number)
+    → state ≡ register_after binary_field low empty bits
 whole_message low empty state bits number part long is done rest =
-    ap (run binary_field low state) (sym (bits_of_none (28 - 7 * part) number (omega arith)))
+    ap (register_after binary_field low state) (sym (bits_of_none (28 - 7 * part) number (omega arith)))
     ∙ rest
-    ∙ ap (run binary_field low empty) (bits_of_field 28 bits number long is)
+    ∙ ap (register_after binary_field low empty) (bits_of_field 28 bits number long is)

@@ -6,7 +6,7 @@ use Rattle.clap.specs.declared.parser.matches.Found.{Found}
 use Rattle.dmr_files.specs.Place.{IsNamed}
 use Rattle.dmr_files.specs.declared.place.Place.{Place}
 use Rattle.dmr_files.specs.declared.place.Places.{Places}
-use Rattle.dmr_gateway.specs.Config.{fault_of}
+use Rattle.dmr_gateway.specs.Config.{setting_fault}
 use Rattle.dmr_gateway.specs.declared.config.Config.{Config}
 use Rattle.dmr_gateway.specs.declared.config.ConfigFault.{ConfigFault}
 use Rattle.dmr_command.specs.declared.request.Request.{Request}
@@ -53,8 +53,8 @@ pub record AreSettingsOf (found : Found) (config : Result Config ConfigFault) : 
   pub set_call_hang : IfOk config (λ c. c.call_hang ≡ call_hang)
   pub set_channel_hang : IfOk config (λ c. c.channel_hang ≡ channel_hang)
   pub set_queue : IfOk config (λ c. c.queue ≡ queue)
-  pub valid : OnOk config (fault_of colour llid call_hang channel_hang queue ≡ None)
-  pub fault : IfErr config (λ e. fault_of colour llid call_hang channel_hang queue ≡ Some e)
+  pub valid : OnOk config (setting_fault colour llid call_hang channel_hang queue ≡ None)
+  pub fault : IfErr config (λ e. setting_fault colour llid call_hang channel_hang queue ≡ Some e)
 
 -- the number of so many bits that the text of an option spells, where the option is given
 pub record IsGivenBy (width : ℕ) (found : Found) (option : Text) (number : Option ℕ) : Type 0 where

@@ -11,10 +11,10 @@ use Rattle.dmr_checks.specs.Sealed.{IsSealed}
 use Rattle.dmr_checks.proofs.Blocks.{sealed_alike}
 use Rattle.dmr_checks.specs.declared.sealing.Mask.TheVariants as mask
 use Rattle.dmr_csbk.specs.declared.block.Csbk.{Csbk}
-use Rattle.dmr_csbk.specs.Block.{field_bits, IsFit, IsBlock}
+use Rattle.dmr_csbk.specs.Block.{csbk_bits, FitsCsbk, IsCsbk}
 
 -- the fields are decided by their bits
-pub same_fields : (a b : Csbk) → IsFit a → IsFit b → field_bits a ≡ field_bits b → a ≡ b
+pub same_fields : (a b : Csbk) → FitsCsbk a → FitsCsbk b → csbk_bits a ≡ csbk_bits b → a ≡ b
 same_fields a b p q e =
     let tail : bits_of 6 a.code ++ (bits_of 8 a.fid ++ bits_of_octets a.body) ≡ bits_of 6 b.code ++ (bits_of 8 b.fid ++
     bits_of_octets b.body) = cc in
@@ -44,7 +44,7 @@ front_of message long =
     sym (bits_of_octets-take 10 (octets_of 12 message) twelve) ∙ ap (take 80) (bits_of_octets-octets_of 12 message long)
 
 -- messages that are sealed and have the same fields are equal
-pub same_message : (c : Csbk) (a b : List Bool) → IsBlock c a → IsBlock c b → a ≡ b
+pub same_message : (c : Csbk) (a b : List Bool) → IsCsbk c a → IsCsbk c b → a ≡ b
 same_message c a b p q =
     let xs : List ℕ = octets_of 12 a in
     let ys : List ℕ = octets_of 12 b in
@@ -59,7 +59,7 @@ same_message c a b p q =
     sym (bits_of_octets-octets_of 12 a p.long) ∙ ap bits_of_octets same ∙ bits_of_octets-octets_of 12 b q.long
 
 -- a message is of one block
-pub same_block : (a b : Csbk) (message : List Bool) → IsBlock a message → IsBlock b message → a ≡ b
+pub same_block : (a b : Csbk) (message : List Bool) → IsCsbk a message → IsCsbk b message → a ≡ b
 same_block a b message p q = same_fields a b p.fit q.fit (sym p.fields ∙ q.fields)
 
 -- ---- reading
@@ -75,10 +75,10 @@ fields_first last protect code fid body rest six eight many =
 
 -- ---- writing
 -- the sealed octets of the fields are a block
-pub sealed_block : (c : Csbk) (message : List Bool) (fields block : List ℕ) (list : List Bool) → IsFit c → list ≡ field_bits c →
+pub sealed_block : (c : Csbk) (message : List Bool) (fields block : List ℕ) (list : List Bool) → FitsCsbk c → list ≡ csbk_bits c →
     bits_of_octets fields ≡ list
     → take 10 block ≡ fields → IsSealed mask.Csbk block → message ≡ bits_of_octets block → length block ≡ 12 → All (λ octet. octet
-    < 256) block → IsBlock c message
+    < 256) block → IsCsbk c message
 sealed_block c message fields block list fit is spelled front sealed written long small = record {
   fit = fit;
   long = ap length written ∙ length-bits_of_octets block ∙ omega arith;

@@ -9,28 +9,28 @@ use Rattle.dmr_csbk.specs.declared.fault.CsbkFault.{CsbkFault}
 use Rattle.dmr_csbk.specs.declared.fault.CsbkFault.TheVariants.{Bptc, Crc}
 
 -- LB, PF, CSBKO in six bits, FID in eight, and the body
-abbrev pub field_bits : Csbk → List Bool
-field_bits c = c.last ∷ c.protect ∷ (bits_of 6 c.code ++ (bits_of 8 c.fid ++ bits_of_octets c.body))
+abbrev pub csbk_bits : Csbk → List Bool
+csbk_bits c = c.last ∷ c.protect ∷ (bits_of 6 c.code ++ (bits_of 8 c.fid ++ bits_of_octets c.body))
 
 -- each field fits its bits
-pub record IsFit (c : Csbk) : Type 0 where
+pub record FitsCsbk (c : Csbk) : Type 0 where
   pub code : c.code < 64
   pub fid : c.fid < 256
   pub octets : All (λ octet. octet < 256) c.body
   pub count : length c.body ≡ 8
 
 -- the twelve octets of a message are sealed under the mask of these blocks
-abbrev pub IsSealedMessage : List Bool → Type 0
-IsSealedMessage message = IsSealed mask.Csbk (octets_of 12 message)
+abbrev pub IsSealedCsbk : List Bool → Type 0
+IsSealedCsbk message = IsSealed mask.Csbk (octets_of 12 message)
 
 -- The 96 bits of a block: its fields, and then the check that seals them.
-pub record IsBlock (c : Csbk) (message : List Bool) : Type 0 where
-  pub fit : IsFit c
+pub record IsCsbk (c : Csbk) (message : List Bool) : Type 0 where
+  pub fit : FitsCsbk c
   pub long : length message ≡ 96
-  pub fields : take 80 message ≡ field_bits c
-  pub sealed : IsSealedMessage message
+  pub fields : take 80 message ≡ csbk_bits c
+  pub sealed : IsSealedCsbk message
 
 -- what the bits show where no block is read: no product word, or a message that isn't sealed
-abbrev pub ShowsFault : CsbkFault → List Bool → Type 0
-ShowsFault Bptc bits = IsDecoded bits None
-ShowsFault Crc bits = (message : List Bool) × IsDecoded bits (Some message) × (IsSealedMessage message → ⊥)
+abbrev pub ShowsCsbkFault : CsbkFault → List Bool → Type 0
+ShowsCsbkFault Bptc bits = IsDecoded bits None
+ShowsCsbkFault Crc bits = (message : List Bool) × IsDecoded bits (Some message) × (IsSealedCsbk message → ⊥)

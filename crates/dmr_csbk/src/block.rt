@@ -2,7 +2,7 @@
 ghost use Rattle.std.specs.Prelude.{◌≡◌, ◌<◌, List, Bool, IfOk, IfErr, IsOkAnd, take};
 ghost use Rattle.dmr_bptc.specs.Decoding.{IsDecoded, IsDamaged};
 ghost use Rattle.dmr_bptc.specs.ProductWord.{IsProductWord, information};
-ghost use Rattle.dmr_csbk.specs.Block.{field_bits, IsFit, IsSealedMessage, IsBlock, ShowsFault};
+ghost use Rattle.dmr_csbk.specs.Block.{csbk_bits, FitsCsbk, IsSealedCsbk, IsCsbk, ShowsCsbkFault};
 
 use crate::fault::CsbkFault;
 use dmr_bits::{Bits, Reader, Writer, read_fields, write_fields};
@@ -34,8 +34,8 @@ macro_rules! csbk_fields {
 /// The eighty bits of the fields.
 fn field_list(csbk: &Csbk) -> Bits<80>
     requires fits { csbk.now.code < 64 }
-    ensures value { result ≡ field_bits csbk.now }
-    ensures fit { IsFit csbk.now }
+    ensures value { result ≡ csbk_bits csbk.now }
+    ensures fit { FitsCsbk csbk.now }
 {
     let mut writer = Writer::<80>::new();
     csbk_fields!(write_fields, writer, csbk);
@@ -46,7 +46,7 @@ fn field_list(csbk: &Csbk) -> Bits<80>
 /// ETSI TS 102 361-1, clause 7.2.
 pub fn csbk_info(csbk: &Csbk) -> Bits<96>
     requires fits { csbk.now.code < 64 }
-    ensures block { IsBlock csbk.now result }
+    ensures block { IsCsbk csbk.now result }
 {
     let fields: [u8; 10] = field_list(csbk).octets();
     let mut writer = Writer::<96>::new();
@@ -56,8 +56,8 @@ pub fn csbk_info(csbk: &Csbk) -> Bits<96>
 
 /// The fields at the front of 96 bits.
 fn fields_of(message: &Bits<96>) -> Csbk
-    ensures fields { take 80 message.now ≡ field_bits result }
-    ensures fits { IsFit result }
+    ensures fields { take 80 message.now ≡ csbk_bits result }
+    ensures fits { FitsCsbk result }
 {
     let mut reader = Reader::<96>::new(message);
     csbk_fields!(read_fields, reader, Csbk)
@@ -66,11 +66,11 @@ fn fields_of(message: &Bits<96>) -> Csbk
 /// The block that the information of a data burst of type 3 holds. ETSI TS 102 361-1, clause 7.2.
 pub fn csbk_read(bits: &Bits<196>) -> Result<Csbk, CsbkFault>
     // A block is what the product code's bits say, and they are sealed.
-    ensures block { IfOk result (λ csbk. (message : List Bool) × IsDecoded bits.now (Some message) × IsBlock csbk message) }
-    ensures fault { IfErr result (λ e. ShowsFault e bits.now) }
+    ensures block { IfOk result (λ csbk. (message : List Bool) × IsDecoded bits.now (Some message) × IsCsbk csbk message) }
+    ensures fault { IfErr result (λ e. ShowsCsbkFault e bits.now) }
     // Damage within the product code's reach is undone.
-    ensures undone { (word : List Bool) → IsProductWord word → IsDamaged word bits.now → IsSealedMessage (information word)
-        → IsOkAnd result (λ csbk. IsBlock csbk (information word)) }
+    ensures undone { (word : List Bool) → IsProductWord word → IsDamaged word bits.now → IsSealedCsbk (information word)
+        → IsOkAnd result (λ csbk. IsCsbk csbk (information word)) }
 {
     let Some(message) = bptc_decode(bits) else {
         return Err(CsbkFault::Bptc);

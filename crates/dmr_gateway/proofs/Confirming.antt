@@ -6,7 +6,7 @@ use Rattle.std.proofs.lemmas.List.{append_assoc, append-nil, length-drop}
 use Rattle.dmr_bits.specs.Bits.{bits_of, bits_of_octets}
 use Rattle.dmr_bptc.proofs.Decoded.{one_decoded}
 use Rattle.dmr_checks.specs.Generators.{crc9_generator, Completes}
-use Rattle.dmr_data.specs.Block.{burst_octets, mask_of, payload, Holds, IsConfirmedContent, IsBlock, IsCounted, IsReadBlock}
+use Rattle.dmr_data.specs.Block.{burst_octets, block_mask, payload, Holds, IsConfirmedContent, IsBlock, IsCounted, IsReadBlock}
 use Rattle.dmr_data.specs.Block.{ShowsBlockFault}
 use Rattle.dmr_data.specs.declared.block.Block.{Block}
 use Rattle.dmr_data.specs.declared.fault.BlockFault.{BlockFault}
@@ -16,7 +16,7 @@ use Rattle.dmr_data.specs.declared.rate.Rate.TheVariants.{Half, Full}
 use Rattle.dmr_data.proofs.Contents.{sealed_content, unsealed_content, same_block}
 use Rattle.dmr_data.proofs.HeaderForms.{same_some}
 use Rattle.dmr_gateway.specs.declared.heard.Heard.{Heard}
-use Rattle.dmr_gateway.specs.Heard.{Tells, IsConfirmedOf, ConfirmedByOctets, IsReadAt, IsReading, kind_of_rate, nothing}
+use Rattle.dmr_gateway.specs.Heard.{Tells, IsConfirmedOf, ConfirmedByOctets, IsReadAt, IsReadByGateway, kind_of_rate, nothing_said}
 use Rattle.dmr_gateway.proofs.Telling.{told, untrue, block_reading}
 
 -- 1. The start of a confirmed block.
@@ -65,7 +65,7 @@ block_fits : (rate : Rate) (octets : List ℕ) → length octets ≡ burst_octet
 block_fits rate octets whole = length-drop 2 octets ∙ ap (λ n. n - 2) whole
 
 pub confirmed_told : (rate : Rate) (octets : List ℕ) (serial check crc : ℕ) → Start rate octets serial check crc →
-    bit_xor (mask_of rate) check ≡ crc →
+    bit_xor (block_mask rate) check ≡ crc →
     Tells (Some (record { serial = Some serial; octets = drop 2 octets })) (IsConfirmedOf rate octets)
 confirmed_told rate octets serial check crc s is =
     let block : Block = record { serial = Some serial; octets = drop 2 octets } in
@@ -88,7 +88,7 @@ not_confirmed rate None octets content none is counted = counted
 not_confirmed rate (Some serial) octets content none is counted = none serial octets is.content_is
 
 pub unconfirmed_told : (rate : Rate) (octets : List ℕ) (serial check crc : ℕ) → Start rate octets serial check crc →
-    (bit_xor (mask_of rate) check ≡ crc → ⊥) → Tells None (IsConfirmedOf rate octets)
+    (bit_xor (block_mask rate) check ≡ crc → ⊥) → Tells None (IsConfirmedOf rate octets)
 unconfirmed_told rate octets serial check crc s wrong =
     untrue (IsConfirmedOf rate octets)
     (λ block p. not_confirmed rate block.serial block.octets (bits_of_octets octets)
@@ -148,17 +148,17 @@ pub block_heard : (rate : Rate) (information : List Bool) (h : Heard) (block : B
     ≡ Some block →
     IsReadBlock rate None information block →
     ((y : Block) → IsReadBlock rate None information y → ◌≡◌ {A = Result Block BlockFault} (Ok block) (Ok y)) →
-    Tells h.confirmed (IsConfirmedOf rate block.octets) → IsReading (kind_of_rate rate) information h
+    Tells h.confirmed (IsConfirmedOf rate block.octets) → IsReadByGateway (kind_of_rate rate) information h
 block_heard rate information h block head unconfirmed is only tells =
     let same : ◌≡◌ {A = Heard} (record { header = None; unconfirmed = Some block; confirmed = h.confirmed }) h =
     ap (λ x. record { header = x; unconfirmed = Some block; confirmed = h.confirmed }) (sym head)
     ∙ ap (λ x. record { header = h.header; unconfirmed = x; confirmed = h.confirmed }) (sym unconfirmed) in
-    subst (IsReading (kind_of_rate rate) information) same
+    subst (IsReadByGateway (kind_of_rate rate) information) same
     (block_reading rate information (Some block) h.confirmed (told (IsReadAt rate None information) block is only)
     (confirmed_reading rate information block h.confirmed is tells))
 
 pub nothing_heard : (rate : Rate) (information : List Bool) (e : BlockFault) → ShowsBlockFault rate None e information →
-    IsReading (kind_of_rate rate) information nothing
+    IsReadByGateway (kind_of_rate rate) information nothing_said
 nothing_heard rate information e shows =
     block_reading rate information None None (nothing_read rate None information e shows)
     (nothing_read rate (Some 128) information e shows)

@@ -7,10 +7,10 @@ use Rattle.std.specs.List.{AllByRecursion}
 use Rattle.std.specs.Prelude.{is_some}
 use Rattle.dmr_gateway.specs.declared.answers.Due.{Due}
 use Rattle.dmr_gateway.specs.Answers.{flag_count}
-use Rattle.dmr_gateway.specs.Attempts.{Sends, Answers, Tries, Attempt, Ledger, Brings, at_place, bursts_of, attempts}
-use Rattle.dmr_gateway.specs.Attempts.{owes}
+use Rattle.dmr_gateway.specs.Attempts.{AnswerOrTry, Answers, Tries, Attempt, Ledger, Brings, burst_at_place, bursts_of, attempts}
+use Rattle.dmr_gateway.specs.Attempts.{ledger_owes}
 use Rattle.dmr_gateway.specs.Attempts.{told}
-use Rattle.dmr_gateway.specs.Courses.{up_to, StandsIn, is_answer, IsBrokenOff, HasEnded, HasCourse, joined_by}
+use Rattle.dmr_gateway.specs.Courses.{up_to, StandsInFrame, is_answer, IsBrokenOff, HasEnded, HasCourse, joined_by}
 use Rattle.dmr_gateway.specs.Courses.{all_attempts, AttemptsStand}
 use Rattle.dmr_gateway.proofs.Standing.{length_bursts, length_answers}
 use Rattle.dmr_gateway.proofs.Going.{Leaves, hears_leaves}
@@ -21,7 +21,7 @@ use Rattle.dmr_gateway.proofs.Moving.{owes_begun, taken_begun}
 
 -- 1. What was begun, and what is.
 
-some_bursts : (llid : ℕ) (what : Sends) → 0 < length (bursts_of llid what)
+some_bursts : (llid : ℕ) (what : AnswerOrTry) → 0 < length (bursts_of llid what)
 some_bursts llid (Answers due) = let l = length_answers due 0 (suc (flag_count due)) in omega (arith, l)
 some_bursts llid (Tries packet route number selection) = let l = length_bursts llid packet route number selection in
     omega (arith, l)
@@ -61,7 +61,7 @@ readied_begun : (limit llid f : ℕ) (b : Brings) (l : Ledger) → FitsLedger f 
     begun_by (readied limit llid f b l).hand (readied limit llid f b l).owing ≡ replaced_by b.due (begun_by l.hand l.owing)
 readied_begun limit llid f b l fits =
     let x : Ledger = heard limit llid f b l in
-    let y : Ledger = owes b.due x in
+    let y : Ledger = ledger_owes b.due x in
     let k : Leaves f (joined limit b l) x = hears_leaves llid f b.heard (joined limit b l) (hand_fits f l.hand l.owing fits) in
     taken_begun y.hand y
     ∙ (owes_begun b.due x
@@ -197,24 +197,24 @@ up_last (b ∷ earlier) k e = up_newest b earlier k (omega arith)
 -- the newest frame, as one in which an attempt stands
 stands_newest : (limit llid : ℕ) (b : Brings) (earlier : List Brings) (a : Attempt) (k : ℕ) → Steps limit llid b earlier →
     (attempts limit llid (b ∷ earlier)).stands ≡ Some a → a.first + k ≡ length earlier →
-    StandsIn limit llid a (at_place (bursts_of llid a.what) k) (up_to (a.first + k) (b ∷ earlier))
+    StandsInFrame limit llid a (burst_at_place (bursts_of llid a.what) k) (up_to (a.first + k) (b ∷ earlier))
 stands_newest limit llid b earlier a k s e here =
     let place : length earlier - a.first ≡ k = omega (arith, here) in
-    let in_newest : StandsIn limit llid a (at_place (bursts_of llid a.what) k) (b ∷ earlier) =
+    let in_newest : StandsInFrame limit llid a (burst_at_place (bursts_of llid a.what) k) (b ∷ earlier) =
     record {
       free = (s.moves.from a e).0;
       stands = e;
-      sends = s.moves.sends ∙ (ap (burst_in llid (length earlier)) e ∙ ap (at_place (bursts_of llid a.what)) place);
+      sends = s.moves.sends ∙ (ap (burst_in llid (length earlier)) e ∙ ap (burst_at_place (bursts_of llid a.what)) place);
     } in
-    subst (StandsIn limit llid a (at_place (bursts_of llid a.what) k))
+    subst (StandsInFrame limit llid a (burst_at_place (bursts_of llid a.what) k))
     (sym (up_newest b earlier (a.first + k) (sym here))) in_newest
 
 -- and an earlier one
 stands_earlier : (limit llid : ℕ) (b : Brings) (earlier : List Brings) (a : Attempt) (k : ℕ) → a.first + k < length earlier →
-    StandsIn limit llid a (at_place (bursts_of llid a.what) k) (up_to (a.first + k) earlier) →
-    StandsIn limit llid a (at_place (bursts_of llid a.what) k) (up_to (a.first + k) (b ∷ earlier))
+    StandsInFrame limit llid a (burst_at_place (bursts_of llid a.what) k) (up_to (a.first + k) earlier) →
+    StandsInFrame limit llid a (burst_at_place (bursts_of llid a.what) k) (up_to (a.first + k) (b ∷ earlier))
 stands_earlier limit llid b earlier a k lt old =
-    subst (StandsIn limit llid a (at_place (bursts_of llid a.what) k)) (sym (up_earlier b earlier (a.first + k) lt)) old
+    subst (StandsInFrame limit llid a (burst_at_place (bursts_of llid a.what) k)) (sym (up_earlier b earlier (a.first + k) lt)) old
 
 -- one that is over, or that is broken off now, has no burst more
 stays : (limit llid : ℕ) (b : Brings) (earlier : List Brings) (a : Attempt) (h : HasCourse limit llid earlier a) →

@@ -12,9 +12,10 @@ use Rattle.dmr_gateway.specs.declared.answers.HeardAnswer.{HeardAnswer}
 use Rattle.dmr_gateway.specs.declared.outbox.SlotBurst.{SlotBurst}
 use Rattle.dmr_gateway.specs.declared.queue.Queued.{Queued}
 use Rattle.dmr_gateway.specs.Attempts.{Answers, Tries, Attempt, Stage, Ready, Begun, Awaits, Hand, Owing, Ledger, Goes}
-use Rattle.dmr_gateway.specs.Attempts.{at_place, bursts_of, goes, goes_on, hand_bursts, try_stands, answer_stands}
-use Rattle.dmr_gateway.specs.Attempts.{first_frame, cut_answer, cut_in, due_try, over, rests, answer_bursts, waiting_goes}
-use Rattle.dmr_gateway.specs.Attempts.{told, answered_in, is_fitting, judged, waits, owes, takes_head, taken}
+use Rattle.dmr_gateway.specs.Attempts.{burst_at_place, bursts_of, goes, goes_on, hand_bursts, try_stands, answer_stands}
+use Rattle.dmr_gateway.specs.Attempts.{first_frame, cut_answer, cut_in_stage, due_try, over, rests, answer_bursts, waiting_goes}
+use Rattle.dmr_gateway.specs.Attempts.{told, answered_in_stage, is_fitting, judged, waits, ledger_owes, ledger_takes_head}
+use Rattle.dmr_gateway.specs.Attempts.{ledger_takes}
 use Rattle.dmr_gateway.specs.Courses.{is_answer, HasNothingDue}
 use Rattle.dmr_gateway.proofs.Attempting.{NotBegun, FitsBoth, BothHand}
 
@@ -47,7 +48,7 @@ unfinished llid n (Some a) = cond (ltb n (a.first + length (bursts_of llid a.wha
 -- the burst of frame f of what stands in it
 abbrev pub burst_in : ℕ → ℕ → Option Attempt → Option SlotBurst
 burst_in llid f None = None
-burst_in llid f (Some a) = at_place (bursts_of llid a.what) (f - a.first)
+burst_in llid f (Some a) = burst_at_place (bursts_of llid a.what) (f - a.first)
 
 none_begun : (owing : Option Owing) → NotBegun owing → begun_answer owing ≡ None
 none_begun None e = refl
@@ -175,8 +176,8 @@ due_cut selection h l e =
     by_cond (λ (x : Ledger). begun_by x.hand x.owing ≡ None) (ltb h.tries 4) _ _ (λ again. e) (λ over. e)
 
 cut_kept : (stage : Stage) (h : Hand) (l : Ledger) → begun_answer l.owing ≡ None →
-    begun_by (cut_in stage (record h { stage = stage }) (record l { hand = Some (record h { stage = stage }) })).hand
-    (cut_in stage (record h { stage = stage }) (record l { hand = Some (record h { stage = stage }) })).owing ≡ None
+    begun_by (cut_in_stage stage (record h { stage = stage }) (record l { hand = Some (record h { stage = stage }) })).hand
+    (cut_in_stage stage (record h { stage = stage }) (record l { hand = Some (record h { stage = stage }) })).owing ≡ None
 cut_kept Ready h l e = e
 cut_kept (Begun first) h l e =
     due_cut h.selection (record h { stage = Begun first }) (record l { hand = Some (record h { stage = Begun first }) }) e
@@ -194,7 +195,7 @@ goes_moves llid f true (Some h) l both = free_moves llid f h.stage h l both
 goes_moves llid f false None l both =
     cut_moves llid f (begun_answer l.owing) (record l { hand = None; owing = cut_answer l.owing }) (cut_none l.owing)
 goes_moves llid f false (Some h) l both =
-    cut_moves llid f (begun_at h.stage h l.owing) (cut_in h.stage h (record l { hand = Some h; owing = cut_answer l.owing }))
+    cut_moves llid f (begun_at h.stage h l.owing) (cut_in_stage h.stage h (record l { hand = Some h; owing = cut_answer l.owing }))
     (cut_kept h.stage h (record l { owing = cut_answer l.owing }) (cut_none l.owing))
 
 -- 3. What happens before.
@@ -219,7 +220,8 @@ judged_begun Selective flags h l owing =
     due_begun (sender.selection_of h.packet (sender.unset 0 (length h.packet.blocks) flags)) h l owing
 
 told_stage : (llid : ℕ) (a : HeardAnswer) (stage : Stage) (h : Hand) (l : Ledger) (owing : Option Owing) →
-    begun_by (answered_in stage llid a (record h { stage = stage }) (record l { hand = Some (record h { stage = stage }) })).hand
+    begun_by (answered_in_stage stage llid a (record h { stage = stage }) (record l { hand = Some (record h { stage = stage })
+        })).hand
     owing
     ≡ begun_at stage h owing
 told_stage llid a Ready h l owing = refl
@@ -273,17 +275,17 @@ owes_hand due None owing = rests_owed due None owing tt
 owes_hand due (Some h) owing = owes_stage due h.stage h owing
 
 pub owes_begun : (due : Option Due) (l : Ledger) →
-    begun_by (owes due l).hand (owes due l).owing ≡ replaced_by due (begun_by l.hand l.owing)
+    begun_by (ledger_owes due l).hand (ledger_owes due l).owing ≡ replaced_by due (begun_by l.hand l.owing)
 owes_begun None l = refl
 owes_begun (Some due) l = owes_hand due l.hand l.owing
 
 -- a packet that is taken in hand
 head_begun : (queue : List Queued) (l : Ledger) → l.hand ≡ None →
-    begun_by (takes_head queue l).hand (takes_head queue l).owing ≡ begun_by l.hand l.owing
+    begun_by (ledger_takes_head queue l).hand (ledger_takes_head queue l).owing ≡ begun_by l.hand l.owing
 head_begun [] l none = refl
 head_begun (q ∷ later) l none = sym (ap (λ hand. begun_by hand l.owing) none)
 
 pub taken_begun : (hand : Option Hand) (l : Ledger) →
-    begun_by (taken (record l { hand = hand })).hand (taken (record l { hand = hand })).owing ≡ begun_by hand l.owing
+    begun_by (ledger_takes (record l { hand = hand })).hand (ledger_takes (record l { hand = hand })).owing ≡ begun_by hand l.owing
 taken_begun None l = head_begun l.queue (record l { hand = None }) refl
 taken_begun (Some h) l = refl

@@ -2,7 +2,7 @@
 use Rattle.std.proofs.Common.{◌≡◌, Bool, Option, refl, ◌∙◌, ap, subst}
 use Rattle.dmr_burst.specs.declared.burst.Burst.{Burst}
 use Rattle.dmr_gateway.specs.declared.heard.Heard.{Heard}
-use Rattle.dmr_gateway.specs.BothSlots.{Turn, AreAskedInTurn, InEitherOrder}
+use Rattle.dmr_gateway.specs.BothSlots.{SlotTurn, AreAskedInTurn, InEitherOrder}
 use Rattle.dmr_gateway.specs.Gateway.{Gate, IsAskedFor, IsNext, after_next}
 use Rattle.dmr_gateway.specs.Side.{side_hears}
 
@@ -22,7 +22,7 @@ asked_2 : (repeated : Option Burst) (free : Bool) (before : Gate) (burst : Optio
     (a : IsAskedFor 2 repeated free before burst after) → after ≡ after_next 2 free (hearing_2 a.hears.heard before)
 asked_2 repeated free before burst after a = a.state ∙ ap (after_next 2 free) a.hears.state
 
-second_first : (first second : Turn) (before after : Gate) →
+second_first : (first second : SlotTurn) (before after : Gate) →
     AreAskedInTurn 1 2 first second before after → AreAskedInTurn 2 1 second first before after
 second_first first second before after t =
     let a : IsAskedFor 1 first.repeated first.free before first.burst t.between = t.asked in
@@ -49,7 +49,7 @@ second_first first second before after t =
       };
     }
 
-first_first : (first second : Turn) (before after : Gate) →
+first_first : (first second : SlotTurn) (before after : Gate) →
     AreAskedInTurn 2 1 second first before after → AreAskedInTurn 1 2 first second before after
 first_first first second before after t =
     let b : IsAskedFor 2 second.repeated second.free before second.burst t.between = t.asked in

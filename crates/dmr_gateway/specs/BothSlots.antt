@@ -6,9 +6,9 @@ use Rattle.dmr_arq.specs.declared.sender.Outcome.{Outcome}
 use Rattle.dmr_record.specs.declared.outgoing.Outgoing.{Outgoing}
 use Rattle.dmr_gateway.specs.declared.received.Received.{Received}
 use Rattle.dmr_gateway.specs.Attempts.{attempts, refused_now}
-use Rattle.dmr_gateway.specs.Bursts.{IsEncodedAs}
-use Rattle.dmr_gateway.specs.Gateway.{Gate, start, IsSlot, AreOffered, IsAskedFor, Offers, faults_in}
-use Rattle.dmr_gateway.specs.Heard.{IsHeardAs}
+use Rattle.dmr_gateway.specs.Bursts.{IsGatewayOut}
+use Rattle.dmr_gateway.specs.Gateway.{Gate, new_gate, IsSlot, AreOffered, IsAskedFor, Offers, faults_in}
+use Rattle.dmr_gateway.specs.Heard.{IsHeardByGateway}
 use Rattle.dmr_gateway.specs.Records.{received_now}
 use Rattle.dmr_gateway.specs.Runs.{Happening, all_heard, brings, side_after}
 use Rattle.dmr_gateway.specs.Side.{all_taken, all_received, side_outcome}
@@ -16,13 +16,13 @@ use Rattle.dmr_gateway.specs.Side.{all_taken, all_received, side_outcome}
 -- 1. By the calls.
 
 -- A slot in a frame: what the line repeats, whether the slot is free, and the burst that it is given.
-pub record Turn : Type 0 where
+pub record SlotTurn : Type 0 where
   pub repeated : Option Burst
   pub free : Bool
   pub burst : Option Burst
 
 -- A frame: datagrams are offered, and then slot 1 and slot 2 hear and are asked for a burst. So many offers are refused.
-pub record IsFrame (offered : List Outgoing) (first second : Turn) (refused : ℕ) (before after : Gate) : Type 0 where
+pub record IsFrameOfBothSlots (offered : List Outgoing) (first second : SlotTurn) (refused : ℕ) (before after : Gate) : Type 0 where
   pub slots : AllByRecursion (λ o. IsSlot o.slot) offered
   pub offers : Gate
   pub are_offered : AreOffered offered before refused offers
@@ -45,21 +45,21 @@ pub record Stands (colour llid limit : ℕ) (first second : List Happening) (g :
 
 -- What happened in a slot: packets of its datagrams that have no fault of their own were offered, what the line repeats was
 -- heard, and the slot was free or not.
-pub record Happened (llid slot : ℕ) (offered : List Outgoing) (turn : Turn) (h : Happening) : Type 0 where
+pub record Happened (llid slot : ℕ) (offered : List Outgoing) (turn : SlotTurn) (h : Happening) : Type 0 where
   pub offers : Offers llid slot offered h.offers
-  pub heard : IsHeardAs turn.repeated h.heard
+  pub heard : IsHeardByGateway turn.repeated h.heard
   pub free : h.free ≡ turn.free
 
 -- What a slot gives in the newest of its frames is what is meant: the burst of the attempt that stands there, what is received
 -- there, and what became of a packet.
 pub record GivesAsMeant (colour llid slot limit : ℕ) (frames : List Happening) (burst : Option Burst) (received : List Received)
     (outcome : Option Outcome) : Type 0 where
-  pub encoded : IsEncodedAs colour llid (attempts limit llid (brings llid frames)).burst burst
+  pub encoded : IsGatewayOut colour llid (attempts limit llid (brings llid frames)).burst burst
   pub received_is : received ≡ received_now llid slot (all_heard frames)
   pub outcome_is : outcome ≡ (attempts limit llid (brings llid frames)).ledger.outcome
 
 -- Of both slots: refused are the datagrams that have a fault of their own, and those that find their queue full.
-pub record FrameAsMeant (colour llid limit : ℕ) (first second : List Happening) (offered : List Outgoing) (one two : Turn)
+pub record FrameAsMeant (colour llid limit : ℕ) (first second : List Happening) (offered : List Outgoing) (one two : SlotTurn)
     (refused : ℕ) (after : Gate) : Type 0 where
   pub first_new : Happening
   pub second_new : Happening
@@ -77,20 +77,20 @@ pub record FrameAsMeant (colour llid limit : ℕ) (first second : List Happening
 
 -- A new gateway stands where no frame has led.
 abbrev pub StandsAtTheStart : Type 0
-StandsAtTheStart = (colour llid limit : ℕ) → Stands colour llid limit [] [] (start colour llid limit)
+StandsAtTheStart = (colour llid limit : ℕ) → Stands colour llid limit [] [] (new_gate colour llid limit)
 
 -- From where frames have led it gives in one more what is meant, and stands where that has led, once all is taken.
 abbrev pub FramesAsMeant : Type 0
 FramesAsMeant =
-    (colour llid limit : ℕ) (first second : List Happening) (offered : List Outgoing) (one two : Turn) (refused : ℕ)
+    (colour llid limit : ℕ) (first second : List Happening) (offered : List Outgoing) (one two : SlotTurn) (refused : ℕ)
     (before after : Gate) →
-    Stands colour llid limit first second before → IsFrame offered one two refused before after →
+    Stands colour llid limit first second before → IsFrameOfBothSlots offered one two refused before after →
     FrameAsMeant colour llid limit first second offered one two refused after
 
 -- 3. Which slot comes first.
 
 -- Two slots hear and are asked for a burst, one behind the other.
-pub record AreAskedInTurn (slot later : ℕ) (turn later_turn : Turn) (before after : Gate) : Type 0 where
+pub record AreAskedInTurn (slot later : ℕ) (turn later_turn : SlotTurn) (before after : Gate) : Type 0 where
   pub between : Gate
   pub asked : IsAskedFor slot turn.repeated turn.free before turn.burst between
   pub later_asked : IsAskedFor later later_turn.repeated later_turn.free between later_turn.burst after
@@ -98,5 +98,5 @@ pub record AreAskedInTurn (slot later : ℕ) (turn later_turn : Turn) (before af
 -- Whichever of both slots comes first, the bursts are the same, and so is what the gateway remembers.
 abbrev pub InEitherOrder : Type 0
 InEitherOrder =
-    (first second : Turn) (before after : Gate) →
+    (first second : SlotTurn) (before after : Gate) →
     AreAskedInTurn 1 2 first second before after ↔ AreAskedInTurn 2 1 second first before after

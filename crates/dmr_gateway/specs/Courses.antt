@@ -4,8 +4,9 @@ use Rattle.std.specs.Prelude.{is_some}
 use Rattle.std.specs.Prelude.{if◌then◌else◌}
 use Rattle.std.specs.List.{AllByRecursion}
 use Rattle.dmr_gateway.specs.declared.outbox.SlotBurst.{SlotBurst}
-use Rattle.dmr_gateway.specs.Attempts.{Sends, Answers, Tries, Attempt, Stage, Ready, Begun, Awaits, Hand, Ledger, Brings, attempts}
-use Rattle.dmr_gateway.specs.Attempts.{at_place, bursts_of}
+use Rattle.dmr_gateway.specs.Attempts.{AnswerOrTry, Answers, Tries, Attempt, Stage, Ready, Begun, Awaits, Hand, Ledger, Brings}
+use Rattle.dmr_gateway.specs.Attempts.{attempts}
+use Rattle.dmr_gateway.specs.Attempts.{burst_at_place, bursts_of}
 
 -- 1. The frames of a run, by their numbers.
 
@@ -15,9 +16,9 @@ up_to k [] = []
 up_to k (newest ∷ earlier) = if length earlier == k then newest ∷ earlier else up_to k earlier
 
 -- Whether the newest of these frames is free.
-abbrev pub is_free : List Brings → Bool
-is_free [] = false
-is_free (newest ∷ earlier) = newest.free
+abbrev pub newest_is_free : List Brings → Bool
+newest_is_free [] = false
+newest_is_free (newest ∷ earlier) = newest.free
 
 -- Whether an answer is due in the newest of these frames.
 abbrev pub has_due : List Brings → Bool
@@ -25,21 +26,21 @@ has_due [] = false
 has_due (newest ∷ earlier) = is_some newest.due
 
 -- The newest frame is free, this attempt stands in it, and this burst goes out.
-pub record StandsIn (limit llid : ℕ) (a : Attempt) (burst : Option SlotBurst) (frames : List Brings) : Type 0 where
-  pub free : is_free frames ≡ true
+pub record StandsInFrame (limit llid : ℕ) (a : Attempt) (burst : Option SlotBurst) (frames : List Brings) : Type 0 where
+  pub free : newest_is_free frames ≡ true
   pub stands : (attempts limit llid frames).stands ≡ Some a
   pub sends : (attempts limit llid frames).burst ≡ burst
 
 -- 2. An attempt, and all of them.
 
 -- Whether a slot sends an answer, and not a try of a packet.
-abbrev pub is_answer : Sends → Bool
+abbrev pub is_answer : AnswerOrTry → Bool
 is_answer (Answers due) = true
 is_answer (Tries packet route number selection) = false
 
 -- An attempt is broken off in the newest frame: it is cut, since the frame isn't free, or replaced, an answer by one that is due.
 abbrev pub IsBrokenOff : Attempt → List Brings → Type 0
-IsBrokenOff a frames = (is_free frames ≡ false) ⊎ ((is_answer a.what ≡ true) × (has_due frames ≡ true))
+IsBrokenOff a frames = (newest_is_free frames ≡ false) ⊎ ((is_answer a.what ≡ true) × (has_due frames ≡ true))
 
 -- An attempt has ended with so many bursts out: these are all; or no frame has come since; or it was broken off in the next one.
 abbrev pub HasEnded : ℕ → List Brings → Attempt → ℕ → Type 0
@@ -54,7 +55,7 @@ pub record HasCourse (limit llid : ℕ) (frames : List Brings) (a : Attempt) : T
   pub some : 0 < out
   pub most : out ≤ length (bursts_of llid a.what)
   pub so_far : a.first + out ≤ length frames
-  pub sends : (k : ℕ) → k < out → StandsIn limit llid a (at_place (bursts_of llid a.what) k) (up_to (a.first + k) frames)
+  pub sends : (k : ℕ) → k < out → StandsInFrame limit llid a (burst_at_place (bursts_of llid a.what) k) (up_to (a.first + k) frames)
   pub ended : HasEnded llid frames a out
 
 -- The attempts up to frame f, the newest of them first: the one that stands in frame f joins them where f is its first.
@@ -93,7 +94,8 @@ pub record AreAttempts (limit llid : ℕ) (frames : List Brings) : Type 0 where
   pub newest : (a : Attempt) → (attempts limit llid frames).stands ≡ Some a →
       (older : List Attempt) × (all_attempts limit llid frames ≡ a ∷ older)
   pub silent : (attempts limit llid frames).stands ≡ None → (attempts limit llid frames).burst ≡ None
-  pub idle : is_free frames ≡ true → (attempts limit llid frames).stands ≡ None → HasNothingDue (attempts limit llid frames).ledger
+  pub idle : newest_is_free frames ≡ true → (attempts limit llid frames).stands ≡ None
+      → HasNothingDue (attempts limit llid frames).ledger
 
 -- Whatever frames bring, with whatever LLID and room in the queue, attempts have their courses in them.
 abbrev pub AttemptsStand : Type 0

@@ -23,8 +23,8 @@ pub record IsFitReceived (r : Received) : Type 0 where
 -- 2. What a packet gives.
 
 -- The record of a datagram of these octets, which came in this slot from this source.
-abbrev pub datagram_of : ℕ → ℕ → List ℕ → Received
-datagram_of slot source octets = record { slot = slot; kind = Datagram; source = source; octets = octets }
+abbrev pub datagram_record : ℕ → ℕ → List ℕ → Received
+datagram_record slot source octets = record { slot = slot; kind = Datagram; source = source; octets = octets }
 
 -- The record of short data of these octets, which came in this slot from this source.
 abbrev pub short_data_of : ℕ → ℕ → List ℕ → Received
@@ -33,7 +33,7 @@ short_data_of slot source octets = record { slot = slot; kind = ShortData; sourc
 -- The record of a body that is a datagram as it is, of 1 to 1,400 octets; none of any other.
 abbrev pub plain_datagram : ℕ → ℕ → List ℕ → Option Received
 plain_datagram slot source body =
-    if nat_lt 0 (length body) && nat_le (length body) 1400 then Some (datagram_of slot source body) else None
+    if nat_lt 0 (length body) && nat_le (length body) 1400 then Some (datagram_record slot source body) else None
 
 -- The datagram of which a body from this source is the compressed form, or the fault of one that isn't.
 abbrev pub expansion : List ℕ → (source llid : ℕ) → Result (List ℕ) ExpandFault
@@ -41,7 +41,7 @@ expansion body source llid = expand body source llid false
 
 -- The record of the datagram that a compressed form was expanded to; none where the octets are no such form.
 abbrev pub expanded : ℕ → ℕ → Result (List ℕ) ExpandFault → Option Received
-expanded slot source (Ok datagram) = Some (datagram_of slot source datagram)
+expanded slot source (Ok datagram) = Some (datagram_record slot source datagram)
 expanded slot source (Err fault) = None
 
 -- The record that a packet of this service access point gives: of a datagram as it is, or of an expanded one, and none of any
@@ -53,17 +53,17 @@ service_gives llid slot service source body =
 
 -- The record that a completed packet gives, by its header: one of its service access point, or of short data. A header without a
 -- packet gives none.
-abbrev pub packet_gives : ℕ → ℕ → Header → List ℕ → Option Received
-packet_gives llid slot (header.Unconfirmed h) body = service_gives llid slot h.sap h.source body
-packet_gives llid slot (header.Confirmed h) body = service_gives llid slot h.sap h.source body
-packet_gives llid slot (header.ShortData h) body = Some (short_data_of slot h.source body)
-packet_gives llid slot (header.Status h) body = None
-packet_gives llid slot (header.Response h) body = None
+abbrev pub record_by_header : ℕ → ℕ → Header → List ℕ → Option Received
+record_by_header llid slot (header.Unconfirmed h) body = service_gives llid slot h.sap h.source body
+record_by_header llid slot (header.Confirmed h) body = service_gives llid slot h.sap h.source body
+record_by_header llid slot (header.ShortData h) body = Some (short_data_of slot h.source body)
+record_by_header llid slot (header.Status h) body = None
+record_by_header llid slot (header.Response h) body = None
 
 -- What a completed packet gives: a datagram, as it is or expanded, or short data, or nothing.
-abbrev pub gives : ℕ → ℕ → Option Joined → Option Received
-gives llid slot None = None
-gives llid slot (Some joined) = packet_gives llid slot joined.header joined.body
+abbrev pub record_given : ℕ → ℕ → Option Joined → Option Received
+record_given llid slot None = None
+record_given llid slot (Some joined) = record_by_header llid slot joined.header joined.body
 
 -- 3. What a status gives.
 

@@ -1,6 +1,6 @@
 //! Confirmed blocks, of the octets that a burst holds.
 ghost use Rattle.std.specs.Prelude.{◌≡◌, length};
-ghost use Rattle.dmr_data.specs.Block.{burst_octets, mask_of};
+ghost use Rattle.dmr_data.specs.Block.{burst_octets, block_mask};
 ghost use Rattle.dmr_gateway.specs.Heard.{Tells, IsConfirmedOf};
 
 use dmr_bits::{Bits, Reader};
@@ -9,7 +9,7 @@ use dmr_data::{Block, Octets, Rate};
 
 /// What is added to the CRC-9 of a confirmed block (ETSI TS 102 361-1, annex B.3.12).
 fn mask_of(rate: Rate) -> u16
-    ensures value { result ≡ mask_of rate }
+    ensures value { result ≡ block_mask rate }
 {
     match rate {
         Rate::Half => 0x0F0,

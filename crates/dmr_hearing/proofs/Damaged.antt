@@ -9,7 +9,7 @@ use Rattle.dmr_burst.specs.declared.sync.Side.TheVariants.{Ms}
 use Rattle.dmr_hearing.specs.DataTypes.{payload_of}
 use Rattle.dmr_hearing.specs.Damage.{Sends, IsSentSlot, IsDamagedData, IsDamagedForeignData, IsDamagedBurst, HasNoMobileSync}
 use Rattle.dmr_hearing.specs.Hearing.{IsDatum}
-use Rattle.dmr_hearing.specs.Slots.{Slot, Silent, Data, VoiceSync, Voice, ForeignVoice, ForeignData, CutOff, IsHeardAs}
+use Rattle.dmr_hearing.specs.Slots.{SentSlot, Silent, Data, VoiceSync, Voice, ForeignVoice, ForeignData, CutOff, IsHeardAs}
 use Rattle.dmr_hearing.specs.declared.heard.Datum.{Datum}
 use Rattle.dmr_hearing.specs.declared.heard.Heard.{Heard}
 use Rattle.dmr_link.specs.declared.full_lc.FullLc.{FullLc}
@@ -38,7 +38,7 @@ no_voice : (bits : List Bool) (voice : Bool) → (IsTrue voice → HasSync (reco
 no_voice bits false within none = refl
 no_voice bits true within none = absurd (let near = within refl in let far = none.voice in omega arith)
 
-pub undone : (sent : Slot) (colour : ℕ) (bits : List Bool) (heard : Heard) → IsFound colour bits heard → IsSentSlot colour sent
+pub undone : (sent : SentSlot) (colour : ℕ) (bits : List Bool) (heard : Heard) → IsFound colour bits heard → IsSentSlot colour sent
     → IsDamagedBurst colour sent bits → IsHeardAs sent heard
 undone Silent colour bits heard found is damaged = absurd damaged
 undone (Data kind information lc) colour bits heard found is damaged =

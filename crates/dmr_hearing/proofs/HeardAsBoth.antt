@@ -12,8 +12,8 @@ use Rattle.dmr_burst.specs.declared.slot_type.SlotType.{SlotType}
 use Rattle.dmr_hearing.specs.Damage.{Sends, IsDamagedPayload, IsSentSlot, IsDamagedData, IsDamagedForeignData, HasNoMobileSync}
 use Rattle.dmr_hearing.specs.Damage.{IsDamagedBurst, IsRecordedAs}
 use Rattle.dmr_hearing.specs.DataTypes.{payload_of}
-use Rattle.dmr_hearing.specs.Recorded.{IsSilenceOrBurst, IsHearing}
-use Rattle.dmr_hearing.specs.Slots.{Slot, Silent, Data, VoiceSync, Voice, ForeignVoice, ForeignData, CutOff, silence, IsHeardAs}
+use Rattle.dmr_hearing.specs.Recorded.{IsSilenceOr33Octets, IsHearing}
+use Rattle.dmr_hearing.specs.Slots.{SentSlot, Silent, Data, VoiceSync, Voice, ForeignVoice, ForeignData, CutOff, silence, IsHeardAs}
 use Rattle.dmr_hearing.specs.declared.heard.Datum.{Datum}
 use Rattle.dmr_hearing.specs.declared.heard.Heard.{Heard}
 use Rattle.dmr_hearing.proofs.OneField.{one_sync, one_slot_type, one_emb, one_payload}
@@ -86,7 +86,7 @@ one_centre colour bits Neither Neither long p q = refl
 
 -- ---- what a slot asks of the centre and of the EMB
 -- A voice burst of the colour code may show any centre.
-centre_asked : Slot → Option Centre
+centre_asked : SentSlot → Option Centre
 centre_asked Silent = None
 centre_asked (Data kind information lc) = Some (DataCentre kind information lc)
 centre_asked VoiceSync = Some VoiceCentre
@@ -95,7 +95,7 @@ centre_asked (ForeignVoice emb) = Some Neither
 centre_asked ForeignData = Some Neither
 centre_asked CutOff = Some Neither
 
-emb_asked : Slot → Option Emb
+emb_asked : SentSlot → Option Emb
 emb_asked Silent = None
 emb_asked (Data kind information lc) = None
 emb_asked VoiceSync = None
@@ -105,7 +105,7 @@ emb_asked ForeignData = None
 emb_asked CutOff = None
 
 -- The burst has what the slot asks for.
-has_centre : (colour : ℕ) (bits : List Bool) (sent : Slot) → IsSentSlot colour sent → IsDamagedBurst colour sent bits
+has_centre : (colour : ℕ) (bits : List Bool) (sent : SentSlot) → IsSentSlot colour sent → IsDamagedBurst colour sent bits
     → IfSome (centre_asked sent) (Shows colour bits)
 unfolding centre_asked Shows
 has_centre colour bits Silent is damaged = tt
@@ -116,7 +116,7 @@ has_centre colour bits (ForeignVoice emb) is damaged = inl damaged.1
 has_centre colour bits ForeignData is damaged = inr damaged
 has_centre colour bits CutOff is damaged = inl damaged
 
-has_emb : (colour : ℕ) (bits : List Bool) (sent : Slot) → IsDamagedBurst colour sent bits
+has_emb : (colour : ℕ) (bits : List Bool) (sent : SentSlot) → IsDamagedBurst colour sent bits
     → IfSome (emb_asked sent) (λ emb. HasEmb emb bits)
 unfolding emb_asked
 has_emb colour bits Silent damaged = tt
@@ -158,7 +158,7 @@ heard_with bits centre emb = record {
 }
 
 -- What gives a slot all that it asks for is heard as it.
-given_is_heard : (colour : ℕ) (bits : List Bool) (sent : Slot) (centre : Option Centre) (emb : Option Emb)
+given_is_heard : (colour : ℕ) (bits : List Bool) (sent : SentSlot) (centre : Option Centre) (emb : Option Emb)
     → IsDamagedBurst colour sent bits → Gives (centre_asked sent) centre → Gives (emb_asked sent) emb
     → IsHeardAs sent (heard_with bits centre emb)
 unfolding centre_asked emb_asked heard_with heard_datum heard_voice datum_at voice_at
@@ -177,11 +177,11 @@ given_is_heard colour bits CutOff centre emb damaged f g =
 
 -- ---- what is heard
 -- Silence is a recording of silence alone.
-pub silent : (colour : ℕ) (sent : Slot) → IsRecordedAs colour sent None → IsHeardAs sent silence
+pub silent : (colour : ℕ) (sent : SentSlot) → IsRecordedAs colour sent None → IsHeardAs sent silence
 silent colour sent p = subst (λ slot. IsHeardAs slot silence) (sym p.damaged) refl
 
 -- A slot is heard somehow as what was sent,
-pub heard_somehow : (colour : ℕ) (slot : Option (List ℕ)) (sent : Slot) → IsRecordedAs colour sent slot
+pub heard_somehow : (colour : ℕ) (slot : Option (List ℕ)) (sent : SentSlot) → IsRecordedAs colour sent slot
     → (heard : Heard) × IsHearing slot sent heard
 unfolding heard_with
 heard_somehow colour None sent p = (silence, record { as_sent = silent colour sent p; vocoder = refl })
@@ -195,7 +195,7 @@ heard_somehow colour (Some octets) sent p =
     )
 
 -- and as both, where two things may have been sent.
-pub heard_as_both : (colour : ℕ) (slot : Option (List ℕ)) (a b : Slot) → IsSilenceOrBurst slot → IsRecordedAs colour a slot
+pub heard_as_both : (colour : ℕ) (slot : Option (List ℕ)) (a b : SentSlot) → IsSilenceOr33Octets slot → IsRecordedAs colour a slot
     → IsRecordedAs colour b slot → (heard : Heard) × IsHearing slot a heard × IsHearing slot b heard
 unfolding heard_with
 heard_as_both colour None a b is p q = (

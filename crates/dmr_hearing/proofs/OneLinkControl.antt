@@ -11,7 +11,7 @@ use Rattle.dmr_embedded.proofs.Damage.{damage_undone}
 use Rattle.dmr_embedded.proofs.Unique.{one_embedded}
 use Rattle.dmr_hearing.specs.Fields.{IsCarrier, IsReceived, IsSpelled, IsReadFrom}
 use Rattle.dmr_hearing.specs.Fit.{IsFitLc}
-use Rattle.dmr_link.specs.FullLc.{field_bits, IsFit}
+use Rattle.dmr_link.specs.FullLc.{full_lc_bits, FitsFullLc}
 use Rattle.dmr_link.specs.declared.full_lc.FullLc.{FullLc}
 use Rattle.dmr_link.proofs.Fields.{same_fields}
 
@@ -55,8 +55,8 @@ spelled_fit (Err fault) (Some lc) p = absurd p
 spelled_fit (Err fault) None p = tt
 
 -- Octets that are extracted spell the link control whose octets they are.
-spelled_is : (extracted : Result (List ℕ) EmbedFault) (octets : List ℕ) (lc : FullLc) (k : Option FullLc) → IsFit lc
-    → bits_of_octets octets ≡ field_bits lc → extracted ≡ Ok octets → IsSpelled extracted k → k ≡ Some lc
+spelled_is : (extracted : Result (List ℕ) EmbedFault) (octets : List ℕ) (lc : FullLc) (k : Option FullLc) → FitsFullLc lc
+    → bits_of_octets octets ≡ full_lc_bits lc → extracted ≡ Ok octets → IsSpelled extracted k → k ≡ Some lc
 spelled_is extracted octets lc k fit spelled is p = at_octets k (subst (λ x. IsSpelled x k) is p)
   where
     at_octets : (k : Option FullLc) → IsSpelled (Ok octets) k → k ≡ Some lc

@@ -12,7 +12,7 @@ use Rattle.dmr_hearing.specs.Hearing.{IsEncoded}
 use Rattle.dmr_hearing.specs.Reading.{IsReading}
 use Rattle.dmr_hearing.specs.declared.data_types.Payload.TheVariants.{Word, Sealed, LinkControl}
 use Rattle.dmr_hearing.specs.declared.heard.Datum.{Datum}
-use Rattle.dmr_link.specs.Sealed.{IsLc, IsRead, IsSealedLc}
+use Rattle.dmr_link.specs.Sealed.{IsLc, IsReadLc, IsSealedLc}
 use Rattle.dmr_link.proofs.SealedForms.{same_lc, same_message as same_sealed}
 use Rattle.dmr_link.specs.declared.fault.LcFault.{LcFault}
 use Rattle.dmr_link.specs.declared.full_lc.FullLc.{FullLc}
@@ -125,8 +125,8 @@ word_holds : (lc_use : LcUse) (sent : FullLc) (message information word : List B
 word_holds lc_use sent message information word is encoded same = subst (IsLc lc_use sent) (sym (same ∙ encoded.written.holds)) is
 
 pub link_control_read : (lc_use : LcUse) (kind : ℕ) (received message information : List Bool) (lc : FullLc)
-    → IsRead lc_use received lc
-    → ((other : FullLc) → IsRead lc_use received other → ◌≡◌ {A = Result FullLc LcFault} (Ok lc) (Ok other))
+    → IsReadLc lc_use received lc
+    → ((other : FullLc) → IsReadLc lc_use received other → ◌≡◌ {A = Result FullLc LcFault} (Ok lc) (Ok other))
     → ((word : List Bool) → IsProductWord word → IsDamaged word received → IsSealedLc lc_use (held_by word) → IsLc lc_use lc
     (held_by word))
     → IsLc lc_use lc message → IsEncoded message information
@@ -156,7 +156,7 @@ not_ok : (fault : LcFault) (lc : FullLc) → ◌≡◌ {A = Result FullLc LcFaul
 not_ok fault lc e = cc
 
 pub link_control_unread : (lc_use : LcUse) (kind : ℕ) (received : List Bool) (fault : LcFault)
-    → ((other : FullLc) → IsRead lc_use received other → ◌≡◌ {A = Result FullLc LcFault} (Err fault) (Ok other))
+    → ((other : FullLc) → IsReadLc lc_use received other → ◌≡◌ {A = Result FullLc LcFault} (Err fault) (Ok other))
     → ((word : List Bool) → IsProductWord word → IsDamaged word received → IsSealedLc lc_use (held_by word) → ⊥)
     → IsReading (LinkControl lc_use) kind received None
 link_control_unread lc_use kind received fault only undone = record {

@@ -11,7 +11,7 @@ use Rattle.dmr_embedded.specs.Extracting.{outcome}
 use Rattle.dmr_embedded.specs.declared.fault.EmbedFault.TheVariants as fault
 use Rattle.dmr_embedded.proofs.Existing.{extracted_somehow}
 use Rattle.dmr_hearing.specs.Fields.{IsSpelled, IsReadFrom}
-use Rattle.dmr_link.specs.FullLc.{field_bits, IsFit}
+use Rattle.dmr_link.specs.FullLc.{full_lc_bits, FitsFullLc}
 use Rattle.dmr_link.specs.declared.full_lc.FullLc.{FullLc}
 
 -- ---- 72 bits spell a link control
@@ -22,7 +22,7 @@ fits width bits e = subst (λ (n : ℕ). number_of bits < 2 ^ n) e (number_of-lt
 three_parts : (a b c : List Bool) (x y z : List Bool) → x ≡ a → y ≡ b → z ≡ c → x ++ (y ++ z) ≡ a ++ (b ++ c)
 three_parts a b c x y z e f g = cc
 
-lc_of_bits : (bits : List Bool) → length bits ≡ 72 → (lc : FullLc) × (field_bits lc ≡ bits) × IsFit lc
+lc_of_bits : (bits : List Bool) → length bits ≡ 72 → (lc : FullLc) × (full_lc_bits lc ≡ bits) × FitsFullLc lc
 lc_of_bits [] e = absurd (omega arith)
 lc_of_bits (p ∷ []) e = absurd (omega arith)
 lc_of_bits (p ∷ r ∷ rest) e =

@@ -11,7 +11,7 @@ use Rattle.dmr_burst.specs.declared.sync.Side.TheVariants.{Ms}
 use Rattle.dmr_checks.specs.Sealed.{IsSealed}
 use Rattle.dmr_hearing.specs.DataTypes.{payload_of}
 use Rattle.dmr_hearing.specs.Hearing.{IsEncoded}
-use Rattle.dmr_hearing.specs.Slots.{Slot, Silent, Data, VoiceSync, Voice, ForeignVoice, ForeignData, CutOff}
+use Rattle.dmr_hearing.specs.Slots.{SentSlot, Silent, Data, VoiceSync, Voice, ForeignVoice, ForeignData, CutOff}
 use Rattle.dmr_hearing.specs.declared.data_types.Payload.{Payload}
 use Rattle.dmr_hearing.specs.declared.data_types.Payload.TheVariants.{Word, Sealed, LinkControl, Raw, Nothing}
 use Rattle.dmr_link.specs.Sealed.{IsLc}
@@ -33,7 +33,7 @@ Sends Raw information lc = (length information ≡ 196) × (lc ≡ None)
 Sends Nothing information lc = ⊥
 
 -- What a slot may send, by the colour code of the repeater.
-abbrev pub IsSentSlot : ℕ → Slot → Type 0
+abbrev pub IsSentSlot : ℕ → SentSlot → Type 0
 IsSentSlot colour Silent = Unit {0}
 IsSentSlot colour (Data kind information lc) = Sends (payload_of kind) information lc
 IsSentSlot colour VoiceSync = Unit {0}
@@ -78,7 +78,7 @@ pub record HasNoMobileSync (bits : List Bool) : Type 0 where
   pub data_sync : 3 < distance (sync_word Ms false) (sync_field bits)
 
 -- The burst that a slot is recorded as.
-abbrev pub IsDamagedBurst : ℕ → Slot → List Bool → Type 0
+abbrev pub IsDamagedBurst : ℕ → SentSlot → List Bool → Type 0
 IsDamagedBurst colour Silent bits = ⊥
 IsDamagedBurst colour (Data kind information lc) bits = IsDamagedData colour kind information bits
 -- at most three wrong bits in the sync
@@ -91,11 +91,11 @@ IsDamagedBurst colour ForeignData bits = IsDamagedForeignData colour bits
 IsDamagedBurst colour CutOff bits = HasNoMobileSync bits
 
 -- Silence is recorded as silence, and a burst as a burst.
-abbrev pub IsDamagedSlot : ℕ → Slot → Option (List ℕ) → Type 0
+abbrev pub IsDamagedSlot : ℕ → SentSlot → Option (List ℕ) → Type 0
 IsDamagedSlot colour slot None = slot ≡ Silent
 IsDamagedSlot colour slot (Some octets) = IsDamagedBurst colour slot (bits_of_octets octets)
 
 -- What a slot that was sent is recorded as, damaged within the limits.
-pub record IsRecordedAs (colour : ℕ) (slot : Slot) (recorded : Option (List ℕ)) : Type 0 where
+pub record IsRecordedAs (colour : ℕ) (slot : SentSlot) (recorded : Option (List ℕ)) : Type 0 where
   pub sent : IsSentSlot colour slot
   pub damaged : IsDamagedSlot colour slot recorded

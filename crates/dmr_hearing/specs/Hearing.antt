@@ -16,7 +16,7 @@ use Rattle.dmr_hearing.specs.declared.data_types.Payload.{Payload}
 use Rattle.dmr_hearing.specs.declared.data_types.Payload.TheVariants.{Word, Sealed, LinkControl, Raw, Nothing}
 use Rattle.dmr_hearing.specs.declared.heard.Datum.{Datum}
 use Rattle.dmr_hearing.specs.declared.heard.Heard.{Heard}
-use Rattle.dmr_link.specs.Sealed.{IsLc, IsRead}
+use Rattle.dmr_link.specs.Sealed.{IsLc, IsReadLc}
 use Rattle.dmr_link.specs.declared.full_lc.FullLc.{FullLc}
 
 -- The 196 bits that 96 bits are encoded as.
@@ -35,7 +35,7 @@ Reads (Sealed mask) received information lc =
     × IsEncoded message information × (lc ≡ None)
 -- a link control: where one is read for its use, it is sealed and encoded anew
 Reads (LinkControl lc_use) received information lc =
-    (read : FullLc) × (message : List Bool) × IsRead lc_use received read × IsLc lc_use read message
+    (read : FullLc) × (message : List Bool) × IsReadLc lc_use received read × IsLc lc_use read message
     × IsEncoded message information × (lc ≡ Some read)
 -- raw bits are repeated as they are received
 Reads Raw received information lc = (information ≡ received) × (lc ≡ None)

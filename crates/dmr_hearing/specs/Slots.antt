@@ -5,22 +5,22 @@ use Rattle.dmr_hearing.specs.declared.heard.Heard.{Heard}
 use Rattle.dmr_link.specs.declared.full_lc.FullLc.{FullLc}
 
 -- What one slot of the uplink sends.
-pub data Slot : Type 0 where
+pub data SentSlot : Type 0 where
   -- nothing
-  Silent : Slot
+  Silent : SentSlot
   -- a data burst of the own colour code: its data type, its information as it is repeated, and the link control of a voice LC
   -- header and of a terminator
-  Data : ℕ → List Bool → Option FullLc → Slot
+  Data : ℕ → List Bool → Option FullLc → SentSlot
   -- a burst with a voice sync, of any colour code
-  VoiceSync : Slot
+  VoiceSync : SentSlot
   -- a voice burst of a call, with its EMB and its embedded field as it is received
-  Voice : Emb → ℕ → Slot
+  Voice : Emb → ℕ → SentSlot
   -- a voice burst of another colour code, with its EMB
-  ForeignVoice : Emb → Slot
+  ForeignVoice : Emb → SentSlot
   -- a data burst of another colour code
-  ForeignData : Slot
+  ForeignData : SentSlot
   -- a burst of a call that began before the recording
-  CutOff : Slot
+  CutOff : SentSlot
 
 -- What a slot is heard as in which nothing is sent.
 abbrev pub silence : Heard
@@ -28,7 +28,7 @@ silence = record { datum = None; voice = false; emb = None; embedded = 0; vocode
 
 -- What such a slot is heard as. A data burst and a voice sync may have any EMB, and a voice burst of a call may read as data:
 -- a call looks at neither there.
-abbrev pub IsHeardAs : Slot → Heard → Type 0
+abbrev pub IsHeardAs : SentSlot → Heard → Type 0
 IsHeardAs Silent heard = heard ≡ silence
 IsHeardAs (Data kind information lc) heard =
     (heard.datum ≡ Some (record { kind = kind; information = information; link_control = lc })) × (heard.voice ≡ false)

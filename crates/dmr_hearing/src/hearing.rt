@@ -10,7 +10,7 @@ ghost use Rattle.dmr_hearing.specs.Damage.{Sends, IsSentSlot, IsRecordedAs};
 ghost use Rattle.dmr_hearing.specs.Damage.{IsDamagedPayload, IsDamagedData, IsDamagedForeignData, IsDamagedBurst};
 ghost use Rattle.dmr_hearing.specs.Fit.{IsFitHeard};
 ghost use Rattle.dmr_hearing.specs.Hearing.{Reads, IsDatum, IsHeardBurst, Hears};
-ghost use Rattle.dmr_hearing.specs.Slots.{Slot, IsHeardAs, silence as silence_heard};
+ghost use Rattle.dmr_hearing.specs.Slots.{SentSlot, IsHeardAs, silence as silence_heard};
 ghost use Rattle.dmr_hearing.specs.declared.heard.Datum.{Datum};
 ghost use Rattle.dmr_link.specs.declared.full_lc.FullLc.{FullLc};
 
@@ -28,7 +28,7 @@ pub fn hear(slot: &Option<[u8; 33]>, colour: u8) -> Heard
     // Each part is heard exactly where the burst has it,
     ensures heard { Hears colour slot.now result }
     // and what was sent is heard where the damage is within the limits.
-    ensures damaged { (sent : Slot) → IsRecordedAs colour sent slot.now → IsHeardAs sent result }
+    ensures damaged { (sent : SentSlot) → IsRecordedAs colour sent slot.now → IsHeardAs sent result }
     // What is read fits its fields.
     ensures fit { IsFitHeard result }
 {
@@ -54,7 +54,7 @@ pub fn silence() -> Heard
 /// What a burst is heard as.
 fn hear_burst(burst: &[u8; 33], colour: u8) -> Heard
     ensures heard { IsHeardBurst colour (bits_of_octets burst.now) result }
-    ensures damaged { (sent : Slot) → IsSentSlot colour sent → IsDamagedBurst colour sent (bits_of_octets burst.now)
+    ensures damaged { (sent : SentSlot) → IsSentSlot colour sent → IsDamagedBurst colour sent (bits_of_octets burst.now)
         → IsHeardAs sent result }
 {
     let sync = read_mobile_sync(burst);

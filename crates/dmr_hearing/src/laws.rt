@@ -7,8 +7,8 @@ ghost use Rattle.dmr_burst.specs.declared.emb.Emb.{Emb};
 ghost use Rattle.dmr_burst.specs.declared.sync.Side.TheVariants as side;
 ghost use Rattle.dmr_hearing.specs.Damage.{IsSentSlot, IsRecordedAs, HasNoMobileSync};
 ghost use Rattle.dmr_hearing.specs.Hearing.{Hears};
-ghost use Rattle.dmr_hearing.specs.Recorded.{IsSilenceOrBurst, IsHearing};
-ghost use Rattle.dmr_hearing.specs.Slots.{Slot, Data, VoiceSync, Voice, ForeignVoice, ForeignData};
+ghost use Rattle.dmr_hearing.specs.Recorded.{IsSilenceOr33Octets, IsHearing};
+ghost use Rattle.dmr_hearing.specs.Slots.{SentSlot, Data, VoiceSync, Voice, ForeignVoice, ForeignData};
 ghost use Rattle.dmr_hearing.specs.declared.heard.Heard.{Heard};
 ghost use Rattle.dmr_link.specs.declared.full_lc.FullLc.{FullLc};
 
@@ -42,6 +42,6 @@ pub fn sent_is_recorded()
 
 /// A slot that is a recording of two things that may be sent can be heard as both: they ask for nothing that excludes the other.
 pub fn heard_as_both()
-    ensures law { (colour : ℕ) (slot : Option (List ℕ)) (a b : Slot) → IsSilenceOrBurst slot → IsRecordedAs colour a slot
+    ensures law { (colour : ℕ) (slot : Option (List ℕ)) (a b : SentSlot) → IsSilenceOr33Octets slot → IsRecordedAs colour a slot
         → IsRecordedAs colour b slot → (heard : Heard) × IsHearing slot a heard × IsHearing slot b heard }
 {}

@@ -6,7 +6,7 @@ use Rattle.dmr_ip.specs.Checksum.{words, plus, ones_complement_sum}
 use Rattle.dmr_ip.specs.Datagram.{IsDatagram}
 use Rattle.dmr_ip.specs.Contents.{AreOctets, Contents, FitsDatagram, address, datagram_between, datagram_of, ip_checksum}
 use Rattle.dmr_ip.specs.Contents.{ip_header, pseudo_header, radio_address, sent_checksum, shown_contents, udp_checksum, udp_header}
-use Rattle.dmr_ip.specs.Spelling.{Spells}
+use Rattle.dmr_ip.specs.Spelling.{SpellsDatagram}
 use Rattle.dmr_ip.proofs.Sums.{AreWords, AreWords-words, sum_is_right, sum_is_right_sent}
 
 -- the word that the octets of a number are
@@ -126,7 +126,7 @@ shown_contents-built source destination c fits =
     rw (identification, source_port, destination_port) refl
 
 -- So a datagram that is spelled is the one with the contents that it shows.
-pub datagram_of-shown : (octets : List ℕ) (source destination : ℕ) (group : Bool) (datagram : List ℕ) → Spells octets source
+pub datagram_of-shown : (octets : List ℕ) (source destination : ℕ) (group : Bool) (datagram : List ℕ) → SpellsDatagram octets source
     destination group datagram → datagram ≡ datagram_of source destination group (shown_contents datagram)
 datagram_of-shown octets source destination group datagram h =
     let shown = shown_contents-built (radio_address source) (address group destination) h.contents h.fits in

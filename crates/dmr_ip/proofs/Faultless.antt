@@ -2,7 +2,7 @@
 use Rattle.std.proofs.Common.{◌≡◌, ◌≢◌, ℕ, Bool, true, false, not, ◌||◌, cond, List, refl, sym, arith}
 use Rattle.std.specs.Prelude.{Option, Some, None, ◌==◌}
 use Rattle.std.proofs.lemmas.Bool.{and_parts, and_from, eqb-true, eqb-false, eq-eqb, leb-true, le-leb}
-use Rattle.dmr_ip.specs.Datagram.{IsDatagram, datagram_fault, has_length, version, header_words}
+use Rattle.dmr_ip.specs.Datagram.{IsDatagram, datagram_fault, has_length, ip_version, header_words}
 use Rattle.dmr_ip.specs.Datagram.{has_header_sum, is_whole, protocol, has_udp_length, has_udp_sum}
 use Rattle.dmr_ip.specs.declared.fault.IpFault.{IpFault}
 
@@ -30,7 +30,7 @@ pub IsDatagram-from_none : (octets : List ℕ) → datagram_fault octets ≡ Non
 unfolding datagram_fault
 IsDatagram-from_none octets e =
     let p = passed (has_length octets) _ _ e in
-    let q = passed (version octets == 4) _ _ p.1 in
+    let q = passed (ip_version octets == 4) _ _ p.1 in
     let r = passed (header_words octets == 5) _ _ q.1 in
     let s = passed (has_header_sum octets) _ _ r.1 in
     let t = passed (is_whole octets) _ _ s.1 in

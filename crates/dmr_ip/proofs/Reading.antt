@@ -7,7 +7,7 @@ use Rattle.std.specs.Int.{to_be_bytes, w16}
 use Rattle.std.proofs.lemmas.Bool.{and_parts, and_from, or_parts, or_from, eqb-true, eq-eqb, ne_eqb, le-ltb, ltb-false}
 use Rattle.dmr_ip.specs.Contents.{AreOctets, Contents, FitsDatagram, datagram_of}
 use Rattle.dmr_ip.specs.Datagram.{unless}
-use Rattle.dmr_ip.specs.Spelling.{Identifies, Spells, address_identifiers, behind_identifiers}
+use Rattle.dmr_ip.specs.Spelling.{Identifies, SpellsDatagram, address_identifiers, behind_identifiers}
 use Rattle.dmr_ip.specs.Spelling.{behind_ports, destination_identifier, expand, form}
 use Rattle.dmr_ip.specs.Spelling.{form_fault, opcode_bit, port_from, port_length}
 use Rattle.dmr_ip.specs.Spelling.{port_octets, ports_length, read_contents, source_identifier}
@@ -117,7 +117,8 @@ same_form : (a b c d e : ℕ) (rest front : List ℕ) (c' d' e' : ℕ) (rest' : 
 same_form a b c d e rest front c' d' e' rest' p q r s t = rw (← p, q, r, s, t) refl
 
 -- a form, as it is read
-pub Spells-read : (octets : List ℕ) (source destination : ℕ) (group : Bool) → AreOctets octets → IsForm octets group → Spells
+pub Spells-read : (octets : List ℕ) (source destination : ℕ) (group : Bool) → AreOctets octets → IsForm octets group
+    → SpellsDatagram
     octets source destination group (datagram_of source destination group (read_contents octets))
 Spells-read [] source destination group h f = absurd (omega (arith, f.at_least))
 Spells-read (a ∷ []) source destination group h f = absurd (omega (arith, f.at_least))
@@ -212,7 +213,7 @@ IsReadAs-form s t group c fits p q =
     }
 
 -- The octets give the datagram exactly where they spell it.
-pub expand-Spells : (octets : List ℕ) (source destination : ℕ) (group : Bool) (datagram : List ℕ) → Spells octets source
+pub expand-Spells : (octets : List ℕ) (source destination : ℕ) (group : Bool) (datagram : List ℕ) → SpellsDatagram octets source
     destination group datagram → expand octets source destination group ≡ Ok datagram
 expand-Spells octets source destination group datagram h =
     let r = IsReadAs-form h.source_identifier h.destination_identifier group h.contents h.fits h.source_port h.destination_port in
@@ -222,13 +223,13 @@ expand-Spells octets source destination group datagram h =
 
 Spells-unless : (octets : List ℕ) (source destination : ℕ) (group : Bool) (datagram : List ℕ) (found : Option ExpandFault) →
     AreOctets octets → form_fault octets group ≡ found → unless found (datagram_of source destination group (read_contents octets))
-    ≡ Ok datagram → Spells octets source destination group datagram
+    ≡ Ok datagram → SpellsDatagram octets source destination group datagram
 Spells-unless octets source destination group datagram None h e p =
     let d : datagram_of source destination group (read_contents octets) ≡ datagram = cc in
     rw d at (Spells-read octets source destination group h (IsForm-from_none octets group e))
 Spells-unless octets source destination group datagram (Some found) h e p = cc
 
 pub Spells-from_expand : (octets : List ℕ) (source destination : ℕ) (group : Bool) (datagram : List ℕ) → AreOctets octets → expand
-    octets source destination group ≡ Ok datagram → Spells octets source destination group datagram
+    octets source destination group ≡ Ok datagram → SpellsDatagram octets source destination group datagram
 Spells-from_expand octets source destination group datagram h e = Spells-unless octets source destination group datagram
     (form_fault octets group) h refl e

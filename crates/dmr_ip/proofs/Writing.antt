@@ -6,7 +6,7 @@ use Rattle.std.proofs.lemmas.Bool.{eqb-true}
 use Rattle.std.proofs.lemmas.Slice.Eq.{bytes_eq-Decides}
 use Rattle.dmr_ip.specs.Contents.{AreOctets, FitsDatagram, address, datagram_of, radio_address, shown_contents}
 use Rattle.dmr_ip.specs.Datagram.{IsDatagram}
-use Rattle.dmr_ip.specs.Spelling.{Identifies, Spells, Writes, compress, identifier_of, written_form}
+use Rattle.dmr_ip.specs.Spelling.{Identifies, SpellsDatagram, Writes, compress, identifier_of, written_form}
 use Rattle.dmr_ip.proofs.Built.{shown_contents-built}
 use Rattle.dmr_ip.proofs.Reading.{AreOctets-drop}
 
@@ -21,7 +21,7 @@ Identifies-identifier_of : (port : ℕ) → Identifies (identifier_of port) port
 Identifies-identifier_of port = Identifies-by_tests port (port == 5016) (port == 5017) refl refl
 
 pub Spells-from_Writes : (octets : List ℕ) (source destination : ℕ) (group : Bool) (datagram : List ℕ) → Writes octets source
-    destination group datagram → Spells octets source destination group datagram
+    destination group datagram → SpellsDatagram octets source destination group datagram
 Spells-from_Writes octets source destination group datagram h = record {
   contents = h.contents;
   fits = h.fits;

@@ -14,8 +14,8 @@ number_at octets place = 256 * slice_index octets place + slice_index octets (pl
 -- 1. Fields of the IPv4 header (RFC 791), by octet.
 
 -- The version of IP: the high four bits of octet 0.
-abbrev pub version : List ℕ → ℕ
-version octets = slice_index octets 0 / 16
+abbrev pub ip_version : List ℕ → ℕ
+ip_version octets = slice_index octets 0 / 16
 
 -- How many words of four octets the IPv4 header has: the low four bits of octet 0.
 abbrev pub header_words : List ℕ → ℕ
@@ -44,13 +44,13 @@ abbrev pub udp_length : List ℕ → ℕ
 udp_length octets = number_at octets 24
 
 -- The checksum of the UDP header, of octets 26 and 27: 0 says that there is none.
-abbrev pub udp_checksum : List ℕ → ℕ
-udp_checksum octets = number_at octets 26
+abbrev pub udp_checksum_in : List ℕ → ℕ
+udp_checksum_in octets = number_at octets 26
 
 -- What the UDP checksum covers before the UDP header: both addresses, a zero, the protocol, and the
 -- UDP length.
-abbrev pub pseudo_header : List ℕ → List ℕ
-pseudo_header octets =
+abbrev pub pseudo_header_in : List ℕ → List ℕ
+pseudo_header_in octets =
     take 8 (drop 12 octets)
     ++ 0 ∷ protocol octets ∷ slice_index octets 24 ∷ slice_index octets 25 ∷ []
 
@@ -61,7 +61,7 @@ pub record IsDatagram (octets : List ℕ) : Type 0 where
   pub at_least : 20 ≤ length octets
   pub at_most : length octets ≤ 1400
   pub counted : total_length octets ≡ length octets
-  pub version_four : version octets ≡ 4
+  pub version_four : ip_version octets ≡ 4
   pub no_options : header_words octets ≡ 5
   pub header_sum : ones_complement_sum (take 20 octets) ≡ 0xffff
   pub last_fragment : more_fragments octets ≡ 0
@@ -70,8 +70,8 @@ pub record IsDatagram (octets : List ℕ) : Type 0 where
   pub udp_at_least : 28 ≤ length octets
   pub udp_counted : udp_length octets ≡ length octets - 20
   -- a UDP checksum of 0 says that there is none
-  pub udp_sum : udp_checksum octets ≢ 0
-      → ones_complement_sum (pseudo_header octets ++ drop 20 octets) ≡ 0xffff
+  pub udp_sum : udp_checksum_in octets ≢ 0
+      → ones_complement_sum (pseudo_header_in octets ++ drop 20 octets) ≡ 0xffff
 
 -- 4. The tests of a parser, each of octets that passed those before it.
 
@@ -95,14 +95,14 @@ has_udp_length octets = nat_le 28 (length octets) && (udp_length octets == lengt
 -- There is no UDP checksum, or the words that it covers add up to FFFF in one's complement.
 abbrev pub has_udp_sum : List ℕ → Bool
 has_udp_sum octets =
-    (udp_checksum octets == 0)
-    || (ones_complement_sum (pseudo_header octets ++ drop 20 octets) == 0xffff)
+    (udp_checksum_in octets == 0)
+    || (ones_complement_sum (pseudo_header_in octets ++ drop 20 octets) == 0xffff)
 
 -- The first fault, in the order of the tests.
 unfoldable pub datagram_fault : List ℕ → Option IpFault
 datagram_fault octets =
     if not (has_length octets) then Some fault.Length else
-    if not (version octets == 4) then Some fault.Version else
+    if not (ip_version octets == 4) then Some fault.Version else
     if not (header_words octets == 5) then Some fault.Options else
     if not (has_header_sum octets) then Some fault.HeaderSum else
     if not (is_whole octets) then Some fault.Fragment else

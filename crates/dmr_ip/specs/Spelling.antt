@@ -36,7 +36,7 @@ form source_identifier destination_identifier group c =
 
 -- The octets spell the datagram, in a packet from one LLID to another, or to a group: they are a form
 -- of some contents, and it is the datagram that is built of them.
-pub record Spells (octets : List ℕ) (source destination : ℕ) (group : Bool) (datagram : List ℕ) : Type 0 where
+pub record SpellsDatagram (octets : List ℕ) (source destination : ℕ) (group : Bool) (datagram : List ℕ) : Type 0 where
   pub contents : Contents
   pub fits : FitsDatagram contents
   pub source_identifier : ℕ

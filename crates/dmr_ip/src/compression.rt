@@ -1,7 +1,7 @@
 //! Header compression of UDP over IPv4.
 ghost use Rattle.std.specs.Prelude.{◌≡◌, ◌↔◌, ℕ, ◌^◌, ◌<◌, List, Ok, IfSome, IfNone};
 ghost use Rattle.std.specs.Option.{option_map};
-ghost use Rattle.dmr_ip.specs.Spelling.{Spells, Writes, compress, expand};
+ghost use Rattle.dmr_ip.specs.Spelling.{SpellsDatagram, Writes, compress, expand};
 
 use crate::datagram::Datagram;
 use crate::fault::ExpandFault;
@@ -28,7 +28,7 @@ pub fn compress(
     ensures written { IfSome result (λ form. Writes form.items source destination group datagram.now) }
     // Where there is none, no octets spell the datagram.
     ensures none { IfNone result ((octets : List ℕ)
-        → ¬ Spells octets source destination group datagram.now) }
+        → ¬ SpellsDatagram octets source destination group datagram.now) }
 {
     let message = Message::shown_by(datagram);
     let rebuilt = message.datagram(source, destination, group);
@@ -56,7 +56,7 @@ pub fn expand(
     ensures value { result ≡ expand octets.now source destination group }
     // Each spelling of a datagram is accepted, and nothing else.
     ensures spelled { (datagram : List ℕ)
-        → (result ≡ Ok datagram) ↔ Spells octets.now source destination group datagram }
+        → (result ≡ Ok datagram) ↔ SpellsDatagram octets.now source destination group datagram }
 {
     match form_fault(octets, group) {
         Some(fault) => Err(fault),

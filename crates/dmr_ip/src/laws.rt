@@ -2,7 +2,7 @@
 ghost use Rattle.std.specs.Prelude.{◌≡◌, ◌↔◌, ℕ, Bool, List, None, Some, Ok};
 ghost use Rattle.dmr_ip.specs.Contents.{AreOctets, Contents, FitsDatagram, datagram_of};
 ghost use Rattle.dmr_ip.specs.Datagram.{IsDatagram, datagram_fault};
-ghost use Rattle.dmr_ip.specs.Spelling.{Spells, Writes, compress, expand};
+ghost use Rattle.dmr_ip.specs.Spelling.{SpellsDatagram, Writes, compress, expand};
 
 /// Octets have no fault exactly where they are a datagram.
 pub fn datagrams_are_faultless()
@@ -27,7 +27,7 @@ pub fn spellings_are_expanded()
     ensures law { (octets : List ℕ) (source destination : ℕ) (group : Bool) (datagram : List ℕ)
         → AreOctets octets
         → (expand octets source destination group ≡ Ok datagram)
-        ↔ Spells octets source destination group datagram }
+        ↔ SpellsDatagram octets source destination group datagram }
 {}
 
 /// A datagram is compressed to octets exactly where they are the form that is written for it.
@@ -41,8 +41,8 @@ pub fn written_forms_are_compressed()
 /// Octets spell one datagram at most.
 pub fn spelled_datagrams_are_one()
     ensures law { (octets : List ℕ) (source destination : ℕ) (group : Bool) (one other : List ℕ)
-        → Spells octets source destination group one
-        → Spells octets source destination group other → one ≡ other }
+        → SpellsDatagram octets source destination group one
+        → SpellsDatagram octets source destination group other → one ≡ other }
 {}
 
 /// One form at most is written for a datagram.

@@ -3,10 +3,10 @@ use Rattle.std.proofs.Common.{◌≡◌, ℕ, List, Bool, ◌++◌, sym, ◌∙�
 use Rattle.dmr_bits.specs.Bits.{bits_of, bits_of_octets}
 use Rattle.dmr_bits.proofs.Spelled.{same_number, same_octets}
 use Rattle.dmr_link.specs.declared.full_lc.FullLc.{FullLc}
-use Rattle.dmr_link.specs.FullLc.{field_bits, IsFit}
+use Rattle.dmr_link.specs.FullLc.{full_lc_bits, FitsFullLc}
 
 -- the fields are decided by their bits
-pub same_fields : (a b : FullLc) → IsFit a → IsFit b → field_bits a ≡ field_bits b → a ≡ b
+pub same_fields : (a b : FullLc) → FitsFullLc a → FitsFullLc b → full_lc_bits a ≡ full_lc_bits b → a ≡ b
 same_fields a b p q e =
     let tail : bits_of 6 a.flco ++ (bits_of 8 a.fid ++ bits_of_octets a.body) ≡ bits_of 6 b.flco ++ (bits_of 8 b.fid ++
     bits_of_octets b.body) = cc in

@@ -9,13 +9,13 @@ use Rattle.std.proofs.lemmas.List.{take_at, drop_at, take-append-drop, length-ta
 use Rattle.std.proofs.lemmas.List.{length-map, get_or-map, get_or-take, get_or-drop, get_or_append_left, get_or-append_right}
 use Rattle.std.proofs.lemmas.List.Elements.{All-take, All-drop, All-append, All-map}
 use Rattle.dmr_rs.specs.Word.{octet_distance}
-use Rattle.dmr_link.specs.Sealed.{mask_of, masked}
+use Rattle.dmr_link.specs.Sealed.{parity_mask, masked}
 use Rattle.dmr_link.specs.declared.sealing.LcUse.{LcUse}
 use Rattle.dmr_link.specs.declared.sealing.LcUse.TheVariants.{Header, Terminator}
 
 -- one octet under the mask
 abbrev veiled : LcUse → ℕ → ℕ
-veiled lc_use octet = bit_xor octet (mask_of lc_use)
+veiled lc_use octet = bit_xor octet (parity_mask lc_use)
 
 -- a mask that is added twice is off again
 twice : (x m : ℕ) → bit_xor (bit_xor x m) m ≡ x
@@ -33,7 +33,7 @@ apart x y m =
     same_test false true f g = g refl
     same_test false false f g = refl
 
-mask_of-lt : (lc_use : LcUse) → mask_of lc_use < 2 ^ 8
+mask_of-lt : (lc_use : LcUse) → parity_mask lc_use < 2 ^ 8
 mask_of-lt Header = omega arith
 mask_of-lt Terminator = omega arith
 
@@ -51,7 +51,7 @@ take-masked lc_use octets long = take_at (take 9 octets) (map (veiled lc_use) (d
 
 map_twice : (lc_use : LcUse) (octets : List ℕ) → map (veiled lc_use) (map (veiled lc_use) octets) ≡ octets
 map_twice lc_use [] = refl
-map_twice lc_use (o ∷ octets) = let head = twice o (mask_of lc_use) in let tail = map_twice lc_use octets in cc
+map_twice lc_use (o ∷ octets) = let head = twice o (parity_mask lc_use) in let tail = map_twice lc_use octets in cc
 
 pub masked_twice : (lc_use : LcUse) (octets : List ℕ) → length octets ≡ 12 → masked lc_use (masked lc_use octets) ≡ octets
 masked_twice lc_use octets long =
@@ -67,7 +67,7 @@ small-masked lc_use octets small =
     let Small : ℕ → Type 0 = λ octet. octet < 256 in
     All-append Small (take 9 octets) (map (veiled lc_use) (drop 9 octets)) (All-take Small 9 octets small)
     (All-map Small (veiled lc_use) (drop 9 octets)
-    (λ k d h. xor_lt 8 (get_or (drop 9 octets) k d) (mask_of lc_use) (All-drop Small 9 octets small k d h) (mask_of-lt lc_use)))
+    (λ k d h. xor_lt 8 (get_or (drop 9 octets) k d) (parity_mask lc_use) (All-drop Small 9 octets small k d h) (mask_of-lt lc_use)))
 
 -- by index
 pub get_or-masked_front : (lc_use : LcUse) (octets : List ℕ) (k : ℕ) → length octets ≡ 12 → k < 9 → get_or (masked lc_use octets) k
@@ -77,7 +77,7 @@ get_or-masked_front lc_use octets k long h =
     ∙ get_or-take 9 octets k 0 h
 
 pub get_or-masked_back : (lc_use : LcUse) (octets : List ℕ) (k : ℕ) → length octets ≡ 12 → 9 ≤ k → k < 12 → get_or (masked lc_use
-    octets) k 0 ≡ bit_xor (get_or octets k 0) (mask_of lc_use)
+    octets) k 0 ≡ bit_xor (get_or octets k 0) (parity_mask lc_use)
 get_or-masked_back lc_use octets k long from to =
     let place : 9 + (k - 9) ≡ k = omega arith in
     get_or-append_right (take 9 octets) (map (veiled lc_use) (drop 9 octets)) 9 k 0 (length_front octets long) from
@@ -98,7 +98,7 @@ distance-map : (lc_use : LcUse) (x y : List ℕ) → octet_distance (map (veiled
 distance-map lc_use [] y = refl
 distance-map lc_use (p ∷ x) [] = refl
 distance-map lc_use (p ∷ x) (q ∷ y) =
-    ap (λ t. (if t then 0 else 1) + octet_distance (map (veiled lc_use) x) (map (veiled lc_use) y)) (apart p q (mask_of lc_use))
+    ap (λ t. (if t then 0 else 1) + octet_distance (map (veiled lc_use) x) (map (veiled lc_use) y)) (apart p q (parity_mask lc_use))
     ∙ ap (λ n. (if p == q then 0 else 1) + n) (distance-map lc_use x y)
 
 -- a mask on both changes no distance

@@ -14,8 +14,8 @@ use Rattle.dmr_rs.proofs.Near.{no_distance, one_within}
 use Rattle.dmr_rs.proofs.Roots.{four_apart}
 use Rattle.dmr_link.specs.declared.full_lc.FullLc.{FullLc}
 use Rattle.dmr_link.specs.declared.sealing.LcUse.{LcUse}
-use Rattle.dmr_link.specs.FullLc.{field_bits, IsFit}
-use Rattle.dmr_link.specs.Sealed.{masked, IsSealedLc, IsLc, IsWithinOctet, IsRead}
+use Rattle.dmr_link.specs.FullLc.{full_lc_bits, FitsFullLc}
+use Rattle.dmr_link.specs.Sealed.{masked, IsSealedLc, IsLc, IsWithinOctet, IsReadLc}
 use Rattle.dmr_bits.proofs.Spelled.{same_octets}
 use Rattle.dmr_link.proofs.Fields.{same_fields}
 use Rattle.dmr_link.proofs.Masks.{length-masked, take-masked, masked_twice, small-masked, distance-append, distance-masked}
@@ -32,9 +32,10 @@ front_of message long =
     sym (bits_of_octets-take 9 (octets_of 12 message) nine) ∙ ap (take 72) (bits_of_octets-octets_of 12 message long)
 
 -- a word that begins with the fields is, under the mask, the sealed form
-pub sealed_word : (lc_use : LcUse) (lc : FullLc) (word : List ℕ) (message : List Bool) → IsFit lc → length word ≡ 12 → All
+pub sealed_word : (lc_use : LcUse) (lc : FullLc) (word : List ℕ) (message : List Bool) → FitsFullLc lc → length word ≡ 12 → All
     (λ octet. octet < 256) word
-    → IsRsWord word → bits_of_octets (take 9 word) ≡ field_bits lc → message ≡ bits_of_octets (masked lc_use word) → IsLc lc_use lc
+    → IsRsWord word → bits_of_octets (take 9 word) ≡ full_lc_bits lc → message ≡ bits_of_octets (masked lc_use word)
+        → IsLc lc_use lc
     message
 sealed_word lc_use lc word message fit long small is spelled written =
     let veil : List ℕ = masked lc_use word in
@@ -90,8 +91,8 @@ word_form lc_use sealed long = ap bits_of_octets (masked_twice lc_use (octets_of
     bits_of_octets-octets_of 12 sealed long
 
 -- the fields of the word that is found are those of the sealed form
-pub found_form : (lc_use : LcUse) (lc : FullLc) (sealed : List Bool) (corrected : Option (List ℕ)) (word : List ℕ) → IsFit lc →
-    field_bits lc ≡ bits_of_octets (take 9 word)
+pub found_form : (lc_use : LcUse) (lc : FullLc) (sealed : List Bool) (corrected : Option (List ℕ)) (word : List ℕ) → FitsFullLc lc →
+    full_lc_bits lc ≡ bits_of_octets (take 9 word)
     → corrected ≡ Some word → corrected ≡ Some (masked lc_use (octets_of 12 sealed)) → IsSealedLc lc_use sealed → IsLc lc_use lc
     sealed
 found_form lc_use lc sealed corrected word fit spelled found near is =
@@ -168,7 +169,7 @@ one_sealed_near lc_use a b message is too near close =
 
 -- what is read of a written form is what was written
 pub read_back : (lc_use : LcUse) (lc read : FullLc) (message bits : List Bool) → IsLc lc_use lc message → IsWritten message bits →
-    IsRead lc_use bits read → read ≡ lc
+    IsReadLc lc_use bits read → read ≡ lc
 read_back lc_use lc read message bits is written found =
     let same : found.message ≡ message = same_some found.message message (written_decoded message bits (Some found.message) written
     found.decoded) in

@@ -1,7 +1,7 @@
 //! The fields of a full link control, written and read.
 ghost use Rattle.std.specs.Prelude.{◌≡◌, ◌<◌};
 ghost use Rattle.dmr_bits.specs.Bits.{bits_of_octets};
-ghost use Rattle.dmr_link.specs.FullLc.{field_bits, IsFit};
+ghost use Rattle.dmr_link.specs.FullLc.{full_lc_bits, FitsFullLc};
 
 use dmr_bits::{Bits, Reader, Writer, read_fields, write_fields};
 
@@ -31,8 +31,8 @@ impl FullLc {
     /// The nine octets of the fields.
     pub fn octets(&self) -> [u8; 9]
         requires fits { self.now.flco < 64 }
-        ensures spelled { bits_of_octets result ≡ field_bits self.now }
-        ensures fit { IsFit self.now }
+        ensures spelled { bits_of_octets result ≡ full_lc_bits self.now }
+        ensures fit { FitsFullLc self.now }
     {
         let mut writer = Writer::<72>::new();
         lc_fields!(write_fields, writer, self);
@@ -41,8 +41,8 @@ impl FullLc {
 
     /// The fields that nine octets spell.
     pub fn from_octets(octets: &[u8; 9]) -> Self
-        ensures fields { field_bits result ≡ bits_of_octets octets.now }
-        ensures fit { IsFit result }
+        ensures fields { full_lc_bits result ≡ bits_of_octets octets.now }
+        ensures fit { FitsFullLc result }
     {
         let bits = Bits::<72>::from_octets(octets);
         let mut reader = Reader::<72>::new(&bits);

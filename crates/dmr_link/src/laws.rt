@@ -1,7 +1,7 @@
 //! Laws of the definition of a sealed link control, as the contracts of functions that do nothing.
 ghost use Rattle.std.specs.Prelude.{◌≡◌, List, Bool};
 ghost use Rattle.dmr_bptc.specs.ProductWord.{IsWritten};
-ghost use Rattle.dmr_link.specs.Sealed.{IsLc, IsRead};
+ghost use Rattle.dmr_link.specs.Sealed.{IsLc, IsReadLc};
 ghost use Rattle.dmr_link.specs.declared.full_lc.FullLc.{FullLc};
 ghost use Rattle.dmr_link.specs.declared.sealing.LcUse.{LcUse};
 
@@ -18,5 +18,5 @@ pub fn one_reading()
 /// What is read of the written form of a link control is that link control.
 pub fn what_is_written_is_read_back()
     ensures law { (lc_use : LcUse) (lc read : FullLc) (message bits : List Bool) → IsLc lc_use lc message
-        → IsWritten message bits → IsRead lc_use bits read → read ≡ lc }
+        → IsWritten message bits → IsReadLc lc_use bits read → read ≡ lc }
 {}

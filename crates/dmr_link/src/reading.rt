@@ -3,8 +3,8 @@ ghost use Rattle.std.specs.Prelude.{◌≡◌, ◌<◌, List, Bool, Ok, IfOk, If
 ghost use Rattle.dmr_bits.specs.Bits.{bits_of_octets};
 ghost use Rattle.dmr_bptc.specs.Decoding.{IsDamaged};
 ghost use Rattle.dmr_bptc.specs.ProductWord.{IsProductWord, information};
-ghost use Rattle.dmr_link.specs.FullLc.{field_bits, IsFit};
-ghost use Rattle.dmr_link.specs.Sealed.{IsSealedLc, IsLc, IsWithinOctet, IsRead, ShowsFault};
+ghost use Rattle.dmr_link.specs.FullLc.{full_lc_bits, FitsFullLc};
+ghost use Rattle.dmr_link.specs.Sealed.{IsSealedLc, IsLc, IsWithinOctet, IsReadLc, ShowsLcFault};
 ghost use Rattle.dmr_link.specs.declared.full_lc.FullLc.{FullLc};
 
 use crate::fault::LcFault;
@@ -17,9 +17,9 @@ use dmr_rs::rs_correct;
 /// The link control that the information of a data burst of type 1 or 2 holds. One wrong octet of its twelve is
 /// corrected, which is this project's own choice.
 pub fn lc_read(bits: &Bits<196>, lc_use: LcUse) -> Result<FullLc, LcFault>
-    ensures lc { IfOk result (λ lc. IsRead lc_use bits.now lc) }
-    ensures only { (lc : FullLc) → IsRead lc_use bits.now lc → result ≡ Ok lc }
-    ensures fault { IfErr result (λ e. ShowsFault lc_use e bits.now) }
+    ensures lc { IfOk result (λ lc. IsReadLc lc_use bits.now lc) }
+    ensures only { (lc : FullLc) → IsReadLc lc_use bits.now lc → result ≡ Ok lc }
+    ensures fault { IfErr result (λ e. ShowsLcFault lc_use e bits.now) }
     // Damage within the product code's reach is undone,
     ensures undone { (word : List Bool) → IsProductWord word → IsDamaged word bits.now → IsSealedLc lc_use (information word)
         → IsOkAnd result (λ lc. IsLc lc_use lc (information word)) }
@@ -38,8 +38,8 @@ pub fn lc_read(bits: &Bits<196>, lc_use: LcUse) -> Result<FullLc, LcFault>
 
 /// The fields that the first nine of twelve octets spell.
 fn fields_of(word: &[u8; 12]) -> FullLc
-    ensures fields { field_bits result ≡ bits_of_octets (take 9 word.now) }
-    ensures fit { IsFit result }
+    ensures fields { full_lc_bits result ≡ bits_of_octets (take 9 word.now) }
+    ensures fit { FitsFullLc result }
     ensures octets { All (λ octet. octet < 256) word.now }
 {
     let mut octets = [0; 9];

@@ -1,6 +1,6 @@
 //! The parity that seals a link control, under the mask of its use.
 ghost use Rattle.std.specs.Prelude.{◌≡◌, ◌<◌, ◌++◌, All};
-ghost use Rattle.dmr_link.specs.Sealed.{mask_of, masked, IsLc};
+ghost use Rattle.dmr_link.specs.Sealed.{parity_mask, masked, IsLc};
 
 use crate::full_lc::FullLc;
 use dmr_bits::Bits;
@@ -18,7 +18,7 @@ pub enum LcUse {
 impl LcUse {
     /// What is added to each octet of the parity.
     fn mask(self) -> u8
-        ensures value { result ≡ mask_of self }
+        ensures value { result ≡ parity_mask self }
     {
         match self {
             LcUse::Header => 0x96,

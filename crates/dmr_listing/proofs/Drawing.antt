@@ -5,10 +5,10 @@ use Rattle.std.proofs.Common.{append_assoc, eq-or-lt_of_le, ne_eqb}
 use Rattle.std.proofs.lemmas.List.{drop-append-le, drop_all, length-append, length-drop, length-map, length_push, map-append}
 use Rattle.std.proofs.lemmas.List.{take-append-le}
 use Rattle.std.specs.Io.KnownBytes.{Consumes}
-use Rattle.dmr_listing.specs.Entries.{place_of}
-use Rattle.dmr_listing.specs.Listings.{Gains, IsListed, Lists, Turn, begun, turn_after, turn_passed}
+use Rattle.dmr_listing.specs.Entries.{place_by_number}
+use Rattle.dmr_listing.specs.Listings.{Gains, IsListed, Lists, ListingTurn, begun, turn_after, turn_passed}
 use Rattle.dmr_listing.specs.Marks.{mark_of}
-use Rattle.dmr_listing.specs.Recordings.{IsSlotOf, Slot, spelling}
+use Rattle.dmr_listing.specs.Recordings.{IsSlotOf, RecordedSlot, spelling}
 use Rattle.dmr_listing.specs.Strips.{AreStrips, IsDrawn, IsGivenWhereFull, IsMarkAt, IsStripOf, IsStripped, Picture}
 use Rattle.dmr_listing.specs.Strips.{IsStrippedUpToStrip, has, marks_of, most_marks, pushed, pushed_in, shown, unless_empty}
 use Rattle.dmr_listing.specs.declared.burst_line.BurstLine.{BurstLine}
@@ -49,12 +49,12 @@ strip_more (first ∷ more) strip place mark (frame, marks) = rw marks (
 )
 
 -- the marks with that of a silent slot more
-marks_silent : (frames : Frames) (turn : Turn) (slots : List Slot) (lines : List BurstLine) (end : Turn)
+marks_silent : (frames : Frames) (turn : ListingTurn) (slots : List RecordedSlot) (lines : List BurstLine) (end : ListingTurn)
     → Lists turn slots lines end
     → marks_of frames turn.slots (slots ++ None ∷ []) lines
     ≡ marks_of frames turn.slots slots lines ++ shown frames end.slots Silence
 marks_silent frames turn [] lines end (none, same) =
-    append-nil (shown frames turn.slots Silence) ∙ ap (λ (t : Turn). shown frames t.slots Silence) (sym same)
+    append-nil (shown frames turn.slots Silence) ∙ ap (λ (t : ListingTurn). shown frames t.slots Silence) (sym same)
 marks_silent frames turn (None ∷ slots) lines end lists =
     ap (λ l. shown frames turn.slots Silence ++ l) (marks_silent frames (turn_passed turn) slots lines end lists)
     ∙ sym (append_assoc (shown frames turn.slots Silence) _ _)
@@ -64,12 +64,13 @@ marks_silent frames turn (Some b ∷ slots) (line ∷ lines) end (first, lists) 
     ∙ sym (append_assoc (shown frames turn.slots (mark_of line)) _ _)
 
 -- the marks with that of a burst more
-marks_burst : (frames : Frames) (turn : Turn) (slots : List Slot) (lines : List BurstLine) (end : Turn) (burst : RecordedBurst)
+marks_burst : (frames : Frames) (turn : ListingTurn) (slots : List RecordedSlot) (lines : List BurstLine) (end : ListingTurn)
+    (burst : RecordedBurst)
     (line : BurstLine) → Lists turn slots lines end
     → marks_of frames turn.slots (slots ++ Some burst ∷ []) (lines ++ line ∷ [])
     ≡ marks_of frames turn.slots slots lines ++ shown frames end.slots (mark_of line)
 marks_burst frames turn [] lines end burst line (none, same) = rw none (
-    append-nil (shown frames turn.slots (mark_of line)) ∙ ap (λ (t : Turn). shown frames t.slots (mark_of line)) (sym same)
+    append-nil (shown frames turn.slots (mark_of line)) ∙ ap (λ (t : ListingTurn). shown frames t.slots (mark_of line)) (sym same)
     )
 marks_burst frames turn (None ∷ slots) lines end burst line lists =
     ap (λ l. shown frames turn.slots Silence ++ l) (marks_burst frames (turn_passed turn) slots lines end burst line lists)
@@ -81,12 +82,14 @@ marks_burst frames turn (Some b ∷ slots) (one ∷ lines) end burst line (first
     ∙ sym (append_assoc (shown frames turn.slots (mark_of one)) _ _)
 
 -- What is read and drawn of a slot more.
-pub record IsOneMore (recording : Recording) (frames : Frames) (slots : List Slot) (lines : List BurstLine) (turn : Turn)
-    (slot : Slot) (mark : Mark) (end : Turn) (a c : Option (List ℕ)) : Type 0 where
+pub record IsOneMore (recording : Recording) (frames : Frames) (slots : List RecordedSlot) (lines : List BurstLine) (turn :
+    ListingTurn)
+    (slot : RecordedSlot) (mark : Mark) (end : ListingTurn) (a c : Option (List ℕ)) : Type 0 where
   pub listed : IsListed recording (slots ++ slot ∷ []) [] end a c None None
   pub marks : marks_of frames 0 (slots ++ slot ∷ []) listed.lines ≡ marks_of frames 0 slots lines ++ shown frames turn.slots mark
 
-pub one_more : (recording : Recording) (frames : Frames) (slots : List Slot) (turn : Turn) (slot : Slot) (mark : Mark) (end : Turn)
+pub one_more : (recording : Recording) (frames : Frames) (slots : List RecordedSlot) (turn : ListingTurn) (slot : RecordedSlot)
+    (mark : Mark) (end : ListingTurn)
     (a b c : Option (List ℕ)) (listed : IsListed recording slots [] turn a b None None) → IsSlotOf recording slot
     → Consumes b c (spelling recording slot) → IsMarkAt turn slot mark end
     → IsOneMore recording frames slots listed.lines turn slot mark end a c
@@ -134,10 +137,11 @@ drawn_none recording frames left strip given none = record {
 }
 
 -- a slot more was read, and its mark went to the strip that waits
-pub drawn_pushed : (recording : Recording) (frames : Frames) (slots : List Slot) (turn : Turn) (slot : Slot) (mark : Mark)
-    (end : Turn) (place : Place) (a b c : Option (List ℕ)) (strip : Picture) (d e : Option (List Picture))
+pub drawn_pushed : (recording : Recording) (frames : Frames) (slots : List RecordedSlot) (turn : ListingTurn) (slot : RecordedSlot)
+    (mark : Mark)
+    (end : ListingTurn) (place : Place) (a b c : Option (List ℕ)) (strip : Picture) (d e : Option (List Picture))
     → IsDrawn recording frames slots [] turn a b strip d e → length strip.marks < most_marks → IsSlotOf recording slot
-    → Consumes b c (spelling recording slot) → IsMarkAt turn slot mark end → place ≡ place_of turn.slots
+    → Consumes b c (spelling recording slot) → IsMarkAt turn slot mark end → place ≡ place_by_number turn.slots
     → IsDrawn recording frames (slots ++ slot ∷ []) [] end a c (pushed_in frames place mark strip) d e
 drawn_pushed recording frames slots turn slot mark end place a b c strip d e drawn room is_slot read marked at =
     let more = one_more recording frames slots turn slot mark end a b c drawn.listed is_slot read marked in
@@ -156,19 +160,20 @@ drawn_pushed recording frames slots turn slot mark end place a b c strip d e dra
         room,
         strip_long drawn.rest strip drawn.waits,
         length-append drawn.rest next,
-        few_shown is_shown (place_of
+        few_shown is_shown (place_by_number
             turn.slots) mark,
       );
-      waits = strip_shown is_shown drawn.rest strip (place_of turn.slots) mark drawn.waits;
+      waits = strip_shown is_shown drawn.rest strip (place_by_number turn.slots) mark drawn.waits;
       given = drawn.given;
     })
 
-pub turn_later : (turn : Turn) (slot : Slot) (mark : Mark) (end : Turn) → IsMarkAt turn slot mark end → end.slots ≡ turn.slots + 1
-turn_later turn None mark end (silent, later) = ap (λ (t : Turn). t.slots) later
-turn_later turn (Some burst) mark end (line, at, same, later) = ap (λ (t : Turn). t.slots) later
+pub turn_later : (turn : ListingTurn) (slot : RecordedSlot) (mark : Mark) (end : ListingTurn) → IsMarkAt turn slot mark end
+    → end.slots ≡ turn.slots + 1
+turn_later turn None mark end (silent, later) = ap (λ (t : ListingTurn). t.slots) later
+turn_later turn (Some burst) mark end (line, at, same, later) = ap (λ (t : ListingTurn). t.slots) later
 
 -- the strip that waited was given, and another one waits
-drawn_full : (recording : Recording) (frames : Frames) (slots : List Slot) (turn : Turn) (a b : Option (List ℕ))
+drawn_full : (recording : Recording) (frames : Frames) (slots : List RecordedSlot) (turn : ListingTurn) (a b : Option (List ℕ))
     (strip waiting : Picture) (d e f : Option (List Picture)) → IsDrawn recording frames slots [] turn a b strip d e
     → length strip.marks ≡ most_marks → waiting.marks ≡ [] → Gains e f (strip ∷ [])
     → IsDrawn recording frames slots [] turn a b waiting d f
@@ -188,7 +193,7 @@ drawn_full recording frames slots turn a b strip waiting d e f drawn full none g
       given = Gains-trans d e f drawn.strips (strip ∷ []) drawn.given given;
     }
 
-drawn_waits : (recording : Recording) (frames : Frames) (slots : List Slot) (turn : Turn) (a b : Option (List ℕ))
+drawn_waits : (recording : Recording) (frames : Frames) (slots : List RecordedSlot) (turn : ListingTurn) (a b : Option (List ℕ))
     (strip waiting : Picture) (d e f : Option (List Picture)) → IsDrawn recording frames slots [] turn a b strip d e
     → waiting ≡ strip → Gains e f [] → IsDrawn recording frames slots [] turn a b waiting d f
 drawn_waits recording frames slots turn a b strip waiting d e f drawn same given = rw same (record {
@@ -205,7 +210,7 @@ drawn_waits recording frames slots turn a b strip waiting d e f drawn same given
 })
 
 -- the strip that waits was given where it is full
-pub drawn_given : (recording : Recording) (frames : Frames) (slots : List Slot) (turn : Turn) (a b : Option (List ℕ))
+pub drawn_given : (recording : Recording) (frames : Frames) (slots : List RecordedSlot) (turn : ListingTurn) (a b : Option (List ℕ))
     (strip waiting : Picture) (d e f : Option (List Picture)) → IsDrawn recording frames slots [] turn a b strip d e
     → IsGivenWhereFull strip waiting e f → IsDrawn recording frames slots [] turn a b waiting d f
 drawn_given recording frames slots turn a b strip waiting d e f drawn given =
@@ -242,7 +247,7 @@ finished full (first ∷ more) strips strip d e f drawn whole few (frame, marks)
 }
 
 -- some octets more, and no mark
-pub drawn_part : (recording : Recording) (frames : Frames) (slots : List Slot) (part : List ℕ) (turn : Turn)
+pub drawn_part : (recording : Recording) (frames : Frames) (slots : List RecordedSlot) (part : List ℕ) (turn : ListingTurn)
     (a b c : Option (List ℕ)) (strip : Picture) (d e : Option (List Picture)) → IsDrawn recording frames slots [] turn a b strip d e
     → Consumes b c part → IsDrawn recording frames slots part turn a c strip d e
 unfolding listed_part
@@ -259,7 +264,8 @@ drawn_part recording frames slots part turn a b c strip d e drawn read = record 
   given = drawn.given;
 }
 
-pub stripped : (recording : Recording) (frames : Frames) (slots : List Slot) (part : List ℕ) (turn : Turn) (a b : Option (List ℕ))
+pub stripped : (recording : Recording) (frames : Frames) (slots : List RecordedSlot) (part : List ℕ) (turn : ListingTurn) (a b :
+    Option (List ℕ))
     (strip : Picture) (d e f : Option (List Picture)) → IsDrawn recording frames slots part turn a b strip d e
     → Gains e f (unless_empty strip) → IsStripped recording frames slots part turn a b d f
 stripped recording frames slots part turn a b strip d e f drawn last =
@@ -273,7 +279,8 @@ stripped recording frames slots part turn a b strip d e f drawn last =
     }
 
 -- the strip that waits could not be given
-pub stripped_up_to_strip : (recording : Recording) (frames : Frames) (slots : List Slot) (part : List ℕ) (turn : Turn)
+pub stripped_up_to_strip : (recording : Recording) (frames : Frames) (slots : List RecordedSlot) (part : List ℕ) (turn :
+    ListingTurn)
     (a b : Option (List ℕ)) (strip : Picture) (d e f : Option (List Picture))
     → IsDrawn recording frames slots part turn a b strip d e → 0 < length strip.marks → Gains e f []
     → IsStrippedUpToStrip recording frames a b d f
@@ -293,7 +300,8 @@ stripped_up_to_strip recording frames slots part turn a b strip d e f drawn some
     }
 
 -- the strip that waits is full, and could not be given
-pub full_up_to_strip : (recording : Recording) (frames : Frames) (slots : List Slot) (turn : Turn) (a b : Option (List ℕ))
+pub full_up_to_strip : (recording : Recording) (frames : Frames) (slots : List RecordedSlot) (turn : ListingTurn) (a b : Option
+    (List ℕ))
     (strip waiting : Picture) (d e f : Option (List Picture)) → IsDrawn recording frames slots [] turn a b strip d e
     → (length strip.marks ≡ most_marks) × (waiting ≡ strip) × Gains e f [] → IsStrippedUpToStrip recording frames a b d f
 full_up_to_strip recording frames slots turn a b strip waiting d e f drawn (full, same, given) =

@@ -6,19 +6,19 @@ use Rattle.std.proofs.lemmas.List.{length-append}
 use Rattle.std.proofs.lemmas.List.Concat.{flat_map-append}
 use Rattle.std.specs.Io.KnownBytes.{Consumes}
 use Rattle.std.proofs.KnownBytes.{Consumes-trans, Consumes-nil}
-use Rattle.dmr_record.specs.Outgoing.{AreInOrder, IsSending, Keeps, Sending, sending_octets, sending_of, sendings_octets}
+use Rattle.dmr_record.specs.Outgoing.{AreInFrameOrder, IsSending, Keeps, Sending, sending_octets, sending_of, sendings_octets}
 use Rattle.dmr_record.specs.declared.outgoing.Outgoing.{Outgoing}
 use Rattle.dmr_listing.specs.Entries.{octet_behind}
 use Rattle.dmr_listing.specs.Listings.{Gains}
-use Rattle.dmr_listing.specs.OutgoingListings.{AreReadOf, IsListed, IsReadOf, last_frame}
+use Rattle.dmr_listing.specs.OutgoingListings.{AreReadOf, IsListed, IsReadOf, frame_of_last}
 use Rattle.dmr_listing.proofs.Listings.{Gains-none, Gains-trans}
 
-order_more : (last : ℕ) (sendings : List Sending) (next : Sending) → AreInOrder last sendings
-    → last_frame last sendings ≤ next.frame → AreInOrder last (sendings ++ next ∷ [])
+order_more : (last : ℕ) (sendings : List Sending) (next : Sending) → AreInFrameOrder last sendings
+    → frame_of_last last sendings ≤ next.frame → AreInFrameOrder last (sendings ++ next ∷ [])
 order_more last [] next order behind = (behind, tt)
 order_more last (s ∷ ss) next (first, rest) behind = (first, order_more s.frame ss next rest behind)
 
-pub last_more : (last : ℕ) (sendings : List Sending) (next : Sending) → last_frame last (sendings ++ next ∷ []) ≡ next.frame
+pub last_more : (last : ℕ) (sendings : List Sending) (next : Sending) → frame_of_last last (sendings ++ next ∷ []) ≡ next.frame
 last_more last [] next = refl
 last_more last (s ∷ ss) next = last_more s.frame ss next
 
@@ -40,7 +40,7 @@ outgoing_none left given = record {
 
 pub outgoing_more : (sendings : List Sending) (datagram : List ℕ) (read : Outgoing) (a b c : Option (List ℕ))
     (d e f : Option (List Outgoing)) → IsListed sendings [] a b d e → Keeps read datagram → IsSending (sending_of read datagram)
-    → last_frame 0 sendings ≤ read.frame → Consumes b c (sending_octets (sending_of read datagram)) → Gains e f (read ∷ [])
+    → frame_of_last 0 sendings ≤ read.frame → Consumes b c (sending_octets (sending_of read datagram)) → Gains e f (read ∷ [])
     → IsListed (sendings ++ sending_of read datagram ∷ []) [] a c d f
 outgoing_more sendings datagram read a b c d e f listed keeps is_sending behind took given =
     let next = sending_of read datagram in

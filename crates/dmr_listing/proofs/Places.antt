@@ -3,7 +3,7 @@ use Rattle.std.proofs.Common.{◌≡◌, ℕ, zero, suc, ◌<◌, List, [], ◌�
 use Rattle.std.proofs.Common.{ap, ◌∙◌, arith}
 use Rattle.dmr_listing.specs.declared.voice_place.VoicePlace.{VoicePlace}
 use Rattle.dmr_listing.specs.declared.voice_place.VoicePlace.TheVariants.{A, B, C, D, E, F}
-use Rattle.dmr_listing.specs.VoicePlace.{following, place_after, place_of, IsVoiceSync, IsWithin, StandsIn}
+use Rattle.dmr_listing.specs.VoicePlace.{following, place_after, voice_place_of, IsVoiceSync, IsWithin, StandsIn}
 use Rattle.dmr_report.specs.declared.reading.Reading.{Reading}
 use Rattle.dmr_report.specs.declared.reading.Reading.TheVariants.{VoiceSync, Voice, Unreadable}
 
@@ -68,23 +68,27 @@ told_later None place reading earlier e within stands = absurd (cc)
 told_later (Some before) place reading earlier e within stands = stands_later before place reading earlier e within (stands before
     refl)
 
-pub place_told : (readings : List (Option Reading)) (place : VoicePlace) → place_of readings ≡ Some place → StandsIn place readings
+pub place_told : (readings : List (Option Reading)) (place : VoicePlace) → voice_place_of readings ≡ Some place
+    → StandsIn place readings
 place_told [] place e = absurd (cc)
-place_told (None ∷ earlier) place e = told_later (place_of earlier) place None earlier e tt (place_told earlier)
-place_told (Some (Voice emb) ∷ earlier) place e = told_later (place_of earlier) place (Some (Voice emb)) earlier e tt (place_told
+place_told (None ∷ earlier) place e = told_later (voice_place_of earlier) place None earlier e tt (place_told earlier)
+place_told (Some (Voice emb) ∷ earlier) place e = told_later (voice_place_of earlier) place (Some (Voice emb)) earlier e tt
+    (place_told
     earlier)
-place_told (Some Unreadable ∷ earlier) place e = told_later (place_of earlier) place (Some Unreadable) earlier e tt (place_told
+place_told (Some Unreadable ∷ earlier) place e = told_later (voice_place_of earlier) place (Some Unreadable) earlier e tt
+    (place_told
     earlier)
 place_told (Some (VoiceSync side) ∷ earlier) A e = record { begins = tt; since = λ frame below. absurd (omega arith) }
 place_told (reading ∷ earlier) place e = absurd (cc)
 
 behind_told : (before place : VoicePlace) (reading : Option Reading) (earlier : List (Option Reading)) → following before ≡ Some
     place
-    → IsWithin reading → place_of earlier ≡ Some before → place_of (reading ∷ earlier) ≡ Some place
+    → IsWithin reading → voice_place_of earlier ≡ Some before → voice_place_of (reading ∷ earlier) ≡ Some place
 behind_told before place reading earlier e within told =
-    after_within (place_of earlier) reading within ∙ ap (λ (b : Option VoicePlace). option_and_then following b) told ∙ e
+    after_within (voice_place_of earlier) reading within ∙ ap (λ (b : Option VoicePlace). option_and_then following b) told ∙ e
 
-pub place_stands : (readings : List (Option Reading)) (place : VoicePlace) → StandsIn place readings → place_of readings ≡ Some
+pub place_stands : (readings : List (Option Reading)) (place : VoicePlace) → StandsIn place readings
+    → voice_place_of readings ≡ Some
     place
 place_stands [] A stands = absurd stands.begins
 place_stands [] B stands = absurd stands.begins
@@ -92,7 +96,7 @@ place_stands [] C stands = absurd stands.begins
 place_stands [] D stands = absurd stands.begins
 place_stands [] E stands = absurd stands.begins
 place_stands [] F stands = absurd stands.begins
-place_stands (r ∷ rs) A stands = after_sync (place_of rs) r stands.begins
+place_stands (r ∷ rs) A stands = after_sync (voice_place_of rs) r stands.begins
 place_stands (r ∷ rs) B stands =
     behind_told A B r rs refl (stands.since 0 (omega arith)) (place_stands rs A (record {
       begins = stands.begins;

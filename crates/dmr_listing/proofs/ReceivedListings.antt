@@ -6,27 +6,28 @@ use Rattle.std.proofs.lemmas.List.{length-append}
 use Rattle.std.proofs.lemmas.List.Concat.{flat_map-append}
 use Rattle.std.specs.Io.KnownBytes.{Consumes}
 use Rattle.std.proofs.KnownBytes.{Consumes-trans, Consumes-nil}
-use Rattle.dmr_record.specs.Received.{AreInOrder, Fields, Follows, IsReadable, Receipt, fields_of, receipt_octets, receipts_octets}
+use Rattle.dmr_record.specs.Received.{FollowEachOther, ReceivedFields, Follows, IsReadable, Receipt, received_fields}
+use Rattle.dmr_record.specs.Received.{receipt_octets, receipts_octets}
 use Rattle.dmr_listing.specs.Entries.{octet_behind}
 use Rattle.dmr_listing.specs.Listings.{Gains}
 use Rattle.dmr_listing.specs.ReceivedListings.{IsListed, last_fields}
 use Rattle.dmr_listing.proofs.Listings.{Gains-none, Gains-trans}
 
-order_more : (last : Option Fields) (receipts : List Receipt) (next : Receipt) → AreInOrder last receipts
-    → Follows (last_fields last receipts) (fields_of next) → AreInOrder last (receipts ++ next ∷ [])
+order_more : (last : Option ReceivedFields) (receipts : List Receipt) (next : Receipt) → FollowEachOther last receipts
+    → Follows (last_fields last receipts) (received_fields next) → FollowEachOther last (receipts ++ next ∷ [])
 order_more last [] next order follows = (follows, tt)
-order_more last (r ∷ rs) next (first, rest) follows = (first, order_more (Some (fields_of r)) rs next rest follows)
+order_more last (r ∷ rs) next (first, rest) follows = (first, order_more (Some (received_fields r)) rs next rest follows)
 
-pub last_more : (last : Option Fields) (receipts : List Receipt) (next : Receipt) → last_fields last (receipts ++ next ∷ [])
-    ≡ Some (fields_of next)
+pub last_more : (last : Option ReceivedFields) (receipts : List Receipt) (next : Receipt) → last_fields last (receipts ++ next ∷ [])
+    ≡ Some (received_fields next)
 last_more last [] next = refl
-last_more last (r ∷ rs) next = last_more (Some (fields_of r)) rs next
+last_more last (r ∷ rs) next = last_more (Some (received_fields r)) rs next
 
 pub received_none : (left : Option (List ℕ)) (given : Option (List Receipt)) → IsListed [] [] left left given given
 received_none left given = record { each = tt; order = tt; octets = Consumes-nil left; given = Gains-none given }
 
 pub received_more : (receipts : List Receipt) (next : Receipt) (a b c : Option (List ℕ)) (d e f : Option (List Receipt))
-    → IsListed receipts [] a b d e → IsReadable next → Follows (last_fields None receipts) (fields_of next)
+    → IsListed receipts [] a b d e → IsReadable next → Follows (last_fields None receipts) (received_fields next)
     → Consumes b c (receipt_octets next) → Gains e f (next ∷ []) → IsListed (receipts ++ next ∷ []) [] a c d f
 received_more receipts next a b c d e f listed readable follows took given =
     let one : receipts_octets (receipts ++ next ∷ []) ≡ receipts_octets receipts ++ receipt_octets next =

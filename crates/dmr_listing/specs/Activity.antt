@@ -14,6 +14,6 @@ pub record IsBusy (bits : List Bool) : Type 0 where
   pub at : slice_index_or word 0 false ≡ true
 
 -- The CACH with these bits announces busy where the Hamming word within one bit of its TACT has AT set, and else free.
-abbrev pub IsActivity : List Bool → Activity → Type 0
-IsActivity bits Busy = IsBusy bits
-IsActivity bits Free = IsBusy bits → ⊥
+abbrev pub AnnouncesActivity : List Bool → Activity → Type 0
+AnnouncesActivity bits Busy = IsBusy bits
+AnnouncesActivity bits Free = IsBusy bits → ⊥

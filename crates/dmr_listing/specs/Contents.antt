@@ -22,32 +22,32 @@ AreOctetsOf bits octets = IsDecoded bits (Some (bits_of_octets octets))
 
 -- a link control that is sealed for its use, or octets that aren't
 abbrev pub HoldsLinkControl : LcUse → List Bool → Contents → Type 0
-HoldsLinkControl lc_use bits (LinkControl lc) = link.IsRead lc_use bits lc
-HoldsLinkControl lc_use bits (Unsealed octets) = AreOctetsOf bits octets × link.ShowsFault lc_use link_fault.Parity bits
+HoldsLinkControl lc_use bits (LinkControl lc) = link.IsReadLc lc_use bits lc
+HoldsLinkControl lc_use bits (Unsealed octets) = AreOctetsOf bits octets × link.ShowsLcFault lc_use link_fault.Parity bits
 HoldsLinkControl lc_use bits Unreadable = IsDecoded bits None
 HoldsLinkControl lc_use bits contents = ⊥
 
 -- a control signalling block that is sealed, or octets that aren't
 abbrev pub HoldsControlBlock : List Bool → Contents → Type 0
 HoldsControlBlock bits (ControlBlock csbk) =
-    (message : List Bool) × IsDecoded bits (Some message) × block.IsBlock csbk message
-HoldsControlBlock bits (Unsealed octets) = AreOctetsOf bits octets × block.ShowsFault block_fault.Crc bits
+    (message : List Bool) × IsDecoded bits (Some message) × block.IsCsbk csbk message
+HoldsControlBlock bits (Unsealed octets) = AreOctetsOf bits octets × block.ShowsCsbkFault block_fault.Crc bits
 HoldsControlBlock bits Unreadable = IsDecoded bits None
 HoldsControlBlock bits contents = ⊥
 
 -- a data header that is sealed, one of another format, or octets that aren't sealed
 abbrev pub HoldsDataHeader : List Bool → Contents → Type 0
-HoldsDataHeader bits (DataHeader h) = header.IsRead bits h
-HoldsDataHeader bits (OtherFormat octets) = AreOctetsOf bits octets × header.ShowsFault header_fault.Format bits
-HoldsDataHeader bits (Unsealed octets) = AreOctetsOf bits octets × header.ShowsFault header_fault.Crc bits
+HoldsDataHeader bits (DataHeader h) = header.IsReadHeader bits h
+HoldsDataHeader bits (OtherFormat octets) = AreOctetsOf bits octets × header.ShowsHeaderFault header_fault.Format bits
+HoldsDataHeader bits (Unsealed octets) = AreOctetsOf bits octets × header.ShowsHeaderFault header_fault.Crc bits
 HoldsDataHeader bits Unreadable = IsDecoded bits None
 HoldsDataHeader bits contents = ⊥
 
 -- anything, which isn't told
-abbrev pub HoldsNothing : List Bool → Contents → Type 0
-HoldsNothing bits Idle = (message : List Bool) × IsDecoded bits (Some message)
-HoldsNothing bits Unreadable = IsDecoded bits None
-HoldsNothing bits contents = ⊥
+abbrev pub HoldsUntold : List Bool → Contents → Type 0
+HoldsUntold bits Idle = (message : List Bool) × IsDecoded bits (Some message)
+HoldsUntold bits Unreadable = IsDecoded bits None
+HoldsUntold bits contents = ⊥
 
 -- twelve octets as they are
 abbrev pub HoldsOctets : List Bool → Contents → Type 0
@@ -65,11 +65,11 @@ pub record IsOther (kind : ℕ) : Type 0 where
   pub idle : kind ≢ data_type.idle
 
 -- What the information of a data burst of a type holds.
-pub record Holds (kind : ℕ) (bits : List Bool) (contents : Contents) : Type 0 where
+pub record HoldsContents (kind : ℕ) (bits : List Bool) (contents : Contents) : Type 0 where
   pub voice_header : kind ≡ data_type.voice_lc_header → HoldsLinkControl Header bits contents
   pub terminator : kind ≡ data_type.terminator_with_lc → HoldsLinkControl Terminator bits contents
   pub control_block : kind ≡ data_type.csbk → HoldsControlBlock bits contents
   pub data_header : kind ≡ data_type.data_header → HoldsDataHeader bits contents
-  pub idle : kind ≡ data_type.idle → HoldsNothing bits contents
+  pub idle : kind ≡ data_type.idle → HoldsUntold bits contents
   pub other : IsOther kind → HoldsOctets bits contents
   pub uncoded : is_coded kind ≡ false → contents ≡ AsReceived

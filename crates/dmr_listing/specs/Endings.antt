@@ -9,6 +9,6 @@ IfFile (File fault) Holds = Holds fault
 IfFile Output Holds = Unit {0}
 
 -- something holds where a line could not be given
-abbrev pub IfOutput : ListingEnd → Type 0 → Type 0
-IfOutput (File fault) holds = Unit {0}
-IfOutput Output holds = holds
+abbrev pub IfNotWritten : ListingEnd → Type 0 → Type 0
+IfNotWritten (File fault) holds = Unit {0}
+IfNotWritten Output holds = holds

@@ -13,7 +13,7 @@ pub record AreWhole (b c d e : Fragment) : Type 0 where
   pub last : e.lcss ≡ last_fragment
 
 -- What four frames carry: what is read from the fields of four bursts that say so, and else nothing.
-abbrev pub IsEmbedded : List (Option Fragment) → Option FullLc → Type 0
-IsEmbedded (Some b ∷ Some c ∷ Some d ∷ Some e ∷ []) lc =
+abbrev pub AreCarried : List (Option Fragment) → Option FullLc → Type 0
+AreCarried (Some b ∷ Some c ∷ Some d ∷ Some e ∷ []) lc =
     (AreWhole b c d e → IsReadFrom (b.field ∷ c.field ∷ d.field ∷ e.field ∷ []) lc) × ((AreWhole b c d e → ⊥) → lc ≡ None)
-IsEmbedded fragments lc = lc ≡ None
+AreCarried fragments lc = lc ≡ None

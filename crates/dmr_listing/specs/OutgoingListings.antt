@@ -2,7 +2,7 @@
 use Rattle.std.specs.Prelude.{◌≡◌, ℕ, List, [], ◌∷◌, ◌++◌, Option, None, length}
 use Rattle.std.specs.Io.KnownBytes.{Consumes}
 use Rattle.std.specs.List.{AllByRecursion}
-use Rattle.dmr_record.specs.Outgoing.{AreInOrder, IsSending, Keeps, Sending, ShowsOutgoingFault, sending_octets, sending_of}
+use Rattle.dmr_record.specs.Outgoing.{AreInFrameOrder, IsSending, Keeps, Sending, ShowsOutgoingFault, sending_octets, sending_of}
 use Rattle.dmr_record.specs.Outgoing.{sendings_octets}
 use Rattle.dmr_record.specs.declared.outgoing.Outgoing.{Outgoing}
 use Rattle.dmr_record.specs.declared.outgoing.TheConstants.{RECORD_LIMIT}
@@ -22,15 +22,15 @@ AreReadOf (sending ∷ sendings) [] = ⊥
 AreReadOf (sending ∷ sendings) (read ∷ reads) = IsReadOf sending read × AreReadOf sendings reads
 
 -- the frame of the last record, or this one of none
-abbrev pub last_frame : ℕ → List Sending → ℕ
-last_frame frame [] = frame
-last_frame frame (sending ∷ sendings) = last_frame sending.frame sendings
+abbrev pub frame_of_last : ℕ → List Sending → ℕ
+frame_of_last frame [] = frame
+frame_of_last frame (sending ∷ sendings) = frame_of_last sending.frame sendings
 
 -- These records of the list were read behind its head, and these octets of the next one, and the lines of the records given.
 pub record IsListed (sendings : List Sending) (part : List ℕ) (left_old left_new : Option (List ℕ))
     (given_old given_new : Option (List Outgoing)) : Type 0 where
   pub each : AllByRecursion IsSending sendings
-  pub order : AreInOrder 0 sendings
+  pub order : AreInFrameOrder 0 sendings
   pub octets : Consumes left_old left_new (sendings_octets sendings ++ part)
   pub reads : List Outgoing
   pub listed : AreReadOf sendings reads
@@ -42,7 +42,7 @@ pub record IsListedUpToFault (fault : FaultLine) (left_old left_new : Option (Li
   pub sendings : List Sending
   pub part : List ℕ
   pub before : IsListed sendings part left_old left_new given_old given_new
-  pub shown : ShowsOutgoingFault RECORD_LIMIT (length sendings) (last_frame 0 sendings) fault.fault part
+  pub shown : ShowsOutgoingFault RECORD_LIMIT (length sendings) (frame_of_last 0 sendings) fault.fault part
   pub octet : fault.octet ≡ octet_behind sending_octets sendings
   pub place : fault.place ≡ None
 

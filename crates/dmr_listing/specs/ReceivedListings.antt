@@ -2,22 +2,23 @@
 use Rattle.std.specs.Prelude.{◌≡◌, ℕ, List, [], ◌∷◌, ◌++◌, Option, Some, None, length}
 use Rattle.std.specs.Io.KnownBytes.{Consumes}
 use Rattle.std.specs.List.{AllByRecursion}
-use Rattle.dmr_record.specs.Received.{AreInOrder, Fields, IsReadable, Receipt, ShowsReceivedFault, fields_of, most_receipts}
+use Rattle.dmr_record.specs.Received.{FollowEachOther, ReceivedFields, IsReadable, Receipt, ShowsReceivedFault, received_fields}
+use Rattle.dmr_record.specs.Received.{most_receipts}
 use Rattle.dmr_record.specs.Received.{receipt_octets, receipts_octets}
 use Rattle.dmr_listing.specs.Entries.{octet_behind}
 use Rattle.dmr_listing.specs.Listings.{Gains}
 use Rattle.dmr_listing.specs.declared.fault_line.FaultLine.{FaultLine}
 
 -- the fields of the last record, or these of none
-abbrev pub last_fields : Option Fields → List Receipt → Option Fields
+abbrev pub last_fields : Option ReceivedFields → List Receipt → Option ReceivedFields
 last_fields last [] = last
-last_fields last (receipt ∷ receipts) = last_fields (Some (fields_of receipt)) receipts
+last_fields last (receipt ∷ receipts) = last_fields (Some (received_fields receipt)) receipts
 
 -- These records of the list were read behind its head, and these octets of the next one, and the lines of the records given.
 pub record IsListed (receipts : List Receipt) (part : List ℕ) (left_old left_new : Option (List ℕ))
     (given_old given_new : Option (List Receipt)) : Type 0 where
   pub each : AllByRecursion IsReadable receipts
-  pub order : AreInOrder None receipts
+  pub order : FollowEachOther None receipts
   pub octets : Consumes left_old left_new (receipts_octets receipts ++ part)
   pub given : Gains given_old given_new receipts
 

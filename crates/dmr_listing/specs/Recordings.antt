@@ -8,8 +8,8 @@ use Rattle.dmr_listing.specs.declared.recording.Recording.{Recording}
 use Rattle.dmr_listing.specs.declared.recording.Recording.TheVariants.{Uplink, Downlink}
 
 -- Silence, or a burst.
-abbrev pub Slot : Type 0
-Slot = Option RecordedBurst
+abbrev pub RecordedSlot : Type 0
+RecordedSlot = Option RecordedBurst
 
 -- a burst of the uplink has no CACH, and one of the downlink has one
 abbrev pub IsBurstOf : Recording → RecordedBurst → Type 0
@@ -17,12 +17,12 @@ IsBurstOf Uplink b = (b.cach ≡ None) × (length b.burst ≡ 33)
 IsBurstOf Downlink b = ((cach : List ℕ) × (b.cach ≡ Some cach) × (length cach ≡ 3)) × (length b.burst ≡ 33)
 
 -- A slot of this recording is silence, or a burst of it.
-abbrev pub IsSlotOf : Recording → Slot → Type 0
+abbrev pub IsSlotOf : Recording → RecordedSlot → Type 0
 IsSlotOf recording None = Unit {0}
 IsSlotOf recording (Some b) = IsBurstOf recording b
 
 -- the octets of a slot, by the definitions of its file
-abbrev pub spelling : Recording → Slot → List ℕ
+abbrev pub spelling : Recording → RecordedSlot → List ℕ
 spelling Uplink None = slot_octets None
 spelling Uplink (Some b) = slot_octets (Some b.burst)
 spelling Downlink None = sent_octets None

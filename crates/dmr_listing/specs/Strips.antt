@@ -1,10 +1,10 @@
 -- What strips show of a recording: what stands in each slot, frame by frame, and each once.
 use Rattle.std.specs.Prelude.{◌≡◌, ◌==◌, ℕ, ◌+◌, ◌*◌, ◌/◌, ◌≤◌, ◌<◌, ◌&&◌, Bool, List, [], ◌∷◌, ◌++◌, Option, Some, None, take}
 use Rattle.std.specs.Prelude.{length, map, drop, nat_le, if◌then◌else◌}
-use Rattle.dmr_listing.specs.Entries.{octet_behind, place_of}
-use Rattle.dmr_listing.specs.Listings.{Gains, IsLineAt, IsListed, Turn, turn_after, turn_passed}
+use Rattle.dmr_listing.specs.Entries.{octet_behind, place_by_number}
+use Rattle.dmr_listing.specs.Listings.{Gains, IsLineAt, IsListed, ListingTurn, turn_after, turn_passed}
 use Rattle.dmr_listing.specs.Marks.{mark_of}
-use Rattle.dmr_listing.specs.Recordings.{ShowsSlotFaultOf, Slot, spelling}
+use Rattle.dmr_listing.specs.Recordings.{ShowsSlotFaultOf, RecordedSlot, spelling}
 use Rattle.dmr_listing.specs.declared.burst_line.BurstLine.{BurstLine}
 use Rattle.dmr_listing.specs.declared.fault_line.FaultLine.{FaultLine}
 use Rattle.dmr_listing.specs.declared.frames.Frames.{Frames}
@@ -27,18 +27,18 @@ abbrev pub has : Frames → ℕ → Bool
 has frames frame = nat_le frames.first frame && nat_le frame frames.last
 
 -- The mark of the next slot: silence, or that of the line that its burst has there.
-abbrev pub IsMarkAt : Turn → Slot → Mark → Turn → Type 0
+abbrev pub IsMarkAt : ListingTurn → RecordedSlot → Mark → ListingTurn → Type 0
 IsMarkAt turn None mark end = (mark ≡ Silence) × (end ≡ turn_passed turn)
 IsMarkAt turn (Some burst) mark end =
     (line : BurstLine) × IsLineAt turn burst line × (mark ≡ mark_of line) × (end ≡ turn_after line burst turn)
 
 -- the mark of the slot of this number with its place, where its frame is asked for
 abbrev pub shown : Frames → ℕ → Mark → List (Place × Mark)
-shown frames number mark = if has frames (number / 2) then (place_of number, mark) ∷ [] else []
+shown frames number mark = if has frames (number / 2) then (place_by_number number, mark) ∷ [] else []
 
 -- The marks of slots, whose bursts have these lines, from the slot of this number on: one for each slot whose frame is asked for,
 -- with its place.
-abbrev pub marks_of : Frames → ℕ → List Slot → List BurstLine → List (Place × Mark)
+abbrev pub marks_of : Frames → ℕ → List RecordedSlot → List BurstLine → List (Place × Mark)
 marks_of frames number [] lines = []
 marks_of frames number (None ∷ slots) lines = shown frames number Silence ++ marks_of frames (number + 1) slots lines
 marks_of frames number (Some burst ∷ slots) [] = []
@@ -58,14 +58,14 @@ AreStrips marks (strip ∷ strips) =
     (0 < length marks) × IsStripOf (take most_marks marks) strip × AreStrips (drop most_marks marks) strips
 
 -- the first frame of a strip that has these marks, behind the mark of a slot of the second frame
-abbrev pub first_frame : List Mark → ℕ → ℕ → ℕ
-first_frame [] before frame = frame
-first_frame (mark ∷ marks) before frame = before
+abbrev pub strip_frame : List Mark → ℕ → ℕ → ℕ
+strip_frame [] before frame = frame
+strip_frame (mark ∷ marks) before frame = before
 
 -- the strip with the mark of one slot more
 abbrev pub pushed : Place → Mark → Picture → Picture
 pushed place mark strip = record {
-  frame = first_frame strip.marks strip.frame place.frame;
+  frame = strip_frame strip.marks strip.frame place.frame;
   marks = strip.marks ++ mark ∷ [];
 }
 
@@ -83,7 +83,7 @@ pub record IsGivenWhereFull (strip waiting : Picture) (given_old given_new : Opt
   pub other : length strip.marks < most_marks → (waiting ≡ strip) × Gains given_old given_new []
 
 -- These slots of a recording were read behind its head, and these octets of the next one, and the strips of the slots were given.
-pub record IsStripped (recording : Recording) (frames : Frames) (slots : List Slot) (part : List ℕ) (end : Turn)
+pub record IsStripped (recording : Recording) (frames : Frames) (slots : List RecordedSlot) (part : List ℕ) (end : ListingTurn)
     (left_old left_new : Option (List ℕ)) (given_old given_new : Option (List Picture)) : Type 0 where
   pub listed : IsListed recording slots part end left_old left_new None None
   pub strips : List Picture
@@ -91,7 +91,7 @@ pub record IsStripped (recording : Recording) (frames : Frames) (slots : List Sl
   pub given : Gains given_old given_new strips
 
 -- They were read, and the strips that are full were given; one with the marks of the last slots waits.
-pub record IsDrawn (recording : Recording) (frames : Frames) (slots : List Slot) (part : List ℕ) (end : Turn)
+pub record IsDrawn (recording : Recording) (frames : Frames) (slots : List RecordedSlot) (part : List ℕ) (end : ListingTurn)
     (left_old left_new : Option (List ℕ)) (waiting : Picture) (given_old given_new : Option (List Picture)) : Type 0 where
   pub listed : IsListed recording slots part end left_old left_new None None
   pub full : List (Place × Mark)
@@ -108,20 +108,20 @@ pub record IsDrawn (recording : Recording) (frames : Frames) (slots : List Slot)
 -- that slot, and its octet the one at which the slot's record begins.
 pub record IsStrippedUpToFault (recording : Recording) (frames : Frames) (fault : FaultLine) (left_old left_new : Option (List ℕ))
     (given_old given_new : Option (List Picture)) : Type 0 where
-  pub slots : List Slot
+  pub slots : List RecordedSlot
   pub part : List ℕ
-  pub end : Turn
+  pub end : ListingTurn
   pub before : IsStripped recording frames slots part end left_old left_new given_old given_new
   pub shown : ShowsSlotFaultOf recording (length slots) fault.fault part
   pub octet : fault.octet ≡ octet_behind (spelling recording) slots
-  pub place : fault.place ≡ Some (place_of (length slots))
+  pub place : fault.place ≡ Some (place_by_number (length slots))
 
 -- The recording was read up to a slot, and of the strips of these slots all but the last, which could not be given, were given.
 pub record IsStrippedUpToStrip (recording : Recording) (frames : Frames) (left_old left_new : Option (List ℕ))
     (given_old given_new : Option (List Picture)) : Type 0 where
-  pub slots : List Slot
+  pub slots : List RecordedSlot
   pub part : List ℕ
-  pub end : Turn
+  pub end : ListingTurn
   pub listed : IsListed recording slots part end left_old left_new None None
   pub strips : List Picture
   pub last : Picture

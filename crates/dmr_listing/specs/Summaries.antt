@@ -19,8 +19,8 @@ abbrev pub none_counted : BurstCounts
 none_counted = record { slot_1 = 0; slot_2 = 0; unreadable = 0 }
 
 -- the counts with this line
-abbrev pub counted : BurstLine → BurstCounts → BurstCounts
-counted line counts = record {
+abbrev pub counted_line : BurstLine → BurstCounts → BurstCounts
+counted_line line counts = record {
   slot_1 = more (line.place.slot == 1) counts.slot_1;
   slot_2 = more (line.place.slot == 2) counts.slot_2;
   unreadable = more (is_unreadable line.reading) counts.unreadable;

@@ -22,9 +22,9 @@ place_after before (Some (Untyped side)) = None
 place_after before reading = option_and_then following before
 
 -- the place of the newest frame, by what all frames of a slot were read as, the newest first
-abbrev pub place_of : List (Option Reading) → Option VoicePlace
-place_of [] = None
-place_of (reading ∷ earlier) = place_after (place_of earlier) reading
+abbrev pub voice_place_of : List (Option Reading) → Option VoicePlace
+voice_place_of [] = None
+voice_place_of (reading ∷ earlier) = place_after (voice_place_of earlier) reading
 
 -- how many frames behind its voice sync a place stands
 abbrev pub frames_behind : VoicePlace → ℕ

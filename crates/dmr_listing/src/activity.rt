@@ -2,7 +2,7 @@
 ghost use Rattle.std.specs.Prelude.{◌≡◌};
 ghost use Rattle.dmr_bits.specs.Bits.{bits_of_octets};
 ghost use Rattle.dmr_burst.specs.Cach.{tact_field};
-ghost use Rattle.dmr_listing.specs.Activity.{IsActivity};
+ghost use Rattle.dmr_listing.specs.Activity.{AnnouncesActivity};
 
 use dmr_bits::{Bits, Writer};
 use dmr_codes::{BlockCode, Hamming7};
@@ -35,7 +35,7 @@ fn tact_bits(cach: &[u8; 3]) -> Bits<7>
 impl Activity {
     /// What a CACH announces, a wrong bit of the seven undone.
     pub(crate) fn of_cach(cach: &[u8; 3]) -> Activity
-        ensures read { IsActivity (bits_of_octets cach.now) result }
+        ensures read { AnnouncesActivity (bits_of_octets cach.now) result }
     {
         match Hamming7::decode(&tact_bits(cach)) {
             Some(word) if word.get(0) => Activity::Busy,

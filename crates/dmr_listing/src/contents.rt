@@ -3,7 +3,7 @@ ghost use Rattle.std.specs.Prelude.{◌≡◌, Some, true};
 ghost use Rattle.dmr_bits.specs.Bits.{bits_of_octets};
 ghost use Rattle.dmr_bptc.specs.Decoding.{IsDecoded};
 ghost use Rattle.dmr_burst.specs.Layout.{information_field};
-ghost use Rattle.dmr_listing.specs.Contents.{Holds, HoldsControlBlock, HoldsDataHeader, HoldsLinkControl};
+ghost use Rattle.dmr_listing.specs.Contents.{HoldsContents, HoldsControlBlock, HoldsDataHeader, HoldsLinkControl};
 ghost use Rattle.dmr_report.specs.Reading.{IsInformation, is_coded};
 
 use crate::control_block::ControlBlock;
@@ -82,7 +82,7 @@ fn data_header_of(received: &Bits<196>, message: &Bits<96>) -> Contents
 fn coded_contents(kind: u8, received: &Bits<196>, message: &Bits<96>) -> Contents
     requires coded { is_coded kind ≡ true }
     requires decoded { IsDecoded received.now (Some message.now) }
-    ensures holds { Holds kind received.now result }
+    ensures holds { HoldsContents kind received.now result }
 {
     match kind {
         data_type::VOICE_LC_HEADER => link_control_of(received, message, LcUse::Header),
@@ -97,7 +97,7 @@ fn coded_contents(kind: u8, received: &Bits<196>, message: &Bits<96>) -> Content
 /// What the information of a data burst of this type holds, where it is read as this.
 pub(crate) fn contents_of(kind: u8, burst: &[u8; 33], information: Information) -> Contents
     requires read { IsInformation kind (bits_of_octets burst.now) information }
-    ensures holds { Holds kind (information_field (bits_of_octets burst.now)) result }
+    ensures holds { HoldsContents kind (information_field (bits_of_octets burst.now)) result }
 {
     let received = read_information(burst);
     match information {

@@ -1,6 +1,6 @@
 //! What the newest frames of a slot carry of a link control.
 ghost use Rattle.std.specs.Prelude.{◌≡◌, ◌∷◌, ◌++◌, [], drop, None, replicate};
-ghost use Rattle.dmr_listing.specs.Fragments.{IsEmbedded};
+ghost use Rattle.dmr_listing.specs.Fragments.{AreCarried};
 
 use dmr_burst::lcss;
 use dmr_hearing::read_fields;
@@ -51,7 +51,7 @@ impl Fragments {
     /// The link control that the newest four frames carry, where they say that they carry one and it can be read.
     /// ETSI TS 102 361-1, clause 7.1.3.
     pub(crate) fn link_control(&self) -> Option<FullLc>
-        ensures carried { IsEmbedded self.now result }
+        ensures carried { AreCarried self.now result }
     {
         match self.newest {
             [Some(b), Some(c), Some(d), Some(e)]

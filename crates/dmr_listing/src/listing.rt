@@ -3,9 +3,9 @@ ghost use Rattle.std.specs.Prelude.{◌≡◌, ◌*◌, ◌∷◌, [], ℕ, Opti
 ghost use Rattle.std.specs.Io.KnownBytes.{IsAtEnd};
 ghost use Rattle.dmr_record.specs.Devices.{failed_after};
 ghost use Rattle.dmr_record.specs.Faults.{is_of_end, is_device_fault};
-ghost use Rattle.dmr_listing.specs.Endings.{IfFile, IfOutput};
-ghost use Rattle.dmr_listing.specs.Listings.{Gains, IsListed, IsListedUpToFault, IsListedUpToLine, Turn};
-ghost use Rattle.dmr_listing.specs.Recordings.{Slot};
+ghost use Rattle.dmr_listing.specs.Endings.{IfFile, IfNotWritten};
+ghost use Rattle.dmr_listing.specs.Listings.{Gains, IsListed, IsListedUpToFault, IsListedUpToLine, ListingTurn};
+ghost use Rattle.dmr_listing.specs.Recordings.{RecordedSlot};
 ghost use Rattle.dmr_listing.specs.declared.burst_line.BurstLine.{BurstLine as Line};
 
 use crate::burst_line::BurstLine;
@@ -57,7 +57,7 @@ pub fn list_recording<S: Source, L: BurstLines>(
     requires source { S.has_failed source.old ≡ false }
     requires lines { L.has_failed lines.old ≡ false }
     // All slots were read to the end, and their lines given.
-    ensures all { IfOk result (λ summary. (slots : List Slot) × (end : Turn)
+    ensures all { IfOk result (λ summary. (slots : List RecordedSlot) × (end : ListingTurn)
         × IsListed recording slots [] end (S.left source.old) (S.left source.new) (L.given lines.old) (L.given lines.new)
         × (2 * summary.frames ≡ length slots) × (summary.bursts ≡ end.bursts)) }
     ensures end { OnOk result (IsAtEnd (S.left source.new)) }
@@ -66,11 +66,11 @@ pub fn list_recording<S: Source, L: BurstLines>(
         (S.left source.old) (S.left source.new) (L.given lines.old) (L.given lines.new))) }
     ensures cut { IfErr result (λ e. IfFile e (λ fault. is_of_end fault.fault ≡ true → IsAtEnd (S.left source.new))) }
     // Or the slots before the one whose line could not be given.
-    ensures output { IfErr result (λ e. IfOutput e (IsListedUpToLine recording
+    ensures output { IfErr result (λ e. IfNotWritten e (IsListedUpToLine recording
         (S.left source.old) (S.left source.new) (L.given lines.old) (L.given lines.new))) }
     // `Read` is told exactly where the source failed, and `Output` where the lines did.
     ensures source { IfErr result (λ e. IfFile e (λ fault. S.has_failed source.new ≡ is_device_fault fault.fault)) }
-    ensures lines { IfErr result (λ e. IfOutput e (L.has_failed lines.new ≡ true)) }
+    ensures lines { IfErr result (λ e. IfNotWritten e (L.has_failed lines.new ≡ true)) }
     ensures others { IfErr result (λ e. IfFile e (λ fault. L.has_failed lines.new ≡ false)) }
     ensures well { OnOk result ((S.has_failed source.new ≡ false) × (L.has_failed lines.new ≡ false)) }
     ensures kept { L.kept lines.new ≡ L.kept lines.old }

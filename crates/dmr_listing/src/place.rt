@@ -1,6 +1,6 @@
 //! Where a burst or a record stands in time.
 ghost use Rattle.std.specs.Prelude.{◌≡◌};
-ghost use Rattle.dmr_listing.specs.Entries.{milliseconds, place_of};
+ghost use Rattle.dmr_listing.specs.Entries.{milliseconds, place_by_number};
 
 use arrayvec::ArrayString;
 use std::fmt;
@@ -24,7 +24,7 @@ const SLOT_MILLISECONDS: u64 = 30;
 impl Place {
     /// The slot of this number among the slots of a recording, from 0 on: slot 1 and slot 2 of the first frame, and so on.
     pub fn of_slot(number: u32) -> Place
-        ensures value { result ≡ place_of number }
+        ensures value { result ≡ place_by_number number }
     {
         Place {
             frame: number / 2,

@@ -4,7 +4,7 @@ ghost use Rattle.std.specs.Io.KnownBytes.{IsAtEnd};
 ghost use Rattle.dmr_record.specs.Devices.{failed_after};
 ghost use Rattle.dmr_record.specs.Faults.{is_of_end, is_device_fault};
 ghost use Rattle.dmr_record.specs.Received.{Receipt, receipt_of};
-ghost use Rattle.dmr_listing.specs.Endings.{IfFile, IfOutput};
+ghost use Rattle.dmr_listing.specs.Endings.{IfFile, IfNotWritten};
 ghost use Rattle.dmr_listing.specs.Listings.{Gains};
 ghost use Rattle.dmr_listing.specs.ReceivedListings.{IsListed, IsListedUpToFault, IsListedUpToLine};
 
@@ -55,11 +55,11 @@ pub fn list_received<S: Source, L: ReceivedLines>(
         (S.left source.old) (S.left source.new) (L.given lines.old) (L.given lines.new))) }
     ensures cut { IfErr result (λ e. IfFile e (λ fault. is_of_end fault.fault ≡ true → IsAtEnd (S.left source.new))) }
     // Or the records before the one whose line could not be given.
-    ensures output { IfErr result (λ e. IfOutput e (IsListedUpToLine
+    ensures output { IfErr result (λ e. IfNotWritten e (IsListedUpToLine
         (S.left source.old) (S.left source.new) (L.given lines.old) (L.given lines.new))) }
     // `Read` is told exactly where the source failed, and `Output` where the lines did.
     ensures source { IfErr result (λ e. IfFile e (λ fault. S.has_failed source.new ≡ is_device_fault fault.fault)) }
-    ensures lines { IfErr result (λ e. IfOutput e (L.has_failed lines.new ≡ true)) }
+    ensures lines { IfErr result (λ e. IfNotWritten e (L.has_failed lines.new ≡ true)) }
     ensures others { IfErr result (λ e. IfFile e (λ fault. L.has_failed lines.new ≡ false)) }
     ensures well { OnOk result ((S.has_failed source.new ≡ false) × (L.has_failed lines.new ≡ false)) }
     ensures kept { L.kept lines.new ≡ L.kept lines.old }

@@ -24,9 +24,9 @@ pub(crate) struct RecordingView {
 
 // Clauses see all four.
 impl Model for RecordingView {
-    ghost use Rattle.dmr_listing.specs.Listings.{Turn};
+    ghost use Rattle.dmr_listing.specs.Listings.{ListingTurn};
 
-    ghost Value = { Turn };
+    ghost Value = { ListingTurn };
 
     ghost view = { λ view. record { slots = view.slots; next = view.next; other = view.other; bursts = view.bursts } };
 }

@@ -2,7 +2,7 @@
 ghost use Rattle.std.specs.Prelude.{◌≡◌};
 ghost use Rattle.dmr_bits.specs.Bits.{bits_of_octets};
 ghost use Rattle.dmr_report.specs.Reading.{IsReadAs};
-ghost use Rattle.dmr_listing.specs.Lines.{IsAnnounced, IsHeld, IsLine, after, fragment_of, no_past, passed};
+ghost use Rattle.dmr_listing.specs.Lines.{IsCachActivity, IsHeld, IsLine, after_burst, fragment_of, no_past, passed};
 
 use crate::activity::Activity;
 use crate::burst_line::BurstLine;
@@ -24,9 +24,9 @@ pub struct SlotView {
 
 // Clauses see both.
 impl Model for SlotView {
-    ghost use Rattle.dmr_listing.specs.Lines.{Past};
+    ghost use Rattle.dmr_listing.specs.Lines.{SlotPast};
 
-    ghost Value = { Past };
+    ghost Value = { SlotPast };
 
     ghost view = { λ view. record { place = view.places; fragments = view.fragments } };
 }
@@ -59,7 +59,7 @@ fn held_by(reading: &Reading, burst: &[u8; 33]) -> Option<Contents>
 
 /// What the CACH in front of a burst announces, where there is one.
 fn announced_by(cach: Option<[u8; 3]>) -> Option<Activity>
-    ensures announced { IsAnnounced cach result }
+    ensures announced { IsCachActivity cach result }
 {
     match cach {
         Some(cach) => Some(Activity::of_cach(&cach)),
@@ -90,9 +90,9 @@ impl SlotView {
     /// downlink.
     pub fn line(&mut self, place: Place, cach: Option<[u8; 3]>, burst: &[u8; 33]) -> BurstLine
         ensures place { result.place ≡ place }
-        ensures announced { IsAnnounced cach result.activity }
+        ensures announced { IsCachActivity cach result.activity }
         ensures line { IsLine self.old (bits_of_octets burst.now) result }
-        ensures past { self.new ≡ after result.reading (bits_of_octets burst.now) self.old }
+        ensures past { self.new ≡ after_burst result.reading (bits_of_octets burst.now) self.old }
     {
         let reading = read_burst(burst);
         self.fragments.push(fragment_of(&reading, burst));

@@ -4,9 +4,9 @@ ghost use Rattle.std.specs.Prelude.{IfOk, IfErr, OnOk, OnErr};
 ghost use Rattle.std.specs.Io.KnownBytes.{IsAtEnd};
 ghost use Rattle.dmr_record.specs.Devices.{failed_after};
 ghost use Rattle.dmr_record.specs.Faults.{is_of_end, is_device_fault};
-ghost use Rattle.dmr_listing.specs.Endings.{IfFile, IfOutput};
-ghost use Rattle.dmr_listing.specs.Listings.{Gains, Turn};
-ghost use Rattle.dmr_listing.specs.Recordings.{Slot};
+ghost use Rattle.dmr_listing.specs.Endings.{IfFile, IfNotWritten};
+ghost use Rattle.dmr_listing.specs.Listings.{Gains, ListingTurn};
+ghost use Rattle.dmr_listing.specs.Recordings.{RecordedSlot};
 ghost use Rattle.dmr_listing.specs.Strips.{IsGivenWhereFull, IsStripped, IsStrippedUpToFault, IsStrippedUpToStrip};
 ghost use Rattle.dmr_listing.specs.Strips.{Picture, pushed_in, unless_empty};
 
@@ -92,7 +92,7 @@ pub fn strip_recording<S: Source, L: StripLines>(
     requires source { S.has_failed source.old ≡ false }
     requires lines { L.has_failed lines.old ≡ false }
     // All slots were read to the end, and their strips given.
-    ensures all { IfOk result (λ summary. (slots : List Slot) × (end : Turn)
+    ensures all { IfOk result (λ summary. (slots : List RecordedSlot) × (end : ListingTurn)
         × IsStripped recording frames slots [] end (S.left source.old) (S.left source.new) (L.given lines.old) (L.given lines.new)
         × (2 * summary.frames ≡ length slots) × (summary.bursts ≡ end.bursts)) }
     ensures end { OnOk result (IsAtEnd (S.left source.new)) }
@@ -101,11 +101,11 @@ pub fn strip_recording<S: Source, L: StripLines>(
         (S.left source.old) (S.left source.new) (L.given lines.old) (L.given lines.new))) }
     ensures cut { IfErr result (λ e. IfFile e (λ fault. is_of_end fault.fault ≡ true → IsAtEnd (S.left source.new))) }
     // Or the strips before the one that could not be given.
-    ensures output { IfErr result (λ e. IfOutput e (IsStrippedUpToStrip recording frames
+    ensures output { IfErr result (λ e. IfNotWritten e (IsStrippedUpToStrip recording frames
         (S.left source.old) (S.left source.new) (L.given lines.old) (L.given lines.new))) }
     // `Read` is told exactly where the source failed, and `Output` where the lines did.
     ensures source { IfErr result (λ e. IfFile e (λ fault. S.has_failed source.new ≡ is_device_fault fault.fault)) }
-    ensures lines { IfErr result (λ e. IfOutput e (L.has_failed lines.new ≡ true)) }
+    ensures lines { IfErr result (λ e. IfNotWritten e (L.has_failed lines.new ≡ true)) }
     ensures others { IfErr result (λ e. IfFile e (λ fault. L.has_failed lines.new ≡ false)) }
     ensures well { OnOk result ((S.has_failed source.new ≡ false) × (L.has_failed lines.new ≡ false)) }
     ensures kept { L.kept lines.new ≡ L.kept lines.old }

@@ -1,6 +1,6 @@
 //! The last line of a listing.
 ghost use Rattle.std.specs.Prelude.{◌≡◌};
-ghost use Rattle.dmr_listing.specs.Summaries.{counted};
+ghost use Rattle.dmr_listing.specs.Summaries.{counted_line};
 
 use crate::burst_line::BurstLine;
 use crate::place::{Place, Seconds};
@@ -21,7 +21,7 @@ pub struct BurstCounts {
 impl BurstCounts {
     /// With one line more. At most 2^32 - 1 of each are counted, of which no recording has so many.
     pub fn with(self, line: &BurstLine) -> BurstCounts
-        ensures value { result ≡ counted line.now self }
+        ensures value { result ≡ counted_line line.now self }
     {
         let is_unreadable = matches!(line.reading, Reading::Unreadable);
         BurstCounts {

@@ -4,7 +4,7 @@ use Rattle.std.proofs.lemmas.List.{length-append, take_at, drop_at}
 use Rattle.dmr_record.specs.declared.fault.RecordFault.{RecordFault}
 use Rattle.dmr_record.specs.declared.fault.RecordFault.TheVariants.{Magic, Version, CutRecord, Read}
 use Rattle.dmr_record.specs.Faults.{is_of_end, is_device_fault, HasFault}
-use Rattle.dmr_record.specs.Head.{version, head_octets, ShowsHeadFault}
+use Rattle.dmr_record.specs.Head.{file_version, head_octets, ShowsHeadFault}
 
 front_is : (magic taken rest more : List ℕ) → length magic ≡ 4 → length taken ≡ 8 → taken ++ rest ≡ head_octets magic ++ more →
     taken ≡ head_octets magic
@@ -12,7 +12,7 @@ front_is magic taken rest more four eight same =
     sym (take_at taken rest 8 eight) ∙ ap (take 8) same ∙ take_at (head_octets magic) more 8 (omega (
       arith,
       length-append magic
-          version,
+          file_version,
     ))
 
 pub head_no_fault : (magic : List ℕ) (e : RecordFault) (taken rest more : List ℕ) → length magic ≡ 4 → ShowsHeadFault magic e taken
@@ -25,14 +25,14 @@ head_no_fault magic CutRecord taken rest more four shows end same =
       arith,
       length-append taken rest,
       length-append (head_octets magic) more,
-      length-append magic version,
+      length-append magic file_version,
       none,
       lengths,
     ))
 head_no_fault magic Magic taken rest more four shows end same =
-    absurd (shows.1 (ap (take 4) (front_is magic taken rest more four shows.0 same) ∙ take_at magic version 4 four))
+    absurd (shows.1 (ap (take 4) (front_is magic taken rest more four shows.0 same) ∙ take_at magic file_version 4 four))
 head_no_fault magic Version taken rest more four shows end same =
-    absurd (shows.2 (ap (drop 4) (front_is magic taken rest more four shows.0 same) ∙ drop_at magic version 4 four))
+    absurd (shows.2 (ap (drop 4) (front_is magic taken rest more four shows.0 same) ∙ drop_at magic file_version 4 four))
 head_no_fault magic e taken rest more four shows end same = absurd shows
 
 -- eight octets are there or not

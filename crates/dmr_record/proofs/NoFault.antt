@@ -4,24 +4,26 @@ use Rattle.std.specs.List.{AllByRecursion}
 use Rattle.dmr_record.specs.declared.fault.RecordFault.{RecordFault}
 use Rattle.dmr_record.specs.declared.fault.RecordFault.TheVariants.{Read}
 use Rattle.dmr_record.specs.Faults.{is_of_end, is_device_fault, HasFault}
-use Rattle.dmr_record.specs.Outgoing.{Sending, IsSending, AreInOrder, sendings_octets, ShowsOutgoingFault}
-use Rattle.dmr_record.specs.Uplink.{IsFrame, frames_octets, ShowsFault}
+use Rattle.dmr_record.specs.Outgoing.{Sending, IsSending, AreInFrameOrder, sendings_octets, ShowsOutgoingFault}
+use Rattle.dmr_record.specs.Uplink.{IsFrame, frames_octets, ShowsUplinkFault}
 use Rattle.dmr_record.proofs.OutgoingReading.{sending_at, sending_at-spelled, sending_at-shown, sending_at-end}
 use Rattle.dmr_record.proofs.Readings.{no_fault_read}
 use Rattle.dmr_record.proofs.UplinkReading.{frame_at, frame_at-spelled, frame_at-shown, frame_at-end}
 
 pub frames_no_fault : (limit before : ℕ) (frames : List (List (Option (List ℕ)))) (e : RecordFault) → AllByRecursion IsFrame frames
-    → before + length frames ≤ limit → HasFault (ShowsFault limit before) (frames_octets frames) e → e ≡ Read
+    → before + length frames ≤ limit → HasFault (ShowsUplinkFault limit before) (frames_octets frames) e → e ≡ Read
 frames_no_fault limit before [] e p few has =
-    no_fault_read (ShowsFault limit before) (frame_at limit before) (frame_at-shown limit before) [] None e (frame_at-end limit
+    no_fault_read (ShowsUplinkFault limit before) (frame_at limit before) (frame_at-shown limit before) [] None e (frame_at-end
+        limit
     before) has
 frames_no_fault limit before (f ∷ fs) e p few has =
-    no_fault_read (ShowsFault limit before) (frame_at limit before) (frame_at-shown limit before) (frames_octets (f ∷ fs)) (Some
+    no_fault_read (ShowsUplinkFault limit before) (frame_at limit before) (frame_at-shown limit before) (frames_octets (f
+        ∷ fs)) (Some
     (f, frames_octets fs)) e
     (frame_at-spelled limit before f (frames_octets fs) (omega arith) p.0) has
 
 pub sendings_no_fault : (limit before last : ℕ) (sendings : List Sending) (e : RecordFault) → AllByRecursion IsSending sendings →
-    AreInOrder last sendings
+    AreInFrameOrder last sendings
     → before + length sendings ≤ limit → HasFault (ShowsOutgoingFault limit before last) (sendings_octets sendings) e → e ≡ Read
 sendings_no_fault limit before last [] e p order few has =
     no_fault_read (ShowsOutgoingFault limit before last) (sending_at limit before last) (sending_at-shown limit before last) []
@@ -34,7 +36,7 @@ sendings_no_fault limit before last (s ∷ ss) e p order few has =
 -- the same of what was taken and of what is left
 pub no_fault : (limit before : ℕ) (e : RecordFault) (taken rest : List ℕ) (frames : List (List (Option (List ℕ)))) → AllByRecursion
     IsFrame frames
-    → before + length frames ≤ limit → ShowsFault limit before e taken → (is_of_end e ≡ true → rest ≡ [])
+    → before + length frames ≤ limit → ShowsUplinkFault limit before e taken → (is_of_end e ≡ true → rest ≡ [])
     → taken ++ rest ≡ frames_octets frames → is_device_fault e ≡ true
 no_fault limit before e taken rest frames p few shows end same =
     ap is_device_fault (frames_no_fault limit before frames e p few (record {
@@ -48,7 +50,8 @@ no_fault limit before e taken rest frames p few shows end same =
 
 pub no_outgoing_fault : (limit before last : ℕ) (e : RecordFault) (taken rest : List ℕ) (sendings : List Sending) → AllByRecursion
     IsSending sendings
-    → AreInOrder last sendings → before + length sendings ≤ limit → ShowsOutgoingFault limit before last e taken → (is_of_end e ≡
+    → AreInFrameOrder last sendings → before + length sendings ≤ limit → ShowsOutgoingFault limit before last e taken
+        → (is_of_end e ≡
     true → rest ≡ [])
     → taken ++ rest ≡ sendings_octets sendings → is_device_fault e ≡ true
 no_outgoing_fault limit before last e taken rest sendings p order few shows end same =

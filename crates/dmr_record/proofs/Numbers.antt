@@ -1,7 +1,7 @@
 -- Numbers that octets spell, the highest first.
 use Rattle.std.proofs.Common.{◌≡◌, ℕ, ◌/◌, ◌%◌, ◌^◌, ◌<◌, List, [], ◌∷◌, length, get_or, slice_index_or, take, drop, arith}
 use Rattle.byteorder.specs.Endian.{big_bytes, big_number}
-use Rattle.dmr_record.specs.Outgoing.{field_octets}
+use Rattle.dmr_record.specs.Outgoing.{outgoing_field_octets}
 use Rattle.dmr_record.specs.Received as received
 
 four_octets : (n a b c d : ℕ) → a < 256 → b < 256 → c < 256 → d < 256 → n ≡ big_number 4 (a ∷ b ∷ c ∷ d ∷ []) → a ∷ b ∷ c ∷ d ∷ []
@@ -29,7 +29,7 @@ two_octets n a b p q e =
 -- eight octets are the fields that they spell
 pub fields_spelled : (xs : List ℕ) (frame len : ℕ) → length xs ≡ 8 → ((i : ℕ) → get_or xs i 0 < 256)
     → frame ≡ big_number 4 (take 4 xs) → len ≡ big_number 2 (take 2 (drop 6 xs))
-    → xs ≡ field_octets (record { frame = frame; slot = slice_index_or xs 4 0; mode = slice_index_or xs 5 0; count = len })
+    → xs ≡ outgoing_field_octets (record { frame = frame; slot = slice_index_or xs 4 0; mode = slice_index_or xs 5 0; count = len })
 fields_spelled (a ∷ b ∷ c ∷ d ∷ slot ∷ mode ∷ e ∷ f ∷ []) frame len eight each first last =
     let number = four_octets frame a b c d (each 0) (each 1) (each 2) (each 3) first in
     let count = two_octets len e f (each 6) (each 7) last in
@@ -45,7 +45,7 @@ source_fits xs source eleven each middle = absurd (omega arith)
 -- eleven octets are the fields of a received record that they spell
 pub received_fields_spelled : (xs : List ℕ) (frame source len : ℕ) → length xs ≡ 11 → ((i : ℕ) → get_or xs i 0 < 256)
     → frame ≡ big_number 4 (take 4 xs) → source ≡ big_number 3 (take 3 (drop 6 xs)) → len ≡ big_number 2 (take 2 (drop 9 xs))
-    → xs ≡ received.field_octets (record {
+    → xs ≡ received.received_field_octets (record {
       frame = frame;
       slot = slice_index_or xs 4 0;
       kind = slice_index_or xs 5 0;

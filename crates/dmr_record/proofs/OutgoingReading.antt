@@ -9,15 +9,15 @@ use Rattle.byteorder.specs.Numbers.{big_number-reads_back}
 use Rattle.dmr_record.specs.declared.fault.RecordFault.{RecordFault}
 use Rattle.dmr_record.specs.declared.fault.RecordFault.TheVariants.{CutRecord, BadTag, FrameOrder, TooLong, Read}
 use Rattle.dmr_record.specs.Faults.{is_of_end, is_device_fault}
-use Rattle.dmr_record.specs.Outgoing.{Fields, field_octets, Fit, IsPlace, Sending}
-use Rattle.dmr_record.specs.Outgoing.{IsSending, mode_of, fields_of, sending_octets, ShowsOutgoingFault}
+use Rattle.dmr_record.specs.Outgoing.{OutgoingFields, outgoing_field_octets, FitsOutgoing, IsSlotAndMode, Sending}
+use Rattle.dmr_record.specs.Outgoing.{IsSending, mode_of, outgoing_fields, sending_octets, ShowsOutgoingFault}
 use Rattle.dmr_record.specs.Spelling.{IsPrefixCode}
 use Rattle.dmr_record.proofs.Readings.{same_answer}
 
 is_place : ℕ → ℕ → Bool
 is_place slot mode = (eqb slot 1 || eqb slot 2) && ltb mode 4
 
-abbrev fields : ℕ → ℕ → ℕ → ℕ → Fields
+abbrev fields : ℕ → ℕ → ℕ → ℕ → OutgoingFields
 fields frame slot mode count = record { frame = frame; slot = slot; mode = mode; count = count }
 
 abbrev sending : ℕ → ℕ → Bool → Bool → List ℕ → Sending
@@ -30,18 +30,18 @@ sending frame slot confirmed full datagram = record {
       datagram;
 }
 
-sending_from : Fields → List ℕ → Sending
+sending_from : OutgoingFields → List ℕ → Sending
 sending_from f datagram = sending f.frame f.slot (eqb f.mode 1 || eqb f.mode 3) (leb 2 f.mode) datagram
 
 -- what a text behind these fields is read as
-sending_behind : ℕ → Fields → List ℕ → Result (Option (Sending × List ℕ)) RecordFault
+sending_behind : ℕ → OutgoingFields → List ℕ → Result (Option (Sending × List ℕ)) RecordFault
 sending_behind last f text =
     cond (is_place f.slot f.mode)
     (cond (ltb f.frame last) (Err FrameOrder)
     (cond (leb f.count (length text)) (Ok (Some (sending_from f (take f.count text), drop f.count text))) (Err CutRecord)))
     (Err BadTag)
 
-fields_at : List ℕ → Fields
+fields_at : List ℕ → OutgoingFields
 fields_at text = fields (big_number 4 text) (get_or text 4 0) (get_or text 5 0) (big_number 2 (drop 6 text))
 
 fields_behind : ℕ → List ℕ → Result (Option (Sending × List ℕ)) RecordFault
@@ -57,12 +57,12 @@ pub sending_at-end : (limit before last : ℕ) → sending_at limit before last 
 unfolding sending_at
 sending_at-end limit before last = refl
 
-is_place-true : (slot mode : ℕ) → IsPlace slot mode → is_place slot mode ≡ true
+is_place-true : (slot mode : ℕ) → IsSlotAndMode slot mode → is_place slot mode ≡ true
 unfolding is_place
 is_place-true slot mode (inl one, low) = rw (one, lt-ltb mode 4 low) refl
 is_place-true slot mode (inr two, low) = rw (two, lt-ltb mode 4 low) refl
 
-is_place-false : (slot mode : ℕ) → (IsPlace slot mode → ⊥) → is_place slot mode ≡ false
+is_place-false : (slot mode : ℕ) → (IsSlotAndMode slot mode → ⊥) → is_place slot mode ≡ false
 unfolding is_place
 is_place-false slot mode misses =
     elim (cases_lt mode 4) [
@@ -74,7 +74,7 @@ is_place-false slot mode misses =
       | inr high ↦ and_right (eqb slot 1 || eqb slot 2) (ltb mode 4) (le-ltb mode 4 high)
     ]
 
-fields_at-spelled : (f : Fields) (rest : List ℕ) → Fit f → fields_at (field_octets f ++ rest) ≡ f
+fields_at-spelled : (f : OutgoingFields) (rest : List ℕ) → FitsOutgoing f → fields_at (outgoing_field_octets f ++ rest) ≡ f
 unfolding fields_at
 fields_at-spelled f rest fit =
     let frame = big_number-reads_back 4 f.frame (f.slot ∷ f.mode ∷ (big_bytes 2 f.count ++ rest)) fit.frame in
@@ -89,7 +89,7 @@ mode_back true false = (refl, refl, omega arith)
 mode_back false true = (refl, refl, omega arith)
 mode_back false false = (refl, refl, omega arith)
 
-sending_back : (s : Sending) → sending_from (fields_of s) s.datagram ≡ s
+sending_back : (s : Sending) → sending_from (outgoing_fields s) s.datagram ≡ s
 unfolding sending_from
 sending_back s =
     let (confirmed, full, low) = mode_back s.confirmed s.full in
@@ -97,13 +97,14 @@ sending_back s =
     s.confirmed f s.datagram) full
 
 -- where fields come behind a tag
-sending_at-fields : (limit before last : ℕ) (f : Fields) (text : List ℕ) → before < limit → Fit f
-    → sending_at limit before last (2 ∷ (field_octets f ++ text)) ≡ sending_behind last f text
+sending_at-fields : (limit before last : ℕ) (f : OutgoingFields) (text : List ℕ) → before < limit → FitsOutgoing f
+    → sending_at limit before last (2 ∷ (outgoing_field_octets f ++ text)) ≡ sending_behind last f text
 unfolding sending_at fields_behind
 sending_at-fields limit before last f text below fit =
-    let long : leb 8 (length (field_octets f ++ text)) ≡ true = le-leb 8 (length (field_octets f ++ text)) (omega (
+    let long : leb 8 (length (outgoing_field_octets f ++ text))
+        ≡ true = le-leb 8 (length (outgoing_field_octets f ++ text)) (omega (
       arith,
-      length-append (field_octets f) text,
+      length-append (outgoing_field_octets f) text,
     )) in
     rw (lt-leb limit before below, long) (ap (λ g. sending_behind last g text) (fields_at-spelled f text fit))
 
@@ -113,13 +114,13 @@ pub sending_at-spelled : (limit before last : ℕ) (s : Sending) (rest : List �
 unfolding sending_behind
 sending_at-spelled limit before last s rest below order is =
     let (confirmed, full, low) = mode_back s.confirmed s.full in
-    let fit : Fit (fields_of s) = record { frame = is.frame; count = is.datagram } in
+    let fit : FitsOutgoing (outgoing_fields s) = record { frame = is.frame; count = is.datagram } in
     let long : leb (length s.datagram) (length (s.datagram ++ rest)) ≡ true = le-leb _ _ (omega (
       arith,
       length-append s.datagram
           rest,
     )) in
-    sending_at-fields limit before last (fields_of s) (s.datagram ++ rest) below fit
+    sending_at-fields limit before last (outgoing_fields s) (s.datagram ++ rest) below fit
     ∙ rw (
       is_place-true s.slot (mode_of s.confirmed s.full) (is.slot, low),
       le-ltb s.frame last order,
@@ -158,7 +159,8 @@ sending_at-shown limit before last CutRecord taken rest (below, some, inr (inr (
       length-append part
           [],
     )) in
-    ap (λ l. sending_at limit before last (l ++ rest)) s ∙ ap (λ r. sending_at limit before last (2 ∷ (field_octets f ++ (part ++
+    ap (λ l. sending_at limit before last (l ++ rest)) s
+        ∙ ap (λ r. sending_at limit before last (2 ∷ (outgoing_field_octets f ++ (part ++
     r)))) (end refl)
     ∙ sending_at-fields limit before last f (part ++ []) below fit
     ∙ rw (is_place-true f.slot f.mode place, le-ltb f.frame last order, short) refl

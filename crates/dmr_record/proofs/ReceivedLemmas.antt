@@ -4,7 +4,7 @@ use Rattle.dmr_record.specs.declared.fault.RecordFault.{RecordFault}
 use Rattle.dmr_record.specs.declared.fault.RecordFault.TheVariants.{CutRecord, Read}
 use Rattle.dmr_record.specs.declared.received.ReceivedKind.{ReceivedKind}
 use Rattle.dmr_record.specs.declared.received.ReceivedKind.TheVariants.{Datagram, ShortData, Status}
-use Rattle.dmr_record.specs.Received.{Fields, kind_octet, IsPartOfReceipt, ShowsReceivedFault}
+use Rattle.dmr_record.specs.Received.{ReceivedFields, kind_octet, IsPartOfReceipt, ShowsReceivedFault}
 
 pub kind_octet-low : (kind : ReceivedKind) → kind_octet kind < 3
 kind_octet-low Datagram = omega arith
@@ -12,7 +12,8 @@ kind_octet-low ShortData = omega arith
 kind_octet-low Status = omega arith
 
 -- a record that stops short
-pub ShowsReceivedFault-part : (limit before : ℕ) (last : Option Fields) (e : RecordFault) (octets : List ℕ) → before < limit →
+pub ShowsReceivedFault-part : (limit before : ℕ) (last : Option ReceivedFields) (e : RecordFault) (octets : List ℕ)
+    → before < limit →
     octets ≢ []
     → (e ≡ CutRecord) ⊎ (e ≡ Read) → IsPartOfReceipt last octets → ShowsReceivedFault limit before last e octets
 ShowsReceivedFault-part limit before last e octets h some (inl cut) part = rw cut (h, some, part)

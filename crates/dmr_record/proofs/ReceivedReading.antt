@@ -14,7 +14,8 @@ use Rattle.dmr_record.specs.declared.received.ReceivedKind.TheVariants.{Datagram
 use Rattle.dmr_record.specs.Faults.{is_of_end, is_device_fault, HasFault}
 use Rattle.dmr_record.specs.Received.{Receipt, IsReceipt, IsReadable, kind_octet, receipt_octets, receipts_octets}
 use Rattle.dmr_record.specs.Received.{ShowsReceivedFault}
-use Rattle.dmr_record.specs.Received.{Fields, field_octets, Fit, IsSlot, IsPlace, IsBehind, Follows, AreInOrder, fields_of}
+use Rattle.dmr_record.specs.Received.{ReceivedFields, received_field_octets, FitsReceived, IsSlot, IsSlotAndKind, IsBehind, Follows}
+use Rattle.dmr_record.specs.Received.{FollowEachOther, received_fields}
 use Rattle.dmr_record.proofs.Readings.{no_fault_read}
 use Rattle.dmr_record.proofs.ReceivedLemmas.{kind_octet-low}
 
@@ -43,7 +44,7 @@ is_slot slot =
       ]
     ]
 
-is_place : (slot kind : ℕ) → IsPlace slot kind ⊎ (IsPlace slot kind → ⊥)
+is_place : (slot kind : ℕ) → IsSlotAndKind slot kind ⊎ (IsSlotAndKind slot kind → ⊥)
 is_place slot kind =
     elim (is_slot slot) [
       | inr fails ↦ inr (λ h. fails h.0)
@@ -54,7 +55,7 @@ is_place slot kind =
     ]
 
 -- of one slot in one frame
-is_packet_behind : (last f : Fields) → last.frame ≡ f.frame → last.slot ≡ f.slot → IsBehind last f ⊎ (IsBehind last f → ⊥)
+is_packet_behind : (last f : ReceivedFields) → last.frame ≡ f.frame → last.slot ≡ f.slot → IsBehind last f ⊎ (IsBehind last f → ⊥)
 is_packet_behind last f same also =
     elim (cases_eq last.kind 2) [
       | inr other ↦ inr (λ h. other (h.kind same also).0)
@@ -65,7 +66,7 @@ is_packet_behind last f same also =
     ]
 
 -- in one frame
-is_slot_behind : (last f : Fields) → last.frame ≡ f.frame → IsBehind last f ⊎ (IsBehind last f → ⊥)
+is_slot_behind : (last f : ReceivedFields) → last.frame ≡ f.frame → IsBehind last f ⊎ (IsBehind last f → ⊥)
 is_slot_behind last f same =
     elim (cases_eq last.slot f.slot) [
       | inl also ↦ is_packet_behind last f same also
@@ -75,7 +76,7 @@ is_slot_behind last f same =
       ]
     ]
 
-is_behind : (last f : Fields) → IsBehind last f ⊎ (IsBehind last f → ⊥)
+is_behind : (last f : ReceivedFields) → IsBehind last f ⊎ (IsBehind last f → ⊥)
 is_behind last f =
     elim (cases_eq last.frame f.frame) [
       | inl same ↦ is_slot_behind last f same
@@ -85,11 +86,11 @@ is_behind last f =
       ]
     ]
 
-follows : (last : Option Fields) (f : Fields) → Follows last f ⊎ (Follows last f → ⊥)
+follows : (last : Option ReceivedFields) (f : ReceivedFields) → Follows last f ⊎ (Follows last f → ⊥)
 follows None f = inl tt
 follows (Some last) f = is_behind last f
 
-abbrev fields : ℕ → ℕ → ℕ → ℕ → ℕ → Fields
+abbrev fields : ℕ → ℕ → ℕ → ℕ → ℕ → ReceivedFields
 fields frame slot kind source count = record { frame = frame; slot = slot; kind = kind; source = source; count = count }
 
 abbrev receipt : ℕ → ℕ → ReceivedKind → ℕ → List ℕ → Receipt
@@ -98,11 +99,11 @@ receipt frame slot kind source octets = record { frame = frame; slot = slot; kin
 kind_of : ℕ → ReceivedKind
 kind_of n = cond (eqb n 0) Datagram (cond (eqb n 1) ShortData Status)
 
-receipt_from : Fields → List ℕ → Receipt
+receipt_from : ReceivedFields → List ℕ → Receipt
 receipt_from f octets = receipt f.frame f.slot (kind_of f.kind) f.source octets
 
 -- what a text behind these fields is read as
-receipt_behind : Option Fields → Fields → List ℕ → Result (Option (Receipt × List ℕ)) RecordFault
+receipt_behind : Option ReceivedFields → ReceivedFields → List ℕ → Result (Option (Receipt × List ℕ)) RecordFault
 receipt_behind last f text =
     cond (told (is_place f.slot f.kind))
     (cond (told (follows last f))
@@ -110,24 +111,24 @@ receipt_behind last f text =
     FrameOrder))
     (Err BadTag)
 
-fields_at : List ℕ → Fields
+fields_at : List ℕ → ReceivedFields
 fields_at text = fields (big_number 4 text) (get_or text 4 0) (get_or text 5 0) (big_number 3 (drop 6 text)) (big_number 2 (drop 9
     text))
 
-fields_behind : Option Fields → List ℕ → Result (Option (Receipt × List ℕ)) RecordFault
+fields_behind : Option ReceivedFields → List ℕ → Result (Option (Receipt × List ℕ)) RecordFault
 fields_behind last text = cond (leb 11 (length text)) (receipt_behind last (fields_at text) (drop 11 text)) (Err CutRecord)
 
 -- what a text is read as, with so many records before it, the last of which has these fields
-pub receipt_at : ℕ → ℕ → Option Fields → List ℕ → Result (Option (Receipt × List ℕ)) RecordFault
+pub receipt_at : ℕ → ℕ → Option ReceivedFields → List ℕ → Result (Option (Receipt × List ℕ)) RecordFault
 receipt_at limit before last [] = Ok None
 receipt_at limit before last (tag ∷ text) = cond (leb limit before) (Err TooLong) (cond (eqb tag 3) (fields_behind last text) (Err
     BadTag))
 
-pub receipt_at-end : (limit before : ℕ) (last : Option Fields) → receipt_at limit before last [] ≡ Ok None
+pub receipt_at-end : (limit before : ℕ) (last : Option ReceivedFields) → receipt_at limit before last [] ≡ Ok None
 unfolding receipt_at
 receipt_at-end limit before last = refl
 
-fields_at-spelled : (f : Fields) (rest : List ℕ) → Fit f → fields_at (field_octets f ++ rest) ≡ f
+fields_at-spelled : (f : ReceivedFields) (rest : List ℕ) → FitsReceived f → fields_at (received_field_octets f ++ rest) ≡ f
 unfolding fields_at
 fields_at-spelled f rest fit =
     let frame = big_number-reads_back 4 f.frame (f.slot ∷ f.kind ∷ (big_bytes 3 f.source ++ (big_bytes 2 f.count ++ rest)))
@@ -145,32 +146,35 @@ kind_back Datagram = refl
 kind_back ShortData = refl
 kind_back Status = refl
 
-receipt_back : (r : Receipt) → receipt_from (fields_of r) r.octets ≡ r
+receipt_back : (r : Receipt) → receipt_from (received_fields r) r.octets ≡ r
 unfolding receipt_from
 receipt_back r = ap (λ k. receipt r.frame r.slot k r.source r.octets) (kind_back r.kind)
 
 -- where fields come behind a tag
-receipt_at-fields : (limit before : ℕ) (last : Option Fields) (f : Fields) (text : List ℕ) → before < limit → Fit f
-    → receipt_at limit before last (3 ∷ (field_octets f ++ text)) ≡ receipt_behind last f text
+receipt_at-fields : (limit before : ℕ) (last : Option ReceivedFields) (f : ReceivedFields) (text : List ℕ) → before < limit
+    → FitsReceived f
+    → receipt_at limit before last (3 ∷ (received_field_octets f ++ text)) ≡ receipt_behind last f text
 unfolding receipt_at fields_behind
 receipt_at-fields limit before last f text below fit =
-    let long : leb 11 (length (field_octets f ++ text)) ≡ true = le-leb 11 (length (field_octets f ++ text)) (omega (
+    let long : leb 11 (length (received_field_octets f ++ text))
+        ≡ true = le-leb 11 (length (received_field_octets f ++ text)) (omega (
       arith,
-      length-append (field_octets f) text,
+      length-append (received_field_octets f) text,
     )) in
     rw (lt-leb limit before below, long) (ap (λ g. receipt_behind last g text) (fields_at-spelled f text fit))
 
 -- a record that a text begins with is read
-pub receipt_at-spelled : (limit before : ℕ) (last : Option Fields) (r : Receipt) (rest : List ℕ) → before < limit → IsSlot r.slot
-    → Follows last (fields_of r) → IsReceipt r → receipt_at limit before last (receipt_octets r ++ rest) ≡ Ok (Some (r, rest))
+pub receipt_at-spelled : (limit before : ℕ) (last : Option ReceivedFields) (r : Receipt) (rest : List ℕ) → before < limit
+    → IsSlot r.slot
+    → Follows last (received_fields r) → IsReceipt r → receipt_at limit before last (receipt_octets r ++ rest) ≡ Ok (Some (r, rest))
 unfolding receipt_behind
 receipt_at-spelled limit before last r rest below slot order is =
-    let fit : Fit (fields_of r) = record { frame = is.frame; source = is.source; count = is.octets } in
+    let fit : FitsReceived (received_fields r) = record { frame = is.frame; source = is.source; count = is.octets } in
     let long : leb (length r.octets) (length (r.octets ++ rest)) ≡ true = le-leb _ _ (omega (arith, length-append r.octets rest)) in
-    receipt_at-fields limit before last (fields_of r) (r.octets ++ rest) below fit
+    receipt_at-fields limit before last (received_fields r) (r.octets ++ rest) below fit
     ∙ rw (
       told-yes (is_place r.slot (kind_octet r.kind)) (slot, kind_octet-low r.kind),
-      told-yes (follows last (fields_of r)) order,
+      told-yes (follows last (received_fields r)) order,
       long,
       take_at r.octets rest (length r.octets) refl,
       drop_at r.octets rest (length r.octets) refl,
@@ -178,7 +182,8 @@ receipt_at-spelled limit before last r rest below slot order is =
     ) refl
 
 -- a fault that a text has is told
-pub receipt_at-shown : (limit before : ℕ) (last : Option Fields) (e : RecordFault) (taken rest : List ℕ) → ShowsReceivedFault
+pub receipt_at-shown : (limit before : ℕ) (last : Option ReceivedFields) (e : RecordFault) (taken rest : List ℕ)
+    → ShowsReceivedFault
     limit before last e taken
     → is_device_fault e ≡ false → (is_of_end e ≡ true → rest ≡ []) → receipt_at limit before last (taken ++ rest) ≡ Err e
 unfolding receipt_at fields_behind receipt_behind
@@ -206,16 +211,18 @@ receipt_at-shown limit before last CutRecord taken rest (below, some, inr (inr (
       length-append part
           [],
     )) in
-    ap (λ l. receipt_at limit before last (l ++ rest)) s ∙ ap (λ r. receipt_at limit before last (3 ∷ (field_octets f ++ (part ++
+    ap (λ l. receipt_at limit before last (l ++ rest)) s
+        ∙ ap (λ r. receipt_at limit before last (3 ∷ (received_field_octets f ++ (part ++
     r)))) (end refl)
     ∙ receipt_at-fields limit before last f (part ++ []) below fit
     ∙ rw (told-yes (is_place f.slot f.kind) place, told-yes (follows last f) order, short) refl
 receipt_at-shown limit before last e taken rest shows own end = absurd shows
 
 -- records that follow one another have no fault, no more of them than may be
-pub receipts_no_fault : (limit before : ℕ) (last : Option Fields) (receipts : List Receipt) (e : RecordFault) → AllByRecursion
+pub receipts_no_fault : (limit before : ℕ) (last : Option ReceivedFields) (receipts : List Receipt) (e : RecordFault)
+    → AllByRecursion
     IsReadable receipts
-    → AreInOrder last receipts → before + length receipts ≤ limit → HasFault (ShowsReceivedFault limit before last)
+    → FollowEachOther last receipts → before + length receipts ≤ limit → HasFault (ShowsReceivedFault limit before last)
     (receipts_octets receipts) e → e ≡ Read
 receipts_no_fault limit before last [] e p order few has =
     no_fault_read (ShowsReceivedFault limit before last) (receipt_at limit before last) (receipt_at-shown limit before last) []

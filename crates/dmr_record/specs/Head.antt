@@ -7,12 +7,12 @@ use Rattle.dmr_record.specs.declared.head.FileFormat.TheVariants.{Uplink, Downli
 use Rattle.dmr_record.specs.declared.head.TheConstants.{UPLINK_MAGIC, DOWNLINK_MAGIC, OUTGOING_MAGIC, RECEIVED_MAGIC}
 
 -- what stands behind the magic of each file
-abbrev pub version : List ℕ
-version = 1 ∷ 0 ∷ 0 ∷ 0 ∷ []
+abbrev pub file_version : List ℕ
+file_version = 1 ∷ 0 ∷ 0 ∷ 0 ∷ []
 
 -- the magic, and then the version
 abbrev pub head_octets : List ℕ → List ℕ
-head_octets magic = magic ++ version
+head_octets magic = magic ++ file_version
 
 -- These octets, taken in place of the head with this magic, show this fault: fewer than eight octets show that
 -- the head is cut or the device failed, and eight of them show another magic, or that magic and another version.
@@ -20,7 +20,7 @@ abbrev pub ShowsHeadFault : List ℕ → RecordFault → List ℕ → Type 0
 ShowsHeadFault magic CutRecord octets = length octets < 8
 ShowsHeadFault magic Read octets = length octets < 8
 ShowsHeadFault magic Magic octets = (length octets ≡ 8) × (take 4 octets ≢ magic)
-ShowsHeadFault magic Version octets = (length octets ≡ 8) × (take 4 octets ≡ magic) × (drop 4 octets ≢ version)
+ShowsHeadFault magic Version octets = (length octets ≡ 8) × (take 4 octets ≡ magic) × (drop 4 octets ≢ file_version)
 ShowsHeadFault magic e octets = ⊥
 
 -- what a file of this format begins with

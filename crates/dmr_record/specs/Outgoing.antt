@@ -10,24 +10,24 @@ use Rattle.dmr_record.specs.Head.{head_octets}
 
 -- What stands between the tag of a record and its datagram: the frame, the slot, the mode, and how many octets
 -- the datagram has.
-pub record Fields : Type 0 where
+pub record OutgoingFields : Type 0 where
   pub frame : ℕ
   pub slot : ℕ
   pub mode : ℕ
   pub count : ℕ
 
 -- the frame in four octets, the slot, the mode, and the count in two octets
-abbrev pub field_octets : Fields → List ℕ
-field_octets f = big_bytes 4 f.frame ++ f.slot ∷ f.mode ∷ big_bytes 2 f.count
+abbrev pub outgoing_field_octets : OutgoingFields → List ℕ
+outgoing_field_octets f = big_bytes 4 f.frame ++ f.slot ∷ f.mode ∷ big_bytes 2 f.count
 
 -- The numbers fit their widths.
-pub record Fit (f : Fields) : Type 0 where
+pub record FitsOutgoing (f : OutgoingFields) : Type 0 where
   pub frame : f.frame < 2 ^ 32
   pub count : f.count < 2 ^ 16
 
 -- The slot is 1 or 2, and no other bit of the mode is set than 01 and 02.
-abbrev pub IsPlace : ℕ → ℕ → Type 0
-IsPlace slot mode = ((slot ≡ 1) ⊎ (slot ≡ 2)) × (mode < 4)
+abbrev pub IsSlotAndMode : ℕ → ℕ → Type 0
+IsSlotAndMode slot mode = ((slot ≡ 1) ⊎ (slot ≡ 2)) × (mode < 4)
 
 -- A record of the outgoing file: what is to be sent, and in which frame it is offered.
 pub record Sending : Type 0 where
@@ -48,13 +48,13 @@ abbrev pub mode_of : Bool → Bool → ℕ
 mode_of confirmed full = (if confirmed then 1 else 0) + (if full then 2 else 0)
 
 -- the fields of this record: its frame, its slot, its mode, and how many octets its datagram has
-abbrev pub fields_of : Sending → Fields
-fields_of s =
+abbrev pub outgoing_fields : Sending → OutgoingFields
+outgoing_fields s =
     record { frame = s.frame; slot = s.slot; mode = mode_of s.confirmed s.full; count = length s.datagram }
 
 -- 02, the fields, and then the datagram
 abbrev pub sending_octets : Sending → List ℕ
-sending_octets s = 2 ∷ (field_octets (fields_of s) ++ s.datagram)
+sending_octets s = 2 ∷ (outgoing_field_octets (outgoing_fields s) ++ s.datagram)
 
 -- the records of a file behind its head
 abbrev pub sendings_octets : List Sending → List ℕ
@@ -65,9 +65,9 @@ abbrev pub outgoing_file : List Sending → List ℕ
 outgoing_file sendings = head_octets OUTGOING_MAGIC ++ sendings_octets sendings
 
 -- The frames don't decrease, and the first is no earlier than the last one before.
-abbrev pub AreInOrder : ℕ → List Sending → Type 0
-AreInOrder last [] = Unit {0}
-AreInOrder last (s ∷ rest) = (last ≤ s.frame) × AreInOrder s.frame rest
+abbrev pub AreInFrameOrder : ℕ → List Sending → Type 0
+AreInFrameOrder last [] = Unit {0}
+AreInFrameOrder last (s ∷ rest) = (last ≤ s.frame) × AreInFrameOrder s.frame rest
 
 -- the record that was read, where this is its datagram
 abbrev pub sending_of : Outgoing → List ℕ → Sending
@@ -88,8 +88,9 @@ emptied o = record o { octets = [] }
 abbrev pub IsPartOfSending : ℕ → List ℕ → Type 0
 IsPartOfSending last octets = (octets ≡ [])
     ⊎ ((part : List ℕ) × (length part < 8) × (octets ≡ 2 ∷ part))
-    ⊎ ((f : Fields) × (part : List ℕ) × Fit f × IsPlace f.slot f.mode × (last ≤ f.frame) × (length part < f.count)
-    × (octets ≡ 2 ∷ (field_octets f ++ part)))
+    ⊎ ((f : OutgoingFields) × (part : List ℕ) × FitsOutgoing f × IsSlotAndMode f.slot f.mode × (last ≤ f.frame)
+        × (length part < f.count)
+    × (octets ≡ 2 ∷ (outgoing_field_octets f ++ part)))
 
 -- These octets, taken as the front of a record with so many records before it, the last of which has this
 -- frame, show this fault. A tag is bad where it isn't 02, or where the fields behind it name no place.
@@ -97,9 +98,10 @@ abbrev pub ShowsOutgoingFault : ℕ → ℕ → ℕ → RecordFault → List ℕ
 ShowsOutgoingFault limit before last TooLong octets = (limit ≤ before) × (length octets ≡ 1)
 ShowsOutgoingFault limit before last BadTag octets = (before < limit)
     × (((tag : ℕ) × (tag ≢ 2) × (octets ≡ tag ∷ []))
-    ⊎ ((f : Fields) × Fit f × (¬ IsPlace f.slot f.mode) × (octets ≡ 2 ∷ field_octets f)))
+    ⊎ ((f : OutgoingFields) × FitsOutgoing f × (¬ IsSlotAndMode f.slot f.mode) × (octets ≡ 2 ∷ outgoing_field_octets f)))
 ShowsOutgoingFault limit before last FrameOrder octets = (before < limit)
-    × (f : Fields) × Fit f × IsPlace f.slot f.mode × (f.frame < last) × (octets ≡ 2 ∷ field_octets f)
+    × (f : OutgoingFields) × FitsOutgoing f × IsSlotAndMode f.slot f.mode × (f.frame < last)
+        × (octets ≡ 2 ∷ outgoing_field_octets f)
 ShowsOutgoingFault limit before last CutRecord octets = (before < limit)
     × (octets ≢ []) × IsPartOfSending last octets
 ShowsOutgoingFault limit before last Read octets = (limit ≤ before → octets ≡ [])

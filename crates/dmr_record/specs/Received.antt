@@ -53,7 +53,7 @@ most_receipts = 4194328
 
 -- What stands between the tag of a record and its octets: the frame, the slot, the number of the kind, the
 -- source, and how many octets there are.
-pub record Fields : Type 0 where
+pub record ReceivedFields : Type 0 where
   pub frame : ℕ
   pub slot : ℕ
   pub kind : ℕ
@@ -61,11 +61,11 @@ pub record Fields : Type 0 where
   pub count : ℕ
 
 -- the frame in four octets, the slot, the kind, the source in three octets, and the count in two
-abbrev pub field_octets : Fields → List ℕ
-field_octets f = big_bytes 4 f.frame ++ f.slot ∷ f.kind ∷ (big_bytes 3 f.source ++ big_bytes 2 f.count)
+abbrev pub received_field_octets : ReceivedFields → List ℕ
+received_field_octets f = big_bytes 4 f.frame ++ f.slot ∷ f.kind ∷ (big_bytes 3 f.source ++ big_bytes 2 f.count)
 
 -- The numbers fit their widths.
-pub record Fit (f : Fields) : Type 0 where
+pub record FitsReceived (f : ReceivedFields) : Type 0 where
   pub frame : f.frame < 2 ^ 32
   pub source : f.source < 2 ^ 24
   pub count : f.count < 2 ^ 16
@@ -79,36 +79,36 @@ abbrev pub IsReadable : Receipt → Type 0
 IsReadable r = IsReceipt r × IsSlot r.slot
 
 -- The slot is 1 or 2, and the kind is one of three.
-abbrev pub IsPlace : ℕ → ℕ → Type 0
-IsPlace slot kind = IsSlot slot × (kind < 3)
+abbrev pub IsSlotAndKind : ℕ → ℕ → Type 0
+IsSlotAndKind slot kind = IsSlot slot × (kind < 3)
 
 -- A record may stand behind the last one: its frame is no earlier, its slot is no earlier in one frame, and in
 -- one slot of a frame it is a packet behind a status.
-pub record IsBehind (last f : Fields) : Type 0 where
+pub record IsBehind (last f : ReceivedFields) : Type 0 where
   pub frame : last.frame ≤ f.frame
   pub slot : last.frame ≡ f.frame → last.slot ≤ f.slot
   pub kind : last.frame ≡ f.frame → last.slot ≡ f.slot → (last.kind ≡ kind_octet Status) × (f.kind < kind_octet Status)
 
 -- the same of the first record, which may be any
-abbrev pub Follows : Option Fields → Fields → Type 0
+abbrev pub Follows : Option ReceivedFields → ReceivedFields → Type 0
 Follows None f = Unit {0}
 Follows (Some last) f = IsBehind last f
 
 -- the fields of this record: its frame, its slot, the number of its kind, its source, and how many octets came
-abbrev pub fields_of : Receipt → Fields
-fields_of r = record { frame = r.frame; slot = r.slot; kind = kind_octet r.kind; source = r.source; count = length r.octets }
+abbrev pub received_fields : Receipt → ReceivedFields
+received_fields r = record { frame = r.frame; slot = r.slot; kind = kind_octet r.kind; source = r.source; count = length r.octets }
 
 -- The records follow one another, and the first of them the last one before.
-abbrev pub AreInOrder : Option Fields → List Receipt → Type 0
-AreInOrder last [] = Unit {0}
-AreInOrder last (r ∷ rest) = Follows last (fields_of r) × AreInOrder (Some (fields_of r)) rest
+abbrev pub FollowEachOther : Option ReceivedFields → List Receipt → Type 0
+FollowEachOther last [] = Unit {0}
+FollowEachOther last (r ∷ rest) = Follows last (received_fields r) × FollowEachOther (Some (received_fields r)) rest
 
 -- the fields of a record that was read
-abbrev pub fields_read : Received → Fields
+abbrev pub fields_read : Received → ReceivedFields
 fields_read r = record { frame = r.frame; slot = r.slot; kind = kind_octet r.kind; source = r.source; count = r.length }
 
 -- the fields of the last record that was read, where one was
-abbrev pub last_read : Option Received → Option Fields
+abbrev pub last_read : Option Received → Option ReceivedFields
 last_read None = None
 last_read (Some r) = Some (fields_read r)
 
@@ -118,21 +118,23 @@ receipt_of r octets = record { frame = r.frame; slot = r.slot; kind = r.kind; so
 
 -- Less than a whole record: nothing, or the tag and less than the fields, or fewer octets than it has behind
 -- fields that name a slot and a kind and stand in order.
-abbrev pub IsPartOfReceipt : Option Fields → List ℕ → Type 0
+abbrev pub IsPartOfReceipt : Option ReceivedFields → List ℕ → Type 0
 IsPartOfReceipt last octets = (octets ≡ [])
     ⊎ ((part : List ℕ) × (length part < 11) × (octets ≡ 3 ∷ part))
-    ⊎ ((f : Fields) × (part : List ℕ) × Fit f × IsPlace f.slot f.kind × Follows last f × (length part < f.count)
-    × (octets ≡ 3 ∷ (field_octets f ++ part)))
+    ⊎ ((f : ReceivedFields) × (part : List ℕ) × FitsReceived f × IsSlotAndKind f.slot f.kind × Follows last f
+        × (length part < f.count)
+    × (octets ≡ 3 ∷ (received_field_octets f ++ part)))
 
 -- These octets, taken as the front of a record with so many records before it, the last of which has these
 -- fields, show this fault. A tag is bad where it isn't 03, or where the fields behind it name no slot or no kind.
-abbrev pub ShowsReceivedFault : ℕ → ℕ → Option Fields → RecordFault → List ℕ → Type 0
+abbrev pub ShowsReceivedFault : ℕ → ℕ → Option ReceivedFields → RecordFault → List ℕ → Type 0
 ShowsReceivedFault limit before last TooLong octets = (limit ≤ before) × (length octets ≡ 1)
 ShowsReceivedFault limit before last BadTag octets = (before < limit)
     × (((tag : ℕ) × (tag ≢ 3) × (octets ≡ tag ∷ []))
-    ⊎ ((f : Fields) × Fit f × (¬ IsPlace f.slot f.kind) × (octets ≡ 3 ∷ field_octets f)))
+    ⊎ ((f : ReceivedFields) × FitsReceived f × (¬ IsSlotAndKind f.slot f.kind) × (octets ≡ 3 ∷ received_field_octets f)))
 ShowsReceivedFault limit before last FrameOrder octets = (before < limit)
-    × (f : Fields) × Fit f × IsPlace f.slot f.kind × (¬ Follows last f) × (octets ≡ 3 ∷ field_octets f)
+    × (f : ReceivedFields) × FitsReceived f × IsSlotAndKind f.slot f.kind × (¬ Follows last f)
+        × (octets ≡ 3 ∷ received_field_octets f)
 ShowsReceivedFault limit before last CutRecord octets = (before < limit)
     × (octets ≢ []) × IsPartOfReceipt last octets
 ShowsReceivedFault limit before last Read octets = (limit ≤ before → octets ≡ [])

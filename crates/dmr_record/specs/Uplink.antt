@@ -7,46 +7,46 @@ use Rattle.dmr_record.specs.declared.fault.RecordFault.TheVariants.{CutRecord, B
 use Rattle.dmr_record.specs.Head.{head_octets}
 
 -- A slot of an uplink frame: silence, or the 33 octets of a burst.
-abbrev pub Slot : Type 0
-Slot = Option (List ℕ)
+abbrev pub UplinkSlot : Type 0
+UplinkSlot = Option (List ℕ)
 
 -- The slot is silence, or a burst of 33 octets.
-abbrev pub IsSilenceOrBurst : Slot → Type 0
+abbrev pub IsSilenceOrBurst : UplinkSlot → Type 0
 IsSilenceOrBurst None = Unit {0}
 IsSilenceOrBurst (Some burst) = length burst ≡ 33
 
 -- 00 begins silence, and 01 a burst
-abbrev pub slot_tag : Slot → ℕ
+abbrev pub slot_tag : UplinkSlot → ℕ
 slot_tag None = 0
 slot_tag (Some burst) = 1
 
 -- what stands behind the tag of a slot: nothing for silence, or else the octets of its burst
-abbrev pub slot_body : Slot → List ℕ
+abbrev pub slot_body : UplinkSlot → List ℕ
 slot_body None = []
 slot_body (Some burst) = burst
 
 -- the octets of a slot: its tag, and then its burst where it has one
-abbrev pub slot_octets : Slot → List ℕ
+abbrev pub slot_octets : UplinkSlot → List ℕ
 slot_octets slot = slot_tag slot ∷ slot_body slot
 
 -- A frame: slot 1 and slot 2.
-abbrev pub Frame : Type 0
-Frame = List Slot
+abbrev pub UplinkSlots : Type 0
+UplinkSlots = List UplinkSlot
 
 -- A frame has two slots, each silence or a burst.
-abbrev pub IsFrame : Frame → Type 0
+abbrev pub IsFrame : UplinkSlots → Type 0
 IsFrame frame = (length frame ≡ 2) × AllByRecursion IsSilenceOrBurst frame
 
 -- the octets of a frame: those of slot 1, and then those of slot 2
-abbrev pub frame_octets : Frame → List ℕ
+abbrev pub frame_octets : UplinkSlots → List ℕ
 frame_octets frame = flat_map slot_octets frame
 
 -- the records of a file behind its head
-abbrev pub frames_octets : List Frame → List ℕ
+abbrev pub frames_octets : List UplinkSlots → List ℕ
 frames_octets frames = flat_map frame_octets frames
 
 -- the file of these frames
-abbrev pub uplink_file : List Frame → List ℕ
+abbrev pub uplink_file : List UplinkSlots → List ℕ
 uplink_file frames = head_octets UPLINK_MAGIC ++ frames_octets frames
 
 -- less than a whole slot: nothing, or 01 and fewer octets than a burst has
@@ -63,17 +63,17 @@ ShowsSlotFault e octets = ⊥
 
 -- fewer than two whole slots, and then octets of a slot that show the fault
 abbrev pub EndsInSlot : RecordFault → List ℕ → Type 0
-EndsInSlot fault octets = (slots : List Slot) × (part : List ℕ) × (length slots < 2)
+EndsInSlot fault octets = (slots : List UplinkSlot) × (part : List ℕ) × (length slots < 2)
     × AllByRecursion IsSilenceOrBurst slots × ShowsSlotFault fault part × (octets ≡ flat_map slot_octets slots ++ part)
 
 -- These octets, taken as the front of a frame with so many frames before it, show this fault. Past the limit one
 -- octet does, whatever it is.
-abbrev pub ShowsFault : ℕ → ℕ → RecordFault → List ℕ → Type 0
-ShowsFault limit before TooLong octets = (limit ≤ before) × (length octets ≡ 1)
-ShowsFault limit before HalfFrame octets = (before < limit)
-    × (slot : Slot) × IsSilenceOrBurst slot × (octets ≡ slot_octets slot)
-ShowsFault limit before Read octets = (limit ≤ before → octets ≡ []) × EndsInSlot Read octets
-ShowsFault limit before e octets = (before < limit) × EndsInSlot e octets
+abbrev pub ShowsUplinkFault : ℕ → ℕ → RecordFault → List ℕ → Type 0
+ShowsUplinkFault limit before TooLong octets = (limit ≤ before) × (length octets ≡ 1)
+ShowsUplinkFault limit before HalfFrame octets = (before < limit)
+    × (slot : UplinkSlot) × IsSilenceOrBurst slot × (octets ≡ slot_octets slot)
+ShowsUplinkFault limit before Read octets = (limit ≤ before → octets ≡ []) × EndsInSlot Read octets
+ShowsUplinkFault limit before e octets = (before < limit) × EndsInSlot e octets
 
 -- the most slots that an uplink file has: two for each of its 1,048,576 frames
 abbrev pub most_uplink_slots : ℕ

@@ -10,18 +10,18 @@ ghost use Rattle.dmr_record.specs.declared.fault.RecordFault.{RecordFault};
 ghost use Rattle.dmr_record.specs.Downlink.{Sent, IsSent, sent_octets, downlink_octets, downlink_file, ShowsDownlinkFault};
 ghost use Rattle.dmr_record.specs.Faults.{HasFault};
 ghost use Rattle.dmr_record.specs.Head.{head_octets, ShowsHeadFault};
-ghost use Rattle.dmr_record.specs.Outgoing.{Sending, IsSending, AreInOrder};
+ghost use Rattle.dmr_record.specs.Outgoing.{Sending, IsSending, AreInFrameOrder};
 ghost use Rattle.dmr_record.specs.Outgoing.{sending_octets, sendings_octets, outgoing_file, ShowsOutgoingFault};
 ghost use Rattle.dmr_record.specs.Received.{Receipt, IsReceipt, receipt_octets, receipts_octets, received_file};
-ghost use Rattle.dmr_record.specs.Received.{Fields, IsReadable, Follows, fields_of, ShowsReceivedFault};
+ghost use Rattle.dmr_record.specs.Received.{ReceivedFields, IsReadable, Follows, received_fields, ShowsReceivedFault};
 ghost use Rattle.dmr_record.specs.Received as received;
 ghost use Rattle.dmr_record.specs.Spelling.{IsPrefixCode};
-ghost use Rattle.dmr_record.specs.Uplink.{Frame, IsFrame, frame_octets, frames_octets, uplink_file, ShowsFault};
-ghost use Rattle.dmr_record.specs.Uplink.{Slot, IsSilenceOrBurst, slot_octets, ShowsUplinkSlotFault};
+ghost use Rattle.dmr_record.specs.Uplink.{UplinkSlots, IsFrame, frame_octets, frames_octets, uplink_file, ShowsUplinkFault};
+ghost use Rattle.dmr_record.specs.Uplink.{UplinkSlot, IsSilenceOrBurst, slot_octets, ShowsUplinkSlotFault};
 
 /// An uplink file is that of one list of frames.
 pub fn uplink_has_one_reading()
-    ensures one { (xs ys : List Frame) → AllByRecursion IsFrame xs → AllByRecursion IsFrame ys
+    ensures one { (xs ys : List UplinkSlots) → AllByRecursion IsFrame xs → AllByRecursion IsFrame ys
         → uplink_file xs ≡ uplink_file ys → xs ≡ ys }
 {}
 
@@ -55,23 +55,23 @@ pub fn head_faults()
 /// A text that begins with a frame within the limit has no fault of one, and no text has two. So a text of
 /// frames, no more than may come, has none.
 pub fn uplink_faults()
-    ensures none { (limit before : ℕ) (frame : Frame) (rest : List ℕ) (e : RecordFault)
+    ensures none { (limit before : ℕ) (frame : UplinkSlots) (rest : List ℕ) (e : RecordFault)
         → IsFrame frame → before < limit
-        → HasFault (ShowsFault limit before) (frame_octets frame ++ rest) e → e ≡ RecordFault.Read }
+        → HasFault (ShowsUplinkFault limit before) (frame_octets frame ++ rest) e → e ≡ RecordFault.Read }
     ensures one { (limit before : ℕ) (text : List ℕ) (e f : RecordFault)
-        → HasFault (ShowsFault limit before) text e → HasFault (ShowsFault limit before) text f
+        → HasFault (ShowsUplinkFault limit before) text e → HasFault (ShowsUplinkFault limit before) text f
         → e ≢ RecordFault.Read → f ≢ RecordFault.Read → e ≡ f }
-    ensures all { (limit before : ℕ) (frames : List Frame) (e : RecordFault)
+    ensures all { (limit before : ℕ) (frames : List UplinkSlots) (e : RecordFault)
         → AllByRecursion IsFrame frames → before + length frames ≤ limit
-        → HasFault (ShowsFault limit before) (frames_octets frames) e → e ≡ RecordFault.Read }
+        → HasFault (ShowsUplinkFault limit before) (frames_octets frames) e → e ≡ RecordFault.Read }
 {}
 
 /// A fault of a slot of an uplink file is that of its frame: read slot by slot a file shows the fault that it shows frame by frame.
 pub fn uplink_slot_faults()
-    ensures frame { (limit before : ℕ) (slots : List Slot) (part : List ℕ) (e : RecordFault)
+    ensures frame { (limit before : ℕ) (slots : List UplinkSlot) (part : List ℕ) (e : RecordFault)
         → length slots < 2 → AllByRecursion IsSilenceOrBurst slots → (length slots ≡ 1 → before < limit)
         → ShowsUplinkSlotFault (2 * limit) (2 * before + length slots) e part
-        → ShowsFault limit before e (flat_map slot_octets slots ++ part) }
+        → ShowsUplinkFault limit before e (flat_map slot_octets slots ++ part) }
 {}
 
 /// What `uplink_faults` says of frames, of the records of an outgoing file, whose frames don't decrease.
@@ -84,7 +84,7 @@ pub fn outgoing_faults()
         → HasFault (ShowsOutgoingFault limit before last) text f
         → e ≢ RecordFault.Read → f ≢ RecordFault.Read → e ≡ f }
     ensures all { (limit before last : ℕ) (sendings : List Sending) (e : RecordFault)
-        → AllByRecursion IsSending sendings → AreInOrder last sendings → before + length sendings ≤ limit
+        → AllByRecursion IsSending sendings → AreInFrameOrder last sendings → before + length sendings ≤ limit
         → HasFault (ShowsOutgoingFault limit before last) (sendings_octets sendings) e → e ≡ RecordFault.Read }
 {}
 
@@ -103,15 +103,15 @@ pub fn downlink_faults()
 
 /// The same of the records of a received file, which follow one another.
 pub fn received_faults()
-    ensures none { (limit before : ℕ) (last : Option Fields) (r : Receipt) (rest : List ℕ) (e : RecordFault)
-        → IsReadable r → before < limit → Follows last (fields_of r)
+    ensures none { (limit before : ℕ) (last : Option ReceivedFields) (r : Receipt) (rest : List ℕ) (e : RecordFault)
+        → IsReadable r → before < limit → Follows last (received_fields r)
         → HasFault (ShowsReceivedFault limit before last) (receipt_octets r ++ rest) e → e ≡ RecordFault.Read }
-    ensures one { (limit before : ℕ) (last : Option Fields) (text : List ℕ) (e f : RecordFault)
+    ensures one { (limit before : ℕ) (last : Option ReceivedFields) (text : List ℕ) (e f : RecordFault)
         → HasFault (ShowsReceivedFault limit before last) text e
         → HasFault (ShowsReceivedFault limit before last) text f
         → e ≢ RecordFault.Read → f ≢ RecordFault.Read → e ≡ f }
-    ensures all { (limit before : ℕ) (last : Option Fields) (receipts : List Receipt) (e : RecordFault)
-        → AllByRecursion IsReadable receipts → received.AreInOrder last receipts → before + length receipts ≤ limit
+    ensures all { (limit before : ℕ) (last : Option ReceivedFields) (receipts : List Receipt) (e : RecordFault)
+        → AllByRecursion IsReadable receipts → received.FollowEachOther last receipts → before + length receipts ≤ limit
         → HasFault (ShowsReceivedFault limit before last) (receipts_octets receipts) e → e ≡ RecordFault.Read }
 {}
 

@@ -4,7 +4,7 @@ ghost use Rattle.std.specs.Prelude.{◌≡◌, ◌<◌, ◌≤◌, ◌⊎◌, []
 ghost use Rattle.std.specs.Prelude.{take, false, true, IfOk, IfErr, OnOk, OnErr, IfSome, IfNone};
 ghost use Rattle.std.specs.Io.KnownBytes.{Consumes, IsAtEnd};
 ghost use Rattle.dmr_record.specs.Faults.{is_of_end, is_device_fault};
-ghost use Rattle.dmr_record.specs.Outgoing.{field_octets, mode_of, IsPlace, Keeps};
+ghost use Rattle.dmr_record.specs.Outgoing.{outgoing_field_octets, mode_of, IsSlotAndMode, Keeps};
 ghost use Rattle.dmr_record.specs.Outgoing.{IsSending, emptied, sending_of, sending_octets, ShowsOutgoingFault};
 
 use crate::device::Source;
@@ -52,7 +52,7 @@ struct Mode {
 
 /// The fields that eight octets spell.
 fn fields_of(octets: [u8; 8]) -> Fields
-    ensures octets { octets ≡ field_octets
+    ensures octets { octets ≡ outgoing_field_octets
         (record { frame = result.frame; slot = result.slot; mode = result.mode; count = result.length }) }
 {
     Fields {
@@ -99,7 +99,7 @@ fn read_octets<S: Source>(
 fn read_fields<S: Source>(source: &mut S) -> Result<Fields, RecordFault>
     requires well { S.has_failed source.old ≡ false }
     ensures fields { IfOk result (λ f. Consumes (S.left source.old) (S.left source.new)
-        (field_octets (record { frame = f.frame; slot = f.slot; mode = f.mode; count = f.length }))) }
+        (outgoing_field_octets (record { frame = f.frame; slot = f.slot; mode = f.mode; count = f.length }))) }
     ensures well { OnOk result (S.has_failed source.new ≡ false) }
     ensures part { OnErr result ((part : List ℕ) × (length part < 8)
         × Consumes (S.left source.old) (S.left source.new) part) }
@@ -118,8 +118,8 @@ fn read_fields<S: Source>(source: &mut S) -> Result<Fields, RecordFault>
 /// The mode, where the fields name a slot and a mode.
 fn mode_named(slot: u8, mode: u8) -> Option<Mode>
     ensures mode { IfSome result (λ found. mode ≡ mode_of found.confirmed found.full) }
-    ensures place { IfSome result (λ _. IsPlace slot mode) }
-    ensures none { IfNone result (¬ IsPlace slot mode) }
+    ensures place { IfSome result (λ _. IsSlotAndMode slot mode) }
+    ensures none { IfNone result (¬ IsSlotAndMode slot mode) }
 {
     if slot != 1 && slot != 2 {
         return None;

@@ -6,7 +6,8 @@ ghost use Rattle.std.specs.Io.KnownBytes.{Consumes, Appends, IsAtEnd};
 ghost use Rattle.dmr_record.specs.Devices.{Tears};
 ghost use Rattle.dmr_record.specs.Faults.{is_of_end, is_device_fault};
 ghost use Rattle.dmr_record.specs.Received.{kind_octet, receipt_fields, receipt_octets, IsReceipt};
-ghost use Rattle.dmr_record.specs.Received.{Fields, Fit, IsSlot, IsPlace, IsBehind, Follows, field_octets};
+ghost use Rattle.dmr_record.specs.Received.{ReceivedFields, FitsReceived, IsSlot, IsSlotAndKind, IsBehind, Follows};
+ghost use Rattle.dmr_record.specs.Received.{received_field_octets};
 ghost use Rattle.dmr_record.specs.Received.{fields_read, last_read, receipt_of, most_receipts, ShowsReceivedFault};
 
 use crate::device::{Sink, Source};
@@ -140,10 +141,11 @@ pub fn write_received<K: Sink>(
 
 /// The record that these fields are of, where they name a slot and a kind.
 fn received_of(octets: [u8; 11]) -> Option<Received>
-    ensures fields { IfSome result (λ r. octets ≡ field_octets (fields_read r)) }
-    ensures fit { IfSome result (λ r. Fit (fields_read r)) }
+    ensures fields { IfSome result (λ r. octets ≡ received_field_octets (fields_read r)) }
+    ensures fit { IfSome result (λ r. FitsReceived (fields_read r)) }
     ensures slot { IfSome result (λ r. IsSlot r.slot) }
-    ensures none { IfNone result ((f : Fields) × Fit f × (¬ IsPlace f.slot f.kind) × (octets ≡ field_octets f)) }
+    ensures none { IfNone result ((f : ReceivedFields) × FitsReceived f × (¬ IsSlotAndKind f.slot f.kind)
+        × (octets ≡ received_field_octets f)) }
 {
     let frame = BigEndian::read_u32(&octets[..4]);
     let slot = octets[4];

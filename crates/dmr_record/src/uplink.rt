@@ -3,7 +3,8 @@
 ghost use Rattle.std.specs.Prelude.{◌≡◌, ◌%◌, ◌<◌, [], ◌∷◌, List, ℕ, false, true, IfOk, IfErr, OnOk, IfSome, IfNone};
 ghost use Rattle.std.specs.Io.KnownBytes.{Consumes, IsAtEnd};
 ghost use Rattle.dmr_record.specs.Faults.{is_of_end, is_device_fault};
-ghost use Rattle.dmr_record.specs.Uplink.{IsSilenceOrBurst, IsFrame, ShowsSlotFault, ShowsFault, slot_tag, slot_body, frame_octets};
+ghost use Rattle.dmr_record.specs.Uplink.{IsSilenceOrBurst, IsFrame, ShowsSlotFault, ShowsUplinkFault, slot_tag, slot_body};
+ghost use Rattle.dmr_record.specs.Uplink.{frame_octets};
 ghost use Rattle.dmr_record.specs.Uplink.{ShowsUplinkSlotFault, most_uplink_slots, slot_octets};
 
 use crate::device::Source;
@@ -62,7 +63,7 @@ pub fn read_frame<S: Source>(
     ensures well { OnOk result (S.has_failed source.new ≡ false) }
     // A fault is shown by the octets taken, all of this frame.
     ensures fault { IfErr result (λ e. (taken : List ℕ) × Consumes (S.left source.old) (S.left source.new) taken
-        × ShowsFault FRAME_LIMIT before e taken) }
+        × ShowsUplinkFault FRAME_LIMIT before e taken) }
     ensures cut { IfErr result (λ e. is_of_end e ≡ true → IsAtEnd (S.left source.new)) }
     // `Read` is told exactly where the device failed.
     ensures device { IfErr result (λ e. S.has_failed source.new ≡ is_device_fault e) }

@@ -14,11 +14,11 @@ use Rattle.dmr_record.specs.Head.{head_octets}
 use Rattle.dmr_record.specs.Outgoing.{Sending}
 use Rattle.dmr_record.specs.Received.{Receipt, receipt_octets}
 use Rattle.dmr_record.specs.Uplink.{frames_octets}
-use Rattle.dmr_station.specs.Downlink.{silence, handed}
+use Rattle.dmr_station.specs.Downlink.{silent_frame, handed_frames}
 use Rattle.dmr_station.specs.Frames.{Settings, received_of}
-use Rattle.dmr_station.specs.GatewayFrames.{AreReadFrom, by_frame, receipt_of}
+use Rattle.dmr_station.specs.GatewayFrames.{AreReadFrom, by_frame, receipt_in}
 use Rattle.dmr_station.specs.Pairs.{Pairwise}
-use Rattle.dmr_station.specs.Station.{State, fresh, all_taken, records_of, receipts_from, AreExchanged}
+use Rattle.dmr_station.specs.Station.{State, fresh, all_received_taken, records_of, receipts_from, AreExchanged}
 use Rattle.dmr_station.proofs.Exchanges.{exchanged-append}
 use Rattle.dmr_repeater.specs.declared.fault.Stream.{Stream}
 use Rattle.dmr_repeater.specs.Runs.{Files, files, Moment, moment, FailsInFrame, IsSentWith, Reads, Sends, Tears, TearsWithUplink}
@@ -54,13 +54,13 @@ pairs_front f (o ∷ offers) more ss u = (u.0, pairs_front (f + 1) offers more s
 
 -- what was received in one frame more
 receipts_push : (f : ℕ) (g : List (List Received)) (now : List Received)
-    → receipts_from f (g ++ now ∷ []) ≡ receipts_from f g ++ map (receipt_of (f + length g)) now
-receipts_push f [] now = append-nil (map (receipt_of f) now) ∙ ap (λ (n : ℕ). map (receipt_of n) now) (omega arith)
+    → receipts_from f (g ++ now ∷ []) ≡ receipts_from f g ++ map (receipt_in (f + length g)) now
+receipts_push f [] now = append-nil (map (receipt_in f) now) ∙ ap (λ (n : ℕ). map (receipt_in n) now) (omega arith)
 receipts_push f (r ∷ g) now =
     let behind : f + 1 + length g ≡ f + length (r ∷ g) = omega arith in
-    ap (λ l. map (receipt_of f) r ++ l) (receipts_push (f + 1) g now)
-    ∙ sym (append_assoc (map (receipt_of f) r) (receipts_from (f + 1) g) (map (receipt_of (f + 1 + length g)) now))
-    ∙ ap (λ (n : ℕ). receipts_from f (r ∷ g) ++ map (receipt_of n) now) behind
+    ap (λ l. map (receipt_in f) r ++ l) (receipts_push (f + 1) g now)
+    ∙ sym (append_assoc (map (receipt_in f) r) (receipts_from (f + 1) g) (map (receipt_in (f + 1 + length g)) now))
+    ∙ ap (λ (n : ℕ). receipts_from f (r ∷ g) ++ map (receipt_in n) now) behind
 
 records_push : (r : List (List (Option (List ℕ × List ℕ)))) (now : List (Option (List ℕ × List ℕ)))
     → records_of (r ++ now ∷ []) ≡ records_of r ++ now
@@ -71,7 +71,7 @@ module _ (s : Settings) (output : Stream) (a z : Files) (b p h t : Option (List 
     (downlink : Appends a.downlink h (head_octets DOWNLINK_MAGIC))
     (received : Appends a.received t (head_octets RECEIVED_MAGIC))
     (frames given ys : List (List (Option (List ℕ)))) (frame : List (Option (List ℕ)))
-    (split : handed frames ≡ given ++ frame ∷ ys)
+    (split : handed_frames frames ≡ given ++ frame ∷ ys)
     (u : Tears output (moment (fresh s) unread p h t) given frame z.outgoing z.downlink z.received) where
   here : Lengths (fresh s) u.between.station u.sends.offers given u.sends.received
   here = lengths (fresh s) u.between.station u.sends.offers given u.sends.records u.sends.received u.sends.exchanged
@@ -83,7 +83,7 @@ module _ (s : Settings) (output : Stream) (a z : Files) (b p h t : Option (List 
   now = received_of u.torn.next.memory.gate
 
   abbrev after : State
-  after = all_taken u.torn.next
+  after = all_received_taken u.torn.next
 
   at : u.between.station.frames ≡ length given
   at = let sent = here.after in omega (arith, sent)
@@ -122,35 +122,36 @@ module _ (s : Settings) (output : Stream) (a z : Files) (b p h t : Option (List 
       u.sends.records (u.torn.records ∷ []) u.sends.received (now ∷ []) u.sends.exchanged
       (u.ready, u.torn.next, u.offers.offered, u.torn.exchanged, refl, refl)
 
-  first_frames : given ≡ take (length given) (handed frames)
+  first_frames : given ≡ take (length given) (handed_frames frames)
   first_frames = first_handed frames given (frame ∷ ys) split
 
-  with_this : given ++ frame ∷ [] ≡ take (length given + 1) (handed frames)
+  with_this : given ++ frame ∷ [] ≡ take (length given + 1) (handed_frames frames)
   with_this =
       first_handed frames (given ++ frame ∷ []) ys (split ∙ sym (append_assoc given (frame ∷ []) ys))
-      ∙ ap (λ (n : ℕ). take n (handed frames)) (length_push given frame)
+      ∙ ap (λ (n : ℕ). take n (handed_frames frames)) (length_push given frame)
 
   number : u.ready.frames ≡ length given
   number = offers_stay u.between.station u.ready u.offers.given u.offers.offered ∙ at
 
   receipts : receipts_from 0 (u.sends.received ++ now ∷ [])
-      ≡ receipts_from 0 u.sends.received ++ map (receipt_of (length given)) now
+      ≡ receipts_from 0 u.sends.received ++ map (receipt_in (length given)) now
   receipts =
       let long = here.received in
       receipts_push 0 u.sends.received now
-      ∙ ap (λ (n : ℕ). receipts_from 0 u.sends.received ++ map (receipt_of n) now) (omega (arith, long))
+      ∙ ap (λ (n : ℕ). receipts_from 0 u.sends.received ++ map (receipt_in n) now) (omega (arith, long))
 
-  rules : IsSentWith s ss (take (length given + 1) (handed frames)) after.repeated after.counts
-      (receipts_from 0 u.sends.received ++ map (receipt_of (length given)) now) (records_of u.sends.records ++ u.torn.records)
+  rules : IsSentWith s ss (take (length given + 1) (handed_frames frames)) after.repeated after.counts
+      (receipts_from 0 u.sends.received ++ map (receipt_in (length given)) now) (records_of u.sends.records ++ u.torn.records)
   rules =
       let whole = by_rules s (given ++ frame ∷ []) offers (u.sends.records ++ u.torn.records ∷ []) (u.sends.received ++ now ∷ [])
       after u.schedule [] a.outgoing z.outgoing ss all exchanged in
       let of_file = subst (λ (l : List (List (Option (List ℕ)))). IsSentWith s ss l after.repeated after.counts
       (receipts_from 0 (u.sends.received ++ now ∷ [])) (records_of (u.sends.records ++ u.torn.records ∷ []))) with_this whole in
-      let by_receipts = subst (λ (l : List Receipt). IsSentWith s ss (take (length given + 1) (handed frames)) after.repeated
+      let by_receipts = subst (λ (l : List Receipt). IsSentWith s ss (take (length given + 1) (handed_frames frames)) after.repeated
       after.counts l (records_of (u.sends.records ++ u.torn.records ∷ []))) receipts of_file in
-      subst (λ (l : List (Option (List ℕ × List ℕ))). IsSentWith s ss (take (length given + 1) (handed frames)) after.repeated
-      after.counts (receipts_from 0 u.sends.received ++ map (receipt_of (length given)) now) l)
+      subst (λ (l : List (Option (List ℕ
+          × List ℕ))). IsSentWith s ss (take (length given + 1) (handed_frames frames)) after.repeated
+      after.counts (receipts_from 0 u.sends.received ++ map (receipt_in (length given)) now) l)
       (records_push u.sends.records u.torn.records) by_receipts
 
   writes : WritesFirst s ss frames (length given) a (files z.uplink z.outgoing u.between.downlink u.between.received)
@@ -186,12 +187,12 @@ module _ (s : Settings) (output : Stream) (a z : Files) (b p h t : Option (List 
     before = files z.uplink z.outgoing u.between.downlink u.between.received;
     writes = writes;
     slots = u.torn.records;
-    receipts = map (receipt_of (length given)) now;
+    receipts = map (receipt_in (length given)) now;
     repeated = after.repeated;
     counts = after.counts;
     rules = rules;
     torn = subst (λ (n : ℕ). WritesUpTo output u.between.downlink z.downlink u.between.received z.received
-        (downlink_octets u.torn.records) (flat_map receipt_octets (map (receipt_of n) now))) number u.torn.written;
+        (downlink_octets u.torn.records) (flat_map receipt_octets (map (receipt_in n) now))) number u.torn.written;
   }
 
 module _ (s : Settings) (m : State) (new : m ≡ fresh s) (output : Stream) (a z : Files) (b p h t : Option (List ℕ))
@@ -202,27 +203,31 @@ module _ (s : Settings) (m : State) (new : m ≡ fresh s) (output : Stream) (a z
   pub fails_with_uplink : TearsWithUplink output (moment m unread p h t) b z.uplink z.outgoing z.downlink z.received
       → FailsInFrame output s a z
   fails_with_uplink u =
-      let split : handed u.frames ≡ u.given ++ u.frame ∷ replicate 5 silence =
-      ap (λ l. l ++ replicate 5 silence) u.split ∙ append_assoc u.given (u.frame ∷ []) (replicate 5 silence) in
+      let split : handed_frames u.frames ≡ u.given ++ u.frame ∷ replicate 5 silent_frame =
+      ap (λ l. l ++ replicate 5 silent_frame) u.split ∙ append_assoc u.given (u.frame ∷ []) (replicate 5 silent_frame) in
       let counts = ap length u.split in
       let long = length-append u.given (u.frame ∷ []) in
       let told = subst (λ (l : State). Tears output (moment l unread p h t) u.given u.frame z.outgoing z.downlink z.received) new
       u.tears in
-      fails s output a z b p h t uplink head downlink received u.frames u.given (replicate 5 silence) u.frame split told u.reads
+      fails s output a z b p h t uplink head downlink received u.frames u.given (replicate 5 silent_frame) u.frame split told
+          u.reads
       (inl (omega arith))
 
   -- past its end
   pub fails_past_uplink : (frames : List (List (Option (List ℕ)))) (count : ℕ) → count < 5 → Reads frames [] b z.uplink
       → IsAtEnd z.uplink
-      → Tears output (moment m unread p h t) ((silence ∷ frames) ++ replicate count silence) silence z.outgoing z.downlink
+      → Tears output (moment m unread p h t) ((silent_frame
+          ∷ frames) ++ replicate count silent_frame) silent_frame z.outgoing z.downlink
       z.received
       → FailsInFrame output s a z
   fails_past_uplink frames count few reads end u =
-      let xs : List (List (Option (List ℕ))) = (silence ∷ frames) ++ replicate count silence in
+      let xs : List (List (Option (List ℕ))) = (silent_frame ∷ frames) ++ replicate count silent_frame in
       let left : 5 - count ≡ suc (4 - count) = omega arith in
-      let split : handed frames ≡ xs ++ silence ∷ replicate (4 - count) silence =
-      handed_split frames count (omega arith) ∙ ap (λ n. xs ++ replicate n silence) left in
+      let split : handed_frames frames ≡ xs ++ silent_frame ∷ replicate (4 - count) silent_frame =
+      handed_split frames count (omega arith) ∙ ap (λ n. xs ++ replicate n silent_frame) left in
       let long : length xs ≡ length frames + 1 + count = simp (length-append, length-replicate) (omega arith) in
-      let told = subst (λ (l : State). Tears output (moment l unread p h t) xs silence z.outgoing z.downlink z.received) new u in
-      fails s output a z b p h t uplink head downlink received frames xs (replicate (4 - count) silence) silence split told reads
+      let told = subst (λ (l : State). Tears output (moment l unread p h t) xs silent_frame z.outgoing z.downlink z.received) new u
+          in
+      fails s output a z b p h t uplink head downlink received frames xs (replicate (4 - count) silent_frame) silent_frame split
+          told reads
       (inr (end, omega arith, omega arith))

@@ -5,7 +5,7 @@ use Rattle.dmr_record.specs.declared.fault.RecordFault.TheVariants.{Magic, Versi
 use Rattle.dmr_record.specs.declared.fault.RecordFault.TheVariants.{FrameOrder, TooLong, Read, Write}
 use Rattle.dmr_record.specs.Head.{ShowsHeadFault}
 use Rattle.dmr_record.specs.Outgoing.{ShowsOutgoingFault}
-use Rattle.dmr_record.specs.Uplink.{ShowsFault}
+use Rattle.dmr_record.specs.Uplink.{ShowsUplinkFault}
 use Rattle.dmr_repeater.specs.declared.fault.RunFault.{RunFault}
 use Rattle.dmr_repeater.specs.declared.fault.RunFault.TheVariants.{File, Memory}
 use Rattle.dmr_repeater.specs.declared.fault.Stream.TheVariants.{Uplink, Outgoing, Downlink, Received}
@@ -37,7 +37,7 @@ outgoing_head magic Read octets shown = refl
 outgoing_head magic Write octets shown = absurd shown
 
 pub uplink_frames : (limit before : ℕ) (e : RecordFault) (octets : List ℕ)
-    → ShowsFault limit before e octets → is_of_its_stream (File Uplink e) ≡ true
+    → ShowsUplinkFault limit before e octets → is_of_its_stream (File Uplink e) ≡ true
 uplink_frames limit before Magic octets shown = refl
 uplink_frames limit before Version octets shown = refl
 uplink_frames limit before CutRecord octets shown = refl

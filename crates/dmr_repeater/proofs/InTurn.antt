@@ -14,10 +14,11 @@ use Rattle.dmr_repeater.specs.Runs.{ReadsRecords, from_frame}
 use Rattle.dmr_repeater.proofs.Records.{All-append, AreDue-later, Gives-same, Gives-trans}
 use Rattle.std.specs.Io.KnownBytes.{Consumes}
 use Rattle.dmr_record.specs.declared.outgoing.Outgoing.{Outgoing}
-use Rattle.dmr_record.specs.Outgoing.{Sending, IsSending, AreInOrder, sendings_octets}
-use Rattle.dmr_station.specs.GatewayFrames.{IsReadFrom, AreReadFrom, AreForSlots, by_frame}
+use Rattle.dmr_record.specs.Outgoing.{Sending, IsSending, AreInFrameOrder, sendings_octets}
+use Rattle.dmr_station.specs.GatewayFrames.{IsReadOutgoing, AreReadFrom, AreForSlots, by_frame}
 use Rattle.dmr_station.specs.Pairs.{Pairwise}
-use Rattle.dmr_repeater.specs.Schedule.{Progress, unread, waiting, last_frame, Gives, AreDue, GivesDue, IsPast, AreOfferedInTurn}
+use Rattle.dmr_repeater.specs.Schedule.{ReadingProgress, unread, waiting, last_frame, Gives, AreDue, GivesDue, IsPast}
+use Rattle.dmr_repeater.specs.Schedule.{AreOfferedInTurn}
 
 -- 1. Lists that go together, taken apart.
 
@@ -54,13 +55,13 @@ together R (x ∷ xs) ys (u ∷ us) vs p q = (p.0, together R xs ys us vs p.1 q)
 abbrev AreOf : ℕ → List Sending → Type 0
 AreOf frame ss = AllByRecursion (λ s. s.frame ≡ frame) ss
 
-pub later : (f g : ℕ) (ss : List Sending) → g ≤ f → AreInOrder f ss → AreInOrder g ss
+pub later : (f g : ℕ) (ss : List Sending) → g ≤ f → AreInFrameOrder f ss → AreInFrameOrder g ss
 later f g [] h p = tt
 later f g (s ∷ ss) h p = let first = p.0 in (omega (arith, first), p.1)
 
 -- what is due in a frame, and was not due before it, is of that frame
-due_now : (f : ℕ) (os : List Outgoing) (ss rest : List Sending) → AreReadFrom os ss → AreDue f os → AreInOrder f (ss ++ rest)
-    → AreOf f ss × AreInOrder f rest
+due_now : (f : ℕ) (os : List Outgoing) (ss rest : List Sending) → AreReadFrom os ss → AreDue f os → AreInFrameOrder f (ss ++ rest)
+    → AreOf f ss × AreInFrameOrder f rest
 due_now f [] [] rest pairs due order = (tt, order)
 due_now f [] (s ∷ ss) rest pairs due order = absurd pairs
 due_now f (o ∷ os) [] rest pairs due order = absurd pairs
@@ -69,7 +70,7 @@ due_now f (o ∷ os) (s ∷ ss) rest pairs due order =
     let at_most = due.0 in
     let at_least = order.0 in
     let now : s.frame ≡ f = omega (arith, same, at_most, at_least) in
-    let more = due_now f os ss rest pairs.1 due.1 (subst (λ n. AreInOrder n (ss ++ rest)) now order.1) in
+    let more = due_now f os ss rest pairs.1 due.1 (subst (λ n. AreInFrameOrder n (ss ++ rest)) now order.1) in
     ((now, more.0), more.1)
 
 other_after : (m n : ℕ) → n < m → eqb m n ≡ false
@@ -82,7 +83,7 @@ same_frame : (n : ℕ) → eqb n n ≡ true
 same_frame n = grind arith
 
 -- of later frames none is of this one
-none_of : (f g : ℕ) (ss : List Sending) → f < g → AreInOrder g ss → filter (λ (s : Sending). eqb s.frame f) ss ≡ []
+none_of : (f g : ℕ) (ss : List Sending) → f < g → AreInFrameOrder g ss → filter (λ (s : Sending). eqb s.frame f) ss ≡ []
 none_of f g [] h order = refl
 none_of f g (s ∷ ss) h order =
     let first = order.0 in
@@ -121,42 +122,42 @@ passed f g (suc count) ss rest h of =
 -- 3. Frame after frame.
 
 -- what was read while records were offered in turn
-abbrev pub read_in_turn : (f : ℕ) (offers : List (List Outgoing)) (p q : Progress) (a b : Option (List ℕ))
+abbrev pub read_in_turn : (f : ℕ) (offers : List (List Outgoing)) (p q : ReadingProgress) (a b : Option (List ℕ))
     → AreOfferedInTurn f offers p q a b
     → List Sending
 read_in_turn f [] p q a b u = []
 read_in_turn f (given ∷ more) p q a b u = u.3.sendings ++ read_in_turn (f + 1) more u.0 q u.1 b u.5
 
 -- nothing is read behind the end
-none_behind : (f : ℕ) (offers : List (List Outgoing)) (p q : Progress) (a b : Option (List ℕ))
+none_behind : (f : ℕ) (offers : List (List Outgoing)) (p q : ReadingProgress) (a b : Option (List ℕ))
     (u : AreOfferedInTurn f offers p q a b)
     (rest : List Sending) → (q.at_end ≡ true → rest ≡ []) → p.at_end ≡ true → read_in_turn f offers p q a b u ++ rest ≡ []
-none_behind f [] p q a b u rest h e = h (ap (λ (x : Progress). x.at_end) u.0 ∙ e)
+none_behind f [] p q a b u rest h e = h (ap (λ (x : ReadingProgress). x.at_end) u.0 ∙ e)
 none_behind f (given ∷ more) p q a b u rest h e =
     let now = u.3.ended e in
     let behind = none_behind (f + 1) more u.0 q u.1 b u.5 rest h now.1 in
     ap (λ l. (l ++ read_in_turn (f + 1) more u.0 q u.1 b u.5) ++ rest) now.0 ∙ behind
 
 -- what is left behind a frame is of later frames
-next_waits : (f : ℕ) (o : Outgoing) (ws rest : List Sending) → Pairwise IsReadFrom (o ∷ []) ws → f < o.frame
-    → AreInOrder f (ws ++ rest) → AreInOrder (f + 1) (ws ++ rest)
+next_waits : (f : ℕ) (o : Outgoing) (ws rest : List Sending) → Pairwise IsReadOutgoing (o ∷ []) ws → f < o.frame
+    → AreInFrameOrder f (ws ++ rest) → AreInFrameOrder (f + 1) (ws ++ rest)
 next_waits f o [] rest pairs less order = absurd pairs
 next_waits f o (s ∷ []) rest pairs less order =
     let same : o.frame ≡ s.frame = ap (λ (x : Sending). x.frame) pairs.0.fields in
     (omega (arith, same, less), order.1)
 next_waits f o (s ∷ t ∷ ws) rest pairs less order = absurd pairs.1
 
-none_waits : (f : ℕ) (ws rest : List Sending) → Pairwise IsReadFrom [] ws → rest ≡ [] → AreInOrder (f + 1) (ws ++ rest)
-none_waits f [] rest pairs none = subst (AreInOrder (f + 1)) (sym none) tt
+none_waits : (f : ℕ) (ws rest : List Sending) → Pairwise IsReadOutgoing [] ws → rest ≡ [] → AreInFrameOrder (f + 1) (ws ++ rest)
+none_waits f [] rest pairs none = subst (AreInFrameOrder (f + 1)) (sym none) tt
 none_waits f (s ∷ ws) rest pairs none = absurd pairs
 
-left_behind : (f : ℕ) (p : Progress) (ws rest : List Sending) → IsPast f p → Pairwise IsReadFrom (waiting p) ws
-    → (p.at_end ≡ true → rest ≡ []) → AreInOrder f (ws ++ rest) → AreInOrder (f + 1) (ws ++ rest)
+left_behind : (f : ℕ) (p : ReadingProgress) (ws rest : List Sending) → IsPast f p → Pairwise IsReadOutgoing (waiting p) ws
+    → (p.at_end ≡ true → rest ≡ []) → AreInFrameOrder f (ws ++ rest) → AreInFrameOrder (f + 1) (ws ++ rest)
 left_behind f p ws rest (inl past) pairs end order =
     next_waits f past.0 ws rest
-    (subst (λ (x : Option Outgoing). Pairwise IsReadFrom (option_to_list x) ws) past.1 pairs) past.3 order
+    (subst (λ (x : Option Outgoing). Pairwise IsReadOutgoing (option_to_list x) ws) past.1 pairs) past.3 order
 left_behind f p ws rest (inr past) pairs end order =
-    none_waits f ws rest (subst (λ (x : Option Outgoing). Pairwise IsReadFrom (option_to_list x) ws) past.0 pairs) (end past.1)
+    none_waits f ws rest (subst (λ (x : Option Outgoing). Pairwise IsReadOutgoing (option_to_list x) ws) past.0 pairs) (end past.1)
 
 -- one list, cut in two ways
 regrouped : (w s t rest front behind : List Sending) → w ++ s ≡ front ++ behind
@@ -167,24 +168,24 @@ regrouped w s t rest front behind e =
 
 -- Where the records that wait and those that are read after them stand in the order of their frames, none of an earlier one, in
 -- each frame those are offered that are of that frame.
-pub in_turn : (f : ℕ) (offers : List (List Outgoing)) (p q : Progress) (a b : Option (List ℕ))
+pub in_turn : (f : ℕ) (offers : List (List Outgoing)) (p q : ReadingProgress) (a b : Option (List ℕ))
     (u : AreOfferedInTurn f offers p q a b)
-    (waits rest : List Sending) → Pairwise IsReadFrom (waiting p) waits → (q.at_end ≡ true → rest ≡ [])
-    → AreInOrder f (waits ++ (read_in_turn f offers p q a b u ++ rest))
+    (waits rest : List Sending) → Pairwise IsReadOutgoing (waiting p) waits → (q.at_end ≡ true → rest ≡ [])
+    → AreInFrameOrder f (waits ++ (read_in_turn f offers p q a b u ++ rest))
     → Pairwise AreReadFrom offers (by_frame f (length offers) (waits ++ (read_in_turn f offers p q a b u ++ rest)))
 in_turn f [] p q a b u waits rest pairs end order = tt
 in_turn f (given ∷ more) p q a b u waits rest pairs end order =
     let g : Gives p u.0 given [] a u.1 = u.3 in
     let behind : List Sending = read_in_turn (f + 1) more u.0 q u.1 b u.5 in
-    let cut = apart IsReadFrom given (waiting u.0) (waits ++ g.sendings)
-    (subst (λ l. Pairwise IsReadFrom l (waits ++ g.sendings)) g.all
-    (together IsReadFrom (waiting p) g.found waits g.sendings pairs g.kept)) in
+    let cut = apart IsReadOutgoing given (waiting u.0) (waits ++ g.sendings)
+    (subst (λ l. Pairwise IsReadOutgoing l (waits ++ g.sendings)) g.all
+    (together IsReadOutgoing (waiting p) g.found waits g.sendings pairs g.kept)) in
     let left : List Sending = cut.rest ++ (behind ++ rest) in
     let whole : waits ++ ((g.sendings ++ behind) ++ rest) ≡ cut.front ++ left =
     regrouped waits g.sendings behind rest cut.front cut.rest cut.whole in
-    let due = due_now f given cut.front left cut.first u.2 (subst (AreInOrder f) whole order) in
+    let due = due_now f given cut.front left cut.first u.2 (subst (AreInFrameOrder f) whole order) in
     let ends : u.0.at_end ≡ true → behind ++ rest ≡ [] = none_behind (f + 1) more u.0 q u.1 b u.5 rest end in
-    let next : AreInOrder (f + 1) left = left_behind f u.0 cut.rest (behind ++ rest) u.4 cut.second ends due.1 in
+    let next : AreInFrameOrder (f + 1) left = left_behind f u.0 cut.rest (behind ++ rest) u.4 cut.second ends due.1 in
     let now : filter (λ (s : Sending). eqb s.frame f) (cut.front ++ left) ≡ cut.front =
     all_of f cut.front left due.0 ∙ ap (λ l. cut.front ++ l) (none_of f (f + 1) left (omega arith) next) ∙ append-nil cut.front in
     subst (λ l. Pairwise AreReadFrom (given ∷ more) (by_frame f (length (given ∷ more)) l)) (sym whole) (
@@ -195,20 +196,20 @@ in_turn f (given ∷ more) p q a b u waits rest pairs end order =
 
 -- 4. What was read in all.
 
-pub record ReadInTurn (f bound : ℕ) (offers : List (List Outgoing)) (p q : Progress) (a b : Option (List ℕ))
+pub record ReadInTurn (f bound : ℕ) (offers : List (List Outgoing)) (p q : ReadingProgress) (a b : Option (List ℕ))
     (u : AreOfferedInTurn f offers p q a b) : Type 0 where
   pub due : GivesDue bound p q a b
   pub same : due.gives.sendings ≡ read_in_turn f offers p q a b u
 
-pub given_in_turn : (f bound : ℕ) (offers : List (List Outgoing)) (p q : Progress) (a b : Option (List ℕ))
+pub given_in_turn : (f bound : ℕ) (offers : List (List Outgoing)) (p q : ReadingProgress) (a b : Option (List ℕ))
     (u : AreOfferedInTurn f offers p q a b) → f + length offers ≤ bound + 1 → ReadInTurn f bound offers p q a b u
 unfolding Gives-same Gives-trans
 given_in_turn f bound [] p q a b u h = record {
   due = record {
     given = [];
     due = tt;
-    gives = Gives-same p q a b (ap (λ (x : Progress). x.records) u.0) (ap (λ (x : Progress). x.last) u.0)
-        (ap (λ (x : Progress). x.ahead) u.0) u.1 (λ end. ap (λ (x : Progress). x.at_end) u.0 ∙ end);
+    gives = Gives-same p q a b (ap (λ (x : ReadingProgress). x.records) u.0) (ap (λ (x : ReadingProgress). x.last) u.0)
+        (ap (λ (x : ReadingProgress). x.ahead) u.0) u.1 (λ end. ap (λ (x : ReadingProgress). x.at_end) u.0 ∙ end);
   };
   same = refl;
 }
@@ -240,7 +241,7 @@ slots_in_turn f zero ss each = tt
 slots_in_turn f (suc count) ss each = (slots_of_frame f ss each, slots_in_turn (f + 1) count ss each)
 
 -- What was offered in turn, and what was read further, are records of the file.
-pub record ReadInAll (offers : List (List Outgoing)) (r : Progress) (part : List ℕ) (o d : Option (List ℕ))
+pub record ReadInAll (offers : List (List Outgoing)) (r : ReadingProgress) (part : List ℕ) (o d : Option (List ℕ))
     (ss : List Sending) : Type 0
   where
     pub reads : ReadsRecords ss part o d
@@ -249,7 +250,7 @@ pub record ReadInAll (offers : List (List Outgoing)) (r : Progress) (part : List
     pub last : r.last ≡ last_frame 0 ss
     pub count : r.records ≡ length ss
 
-pub read_in_all : (offers : List (List Outgoing)) (q r : Progress) (more : List Outgoing) (part : List ℕ)
+pub read_in_all : (offers : List (List Outgoing)) (q r : ReadingProgress) (more : List Outgoing) (part : List ℕ)
     (o p b d : Option (List ℕ))
     → Consumes o p (head_octets OUTGOING_MAGIC) → (u : AreOfferedInTurn 0 offers unread q p b) → (g : Gives q r more part b d)
     → ReadInAll offers r part o d (read_in_turn 0 offers unread q p b u ++ g.sendings)
@@ -260,7 +261,7 @@ read_in_all offers q r more part o p b d head u g =
     let whole = Gives-trans unread q r turn.due.given more part p b d turn.due.gives g in
     let same : whole.sendings ≡ ss = ap (λ l. l ++ g.sendings) turn.same in
     let each : AllByRecursion IsSending ss = subst (AllByRecursion IsSending) same whole.each in
-    let order : AreInOrder 0 ss = subst (AreInOrder 0) same whole.order in
+    let order : AreInFrameOrder 0 ss = subst (AreInFrameOrder 0) same whole.order in
     let read : Consumes p d (sendings_octets ss ++ part) = subst (λ l. Consumes p d (sendings_octets l ++ part)) same whole.read in
     let counted = whole.count in
     let long = ap length same in
@@ -279,7 +280,7 @@ read_in_all offers q r more part o p b d head u g =
 
 -- 5. A front of the file has all that its frames need.
 
-pub by_frame_front : (f count : ℕ) (xs more : List Sending) → AreInOrder (f + count) more
+pub by_frame_front : (f count : ℕ) (xs more : List Sending) → AreInFrameOrder (f + count) more
     → by_frame f count (xs ++ more) ≡ by_frame f count xs
 by_frame_front f zero xs more order = refl
 by_frame_front f (suc count) xs more order =
@@ -287,7 +288,7 @@ by_frame_front f (suc count) xs more order =
     filter-append (λ (s : Sending). eqb s.frame f) xs more
     ∙ ap (λ l. filter (λ (s : Sending). eqb s.frame f) xs ++ l) (none_of f (f + suc count) more (omega arith) order)
     ∙ append-nil (filter (λ (s : Sending). eqb s.frame f) xs) in
-    let behind : AreInOrder (f + 1 + count) more = later (f + suc count) (f + 1 + count) more (omega arith) order in
+    let behind : AreInFrameOrder (f + 1 + count) more = later (f + suc count) (f + 1 + count) more (omega arith) order in
     ap (λ l. l ∷ by_frame (f + 1) count (xs ++ more)) now
     ∙ ap (λ l. filter (λ (s : Sending). eqb s.frame f) xs ∷ l) (by_frame_front (f + 1) count xs more behind)
 
@@ -309,7 +310,7 @@ counted_offers [] [] u = refl
 counted_offers [] (s ∷ ss) u = absurd u
 counted_offers (o ∷ offers) [] u = absurd u
 counted_offers (o ∷ offers) (s ∷ ss) u =
-    let first = counted_pairs IsReadFrom o s u.0 in
+    let first = counted_pairs IsReadOutgoing o s u.0 in
     let more = counted_offers offers ss u.1 in
     omega (arith, first, more)
 

@@ -10,33 +10,33 @@ use Rattle.dmr_gateway.specs.declared.received.Received.{Received}
 use Rattle.dmr_record.specs.Devices.{Tears}
 use Rattle.dmr_record.specs.Received.{receipt_octets}
 use Rattle.dmr_station.specs.Frames.{received_of, received_taken}
-use Rattle.dmr_station.specs.GatewayFrames.{receipt_of}
-use Rattle.dmr_station.specs.Station.{State, taken_once, all_taken}
+use Rattle.dmr_station.specs.GatewayFrames.{receipt_in}
+use Rattle.dmr_station.specs.Station.{State, taken_once, all_received_taken}
 use Rattle.dmr_station.proofs.Taking.{received_step, taken_step, nothing_waits}
 use Rattle.dmr_repeater.specs.Runs.{FrontOf}
 
 -- the octets of what was received in a frame
 abbrev pub octets_of : ℕ → List Received → List ℕ
-octets_of number received = flat_map receipt_octets (map (receipt_of number) received)
+octets_of number received = flat_map receipt_octets (map (receipt_in number) received)
 
 octets_of-append : (number : ℕ) (a b : List Received) → octets_of number (a ++ b) ≡ octets_of number a ++ octets_of number b
 octets_of-append number [] b = refl
 octets_of-append number (r ∷ a) b =
-    ap (λ l. receipt_octets (receipt_of number r) ++ l) (octets_of-append number a b)
-    ∙ sym (append_assoc (receipt_octets (receipt_of number r)) (octets_of number a) (octets_of number b))
+    ap (λ l. receipt_octets (receipt_in number r) ++ l) (octets_of-append number a b)
+    ∙ sym (append_assoc (receipt_octets (receipt_in number r)) (octets_of number a) (octets_of number b))
 
 -- These of the frame are written, and the others wait.
 pub record Written (number : ℕ) (before now : State) (a b : Option (List ℕ)) : Type 0 where
   pub done : List Received
   pub split : received_of before.memory.gate ≡ done ++ received_of now.memory.gate
-  pub whole : all_taken now ≡ all_taken before
+  pub whole : all_received_taken now ≡ all_received_taken before
   pub written : Appends a b (octets_of number done)
 
 pub none_written : (number : ℕ) (s : State) (a : Option (List ℕ)) → Written number s s a a
 none_written number s a = record { done = []; split = refl; whole = refl; written = Appends-nil a }
 
 -- a record is taken
-taken_whole : (s : State) → all_taken (taken_once s) ≡ all_taken s
+taken_whole : (s : State) → all_received_taken (taken_once s) ≡ all_received_taken s
 taken_whole s =
     let g : Gate = s.memory.gate in
     let step = ap length (received_step g) in
@@ -53,34 +53,34 @@ taken_whole s =
     count
 
 pub one_written : (number : ℕ) (before now : State) (r : Received) (a b c : Option (List ℕ)) → Written number before now a b
-    → next_received now.memory.gate ≡ Some r → Appends b c (receipt_octets (receipt_of number r))
+    → next_received now.memory.gate ≡ Some r → Appends b c (receipt_octets (receipt_in number r))
     → Written number before (taken_once now) a c
 one_written number before now r a b c u is one =
     let rest = received_of (after_received now.memory.gate) in
     let step : received_of now.memory.gate ≡ r ∷ rest =
     received_step now.memory.gate ∙ ap (λ (o : Option Received). option_to_list o ++ rest) is in
-    let single : octets_of number (u.done ++ r ∷ []) ≡ octets_of number u.done ++ receipt_octets (receipt_of number r) =
+    let single : octets_of number (u.done ++ r ∷ []) ≡ octets_of number u.done ++ receipt_octets (receipt_in number r) =
     octets_of-append number u.done (r ∷ [])
-    ∙ ap (λ l. octets_of number u.done ++ l) (append-nil (receipt_octets (receipt_of number r))) in
+    ∙ ap (λ l. octets_of number u.done ++ l) (append-nil (receipt_octets (receipt_in number r))) in
     record {
       done = u.done ++ r ∷ [];
       split = u.split ∙ ap (λ l. u.done ++ l) step ∙ sym (append_assoc u.done (r ∷ []) rest);
       whole = taken_whole now ∙ u.whole;
       written = subst (Appends a c) (sym single)
-          (Appends-trans a b c (octets_of number u.done) (receipt_octets (receipt_of number r)) u.written one);
+          (Appends-trans a b c (octets_of number u.done) (receipt_octets (receipt_in number r)) u.written one);
     }
 
 -- all are taken
 pub all_written : (number : ℕ) (before now : State) (a b : Option (List ℕ)) → Written number before now a b
     → next_received now.memory.gate ≡ None
-    → Appends a b (octets_of number (received_of before.memory.gate)) × (taken_once now ≡ all_taken before)
+    → Appends a b (octets_of number (received_of before.memory.gate)) × (taken_once now ≡ all_received_taken before)
 all_written number before now a b u none =
     let nothing = nothing_waits now.memory.gate none in
     let whole : received_of before.memory.gate ≡ u.done =
     u.split ∙ ap (λ l. u.done ++ l) nothing.0 ∙ append-nil u.done in
     (subst (λ l. Appends a b (octets_of number l)) (sym whole) u.written, last_taken now none ∙ u.whole)
   where
-    last_taken : (s : State) → next_received s.memory.gate ≡ None → taken_once s ≡ all_taken s
+    last_taken : (s : State) → next_received s.memory.gate ≡ None → taken_once s ≡ all_received_taken s
     last_taken s is =
         let g : Gate = s.memory.gate in
         let nothing = nothing_waits g is in
@@ -124,10 +124,10 @@ all_written number before now a b u none =
 
 -- a record of them tore
 pub torn_received : (number : ℕ) (before now : State) (r : Received) (a b c : Option (List ℕ)) → Written number before now a b
-    → next_received now.memory.gate ≡ Some r → Tears b c (receipt_octets (receipt_of number r))
+    → next_received now.memory.gate ≡ Some r → Tears b c (receipt_octets (receipt_in number r))
     → FrontOf a c (octets_of number (received_of before.memory.gate))
 torn_received number before now r a b c u is torn =
-    let one : List ℕ = receipt_octets (receipt_of number r) in
+    let one : List ℕ = receipt_octets (receipt_in number r) in
     let rest = received_of (after_received now.memory.gate) in
     let step : received_of now.memory.gate ≡ r ∷ rest =
     received_step now.memory.gate ∙ ap (λ (o : Option Received). option_to_list o ++ rest) is in

@@ -10,23 +10,23 @@ use Rattle.dmr_record.specs.declared.outgoing.Outgoing.{Outgoing}
 use Rattle.dmr_record.specs.declared.outgoing.TheConstants.{RECORD_LIMIT}
 use Rattle.dmr_record.specs.Faults.{is_of_end, is_device_fault}
 use Rattle.dmr_record.specs.Head.{head_octets}
-use Rattle.dmr_record.specs.Outgoing.{Sending, IsSending, AreInOrder}
+use Rattle.dmr_record.specs.Outgoing.{Sending, IsSending, AreInFrameOrder}
 use Rattle.dmr_record.specs.Outgoing.{sending_octets, sendings_octets, outgoing_file, ShowsOutgoingFault}
 use Rattle.dmr_record.proofs.NoFault.{no_outgoing_fault}
 use Rattle.dmr_record.proofs.OutgoingReading.{sending_code}
 use Rattle.dmr_record.proofs.Spellings.{front_read, none_left, All-right}
 use Rattle.dmr_station.specs.GatewayFrames.{by_frame}
 use Rattle.dmr_repeater.specs.Runs.{HasOutgoing, ReadsRecords, ReadsAllBefore}
-use Rattle.dmr_repeater.specs.Schedule.{Progress, unread, last_frame, Gives, HasRecords}
+use Rattle.dmr_repeater.specs.Schedule.{ReadingProgress, unread, last_frame, Gives, HasRecords}
 use Rattle.dmr_repeater.proofs.Files.{consumed, left_behind}
 use Rattle.dmr_repeater.proofs.InTurn.{by_frame_front, later}
 
 -- ---- records show no fault
-pub order-right : (last : ℕ) (xs ys : List Sending) → AreInOrder last (xs ++ ys) → AreInOrder (last_frame last xs) ys
+pub order-right : (last : ℕ) (xs ys : List Sending) → AreInFrameOrder last (xs ++ ys) → AreInFrameOrder (last_frame last xs) ys
 order-right last [] ys p = p
 order-right last (x ∷ xs) ys p = order-right x.frame xs ys p.1
 
-pub no_fault_stops : (e : RecordFault) (p r : Progress) (given : List Outgoing) (part : List ℕ) (others : List Sending)
+pub no_fault_stops : (e : RecordFault) (p r : ReadingProgress) (given : List Outgoing) (part : List ℕ) (others : List Sending)
     (a c : Option (List ℕ)) → Gives p r given part a c → ShowsOutgoingFault RECORD_LIMIT r.records r.last e part
     → (is_of_end e ≡ true → IsAtEnd c)
     → HasRecords p others a → is_device_fault e ≡ true
@@ -41,7 +41,7 @@ no_fault_stops e p r given part others a c u shown cut has =
     let few = has.few in
     no_outgoing_fault RECORD_LIMIT (p.records + length xs) (last_frame p.last xs) e part rest more
     (All-right IsSending xs more (subst (AllByRecursion IsSending) whole has.each))
-    (order-right p.last xs more (subst (AreInOrder p.last) whole has.order))
+    (order-right p.last xs more (subst (AreInFrameOrder p.last) whole has.order))
     (omega (arith, length-append xs more, counts)) shown_at (λ end. at_end (cut end)) left
 
 pub has_records : (others : List Sending) (a b : Option (List ℕ)) → HasOutgoing others a
@@ -54,7 +54,8 @@ has_records others a b has read = record {
 }
 
 -- what a source that tells its octets has left of them
-pub has_left : (p q : Progress) (given : List Outgoing) (others : List Sending) (a b : Option (List ℕ)) → Gives p q given [] a b
+pub has_left : (p q : ReadingProgress) (given : List Outgoing) (others : List Sending) (a b : Option (List ℕ))
+    → Gives p q given [] a b
     → HasRecords p others a → (more : List Sending) × HasRecords q more b
 has_left p q given others a None u has = absurd (rw has.has at u.read)
 has_left p q given others a (Some left) u has =
@@ -68,8 +69,8 @@ has_left p q given others a (Some left) u has =
       more,
       record {
         each = All-right IsSending xs more (subst (AllByRecursion IsSending) whole has.each);
-        order = subst (λ (n : ℕ). AreInOrder n more) (sym u.last) (order-right p.last xs more (subst
-            (AreInOrder p.last) whole has.order));
+        order = subst (λ (n : ℕ). AreInFrameOrder n more) (sym u.last) (order-right p.last xs more (subst
+            (AreInFrameOrder p.last) whole has.order));
         few = omega (arith, length-append xs more, counts);
         has = ap Some rest;
       },
@@ -101,7 +102,7 @@ same_in_frames count frames l0 l1 ss others u has few =
     by_past : (more : List Sending) → others ≡ ss ++ more → (IsAtEnd l1 → u.part ≡ [] → more ≡ [])
         → (count ≤ last_frame 0 ss) ⊎ (IsAtEnd l1 × (u.part ≡ [])) → by_frame 0 frames (ss ++ more) ≡ by_frame 0 frames ss
     by_past more whole none (inl past) =
-        let order = order-right 0 ss more (subst (AreInOrder 0) whole has.order) in
+        let order = order-right 0 ss more (subst (AreInFrameOrder 0) whole has.order) in
         by_frame_front 0 frames ss more (later (last_frame 0 ss) (0 + frames) more (omega (arith, few, past)) order)
     by_past more whole none (inr past) =
         ap (λ l. by_frame 0 frames (ss ++ l)) (none past.0 past.1) ∙ ap (by_frame 0 frames) (append-nil ss)

@@ -6,8 +6,8 @@ ghost use Rattle.dmr_record.specs.Devices.{Tears};
 ghost use Rattle.dmr_record.specs.Downlink.{downlink_octets};
 ghost use Rattle.dmr_record.specs.Received.{receipt_octets};
 ghost use Rattle.dmr_station.specs.Frames.{received_of};
-ghost use Rattle.dmr_station.specs.GatewayFrames.{receipt_of};
-ghost use Rattle.dmr_station.specs.Station.{all_taken};
+ghost use Rattle.dmr_station.specs.GatewayFrames.{receipt_in};
+ghost use Rattle.dmr_station.specs.Station.{all_received_taken};
 ghost use Rattle.dmr_repeater.specs.Runs.{FrontOf, IfOutgoing, IfOutput, IfUplink, SendsFrontOfOne, SendsOne, TearsOne};
 ghost use Rattle.dmr_repeater.specs.Runs.{is_downlink_failure, is_failure, is_memory, is_of_its_stream, is_outgoing_failure};
 ghost use Rattle.dmr_repeater.specs.Runs.{is_received_failure, is_uplink_failure};
@@ -39,13 +39,13 @@ fn write_all_received<R: Sink>(
 ) -> Result<(), RecordFault>
     requires well { R.has_failed received.old ≡ false }
     ensures receipts { OnOk result (Appends (R.held received.old) (R.held received.new)
-        (flat_map receipt_octets (map (receipt_of number) (received_of station.old.memory.gate)))) }
-    ensures taken { OnOk result (station.new ≡ all_taken station.old) }
+        (flat_map receipt_octets (map (receipt_in number) (received_of station.old.memory.gate)))) }
+    ensures taken { OnOk result (station.new ≡ all_received_taken station.old) }
     ensures well { OnOk result (R.has_failed received.new ≡ false) }
     ensures fault { IfErr result (λ e. e ≡ RecordFault.Write) }
     ensures failed { OnErr result (R.has_failed received.new ≡ true) }
     ensures torn { OnErr result (FrontOf (R.held received.old) (R.held received.new)
-        (flat_map receipt_octets (map (receipt_of number) (received_of station.old.memory.gate)))) }
+        (flat_map receipt_octets (map (receipt_in number) (received_of station.old.memory.gate)))) }
 {
     // In most frames nothing is received, and what is received is large.
     if station.has_nothing_received() {
@@ -62,13 +62,13 @@ fn write_each_received<R: Sink>(
 ) -> Result<(), RecordFault>
     requires well { R.has_failed received.old ≡ false }
     ensures receipts { OnOk result (Appends (R.held received.old) (R.held received.new)
-        (flat_map receipt_octets (map (receipt_of number) (received_of station.old.memory.gate)))) }
-    ensures taken { OnOk result (station.new ≡ all_taken station.old) }
+        (flat_map receipt_octets (map (receipt_in number) (received_of station.old.memory.gate)))) }
+    ensures taken { OnOk result (station.new ≡ all_received_taken station.old) }
     ensures well { OnOk result (R.has_failed received.new ≡ false) }
     ensures fault { IfErr result (λ e. e ≡ RecordFault.Write) }
     ensures failed { OnErr result (R.has_failed received.new ≡ true) }
     ensures torn { OnErr result (FrontOf (R.held received.old) (R.held received.new)
-        (flat_map receipt_octets (map (receipt_of number) (received_of station.old.memory.gate)))) }
+        (flat_map receipt_octets (map (receipt_in number) (received_of station.old.memory.gate)))) }
 {
     loop {
         let Some(one) = station.take_received() else {

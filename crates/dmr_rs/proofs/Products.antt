@@ -10,7 +10,7 @@ use Rattle.dmr_bits.proofs.Numbers.{bits_of_xor, bits_of_mod, bits_of_same}
 use Rattle.dmr_bits.proofs.Dividing.{binary_laws, product_step, add_front_twice, add_front_joined, add_front_none}
 use Rattle.dmr_bits.proofs.Dividing.{add_front_to_nones, add_front_bits, scale_true, scale_false, only_completion}
 use Rattle.std.proofs.lemmas.List.{take-append-drop, length-take-le, length-drop}
-use Rattle.dmr_bits.specs.Register.{run}
+use Rattle.dmr_bits.specs.Register.{register_after}
 use Rattle.dmr_rs.specs.Field.{times_x, sum_over, times, IsProduct}
 use Rattle.dmr_rs.proofs.Field.{low_bits}
 
@@ -132,7 +132,8 @@ product_is a b =
 -- ---- no other octet is the product
 remainder_is : (p c : List Bool) → length p ≡ 15 → length c ≡ 8 → IsMultiple binary_field (true ∷ bits_of 8 0x1D) (xor_bits p
     (replicate 7 false ++ c))
-    → xor_bits (drop 7 p) c ≡ run binary_field (bits_of 8 0x1D) (replicate 8 false) (xor_bits (take 7 p) (replicate 7 false))
+    → xor_bits (drop 7 p) c ≡ register_after binary_field (bits_of 8 0x1D) (replicate 8 false) (xor_bits (take 7 p) (replicate 7
+        false))
 remainder_is p c long eight multiple =
     let front : length (take 7 p) ≡ 7 = length-take-le 7 p (omega arith) in
     let back : length (drop 7 p) ≡ 8 = length-drop 7 p ∙ omega arith in

@@ -9,7 +9,7 @@ use Rattle.std.proofs.lemmas.Bool.{cases_eq, ne_eqb}
 use Rattle.std.proofs.lemmas.List.{take-append-drop, length-drop}
 use Rattle.std.proofs.lemmas.List.Elements.{All-nil, All-cons, All-head, All-tail, All-take, All-drop, All-same}
 use Rattle.dmr_bits.specs.Polynomials.{add_front, product}
-use Rattle.dmr_bits.specs.Register.{run}
+use Rattle.dmr_bits.specs.Register.{register_after}
 use Rattle.dmr_bits.proofs.Dividing.{completes, only_completion, length-run, length-add_front, All-run, All-add_front, All-product}
 use Rattle.dmr_rs.specs.Field.{times_x, times, octet_field}
 use Rattle.dmr_rs.specs.Word.{generator, generator_low, IsRsWord, value_at, power, IsZeroAtRoots, octet_distance}
@@ -19,7 +19,7 @@ use Rattle.dmr_rs.proofs.Powers.{horner-xor, horner-none, at_power, wrong, all_z
 
 -- ---- a word by its register
 pub check : List ℕ → List ℕ
-check message = run octet_field generator_low (0 ∷ 0 ∷ 0 ∷ []) message
+check message = register_after octet_field generator_low (0 ∷ 0 ∷ 0 ∷ []) message
 
 pub word_is_completed : (message : List ℕ) → All (λ octet. octet < 256) message → IsRsWord (message ++ check message)
 unfolding check
@@ -33,7 +33,7 @@ pub length-check : (message : List ℕ) → length (check message) ≡ 3
 unfolding check
 length-check message = length-run octet_field generator_low (0 ∷ 0 ∷ 0 ∷ []) message
 
-pub check_is : (message : List ℕ) → run octet_field generator_low (0 ∷ 0 ∷ 0 ∷ []) message ≡ check message
+pub check_is : (message : List ℕ) → register_after octet_field generator_low (0 ∷ 0 ∷ 0 ∷ []) message ≡ check message
 unfolding check
 check_is message = refl
 
@@ -121,7 +121,8 @@ step_value f R h a b new small little =
 -- the register's value is that of the message, three places on
 run_value : (f : ℕ → ℕ) → IsRoot f → (message : List ℕ) (h a b s : ℕ) → h < 256 → a < 256 → b < 256 → All (λ octet. octet < 256)
     message
-    → three f h a b ≡ f (f (f s)) → horner f 0 (run octet_field generator_low (h ∷ a ∷ b ∷ []) message) ≡ f (f (f (horner f s
+    → three f h a b ≡ f (f (f s)) → horner f 0 (register_after octet_field generator_low (h ∷ a ∷ b ∷ []) message)
+        ≡ f (f (f (horner f s
     message)))
 run_value f R [] h a b s small little least all e = three_is f R.linear h a b ∙ e
 run_value f R (new ∷ message) h a b s small little least all e =

@@ -1,7 +1,7 @@
 -- What was read of a recording whose strips were given.
 use Rattle.std.specs.Prelude.{◌≡◌, ◌*◌, ℕ, List, [], Option, None, length}
-use Rattle.dmr_listing.specs.Listings.{IsListedUpToFault, Turn}
-use Rattle.dmr_listing.specs.Recordings.{Slot}
+use Rattle.dmr_listing.specs.Listings.{IsListedUpToFault, ListingTurn}
+use Rattle.dmr_listing.specs.Recordings.{RecordedSlot}
 use Rattle.dmr_listing.specs.Strips.{IsStripped, IsStrippedUpToFault}
 use Rattle.dmr_listing.specs.declared.fault_line.FaultLine.{FaultLine}
 use Rattle.dmr_listing.specs.declared.frames.Frames.{Frames}
@@ -10,7 +10,8 @@ use Rattle.dmr_listing.specs.declared.summary.RecordingSummary.{RecordingSummary
 use Rattle.dmr_show.specs.Showing.{IsRecordingRead}
 
 -- its slots were read to its end
-pub stripped_read : (recording : Recording) (frames : Frames) (summary : RecordingSummary) (slots : List Slot) (end : Turn)
+pub stripped_read : (recording : Recording) (frames : Frames) (summary : RecordingSummary) (slots : List RecordedSlot) (end :
+    ListingTurn)
     (a b : Option (List ℕ)) → IsStripped recording frames slots [] end a b None None → 2 * summary.frames ≡ length slots
     → summary.bursts ≡ end.bursts → IsRecordingRead recording summary a b
 stripped_read recording frames summary slots end a b stripped many counted = record {

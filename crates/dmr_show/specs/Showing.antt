@@ -4,7 +4,7 @@ use Rattle.std.specs.Io.KnownBytes.{Consumes, IsAtEnd}
 use Rattle.dmr_listing.specs.Listings as recording
 use Rattle.dmr_listing.specs.OutgoingListings as outgoing
 use Rattle.dmr_listing.specs.ReceivedListings as received
-use Rattle.dmr_listing.specs.Recordings.{Slot}
+use Rattle.dmr_listing.specs.Recordings.{RecordedSlot}
 use Rattle.dmr_listing.specs.declared.fault_line.FaultLine.{FaultLine}
 use Rattle.dmr_listing.specs.declared.recording.Recording.{Recording}
 use Rattle.dmr_listing.specs.declared.recording.Recording.TheVariants as kind
@@ -21,8 +21,8 @@ use Rattle.dmr_show.specs.declared.file_listing.FileSummary.TheVariants.{OfRecor
 
 -- The slots of a recording were read to its end behind its head, and its summary is theirs.
 pub record IsRecordingRead (of : Recording) (summary : RecordingSummary) (left_old left_new : Option (List ℕ)) : Type 0 where
-  pub slots : List Slot
-  pub end : recording.Turn
+  pub slots : List RecordedSlot
+  pub end : recording.ListingTurn
   pub listed : recording.IsListed of slots [] end left_old left_new None None
   pub frames : 2 * summary.frames ≡ length slots
   pub bursts : summary.bursts ≡ end.bursts
@@ -40,16 +40,16 @@ pub record IsReceivedRead (count : ℕ) (left_old left_new : Option (List ℕ)) 
   pub many : count ≡ length receipts
 
 -- All that stands behind the head of a file of this format was read, and this is its summary.
-abbrev pub IsRead : FileFormat → FileSummary → Option (List ℕ) → Option (List ℕ) → Type 0
-IsRead Uplink (OfRecording summary) old new = IsRecordingRead kind.Uplink summary old new
-IsRead Downlink (OfRecording summary) old new = IsRecordingRead kind.Downlink summary old new
-IsRead Outgoing (OfList count) old new = IsOutgoingRead count old new
-IsRead Received (OfList count) old new = IsReceivedRead count old new
-IsRead format summary old new = ⊥
+abbrev pub IsFileRead : FileFormat → FileSummary → Option (List ℕ) → Option (List ℕ) → Type 0
+IsFileRead Uplink (OfRecording summary) old new = IsRecordingRead kind.Uplink summary old new
+IsFileRead Downlink (OfRecording summary) old new = IsRecordingRead kind.Downlink summary old new
+IsFileRead Outgoing (OfList count) old new = IsOutgoingRead count old new
+IsFileRead Received (OfList count) old new = IsReceivedRead count old new
+IsFileRead format summary old new = ⊥
 
 -- All that stands behind the head of a file of this format was read.
 abbrev pub IsReadWhole : FileFormat → Option (List ℕ) → Option (List ℕ) → Type 0
-IsReadWhole format old new = (summary : FileSummary) × IsRead format summary old new
+IsReadWhole format old new = (summary : FileSummary) × IsFileRead format summary old new
 
 -- What stands behind the head of a file of this format was read up to a record that shows this fault.
 abbrev pub IsReadUpToFault : FileFormat → FaultLine → Option (List ℕ) → Option (List ℕ) → Type 0
@@ -63,7 +63,7 @@ pub record IsWhole (summary : FileSummary) (left_old left_new : Option (List ℕ
   pub format : FileFormat
   pub behind : Option (List ℕ)
   pub head : Consumes left_old behind (head_octets (magic_of format))
-  pub rest : IsRead format summary behind left_new
+  pub rest : IsFileRead format summary behind left_new
   pub end : IsAtEnd left_new
 
 -- The fault is one of the head, which begins at octet 0 and in no slot.

@@ -2,9 +2,9 @@
 ghost use Rattle.std.specs.Prelude.{◌≡◌, ◌≤◌, ◌⊎◌, true, false, None, length, IfOk, IfErr, OnOk};
 ghost use Rattle.std.specs.Io.KnownBytes.{IsAtEnd};
 ghost use Rattle.dmr_record.specs.Faults.{is_of_end, is_device_fault};
-ghost use Rattle.dmr_listing.specs.Endings.{IfFile, IfOutput};
+ghost use Rattle.dmr_listing.specs.Endings.{IfFile, IfNotWritten};
 ghost use Rattle.dmr_listing.specs.Listings.{IsListedUpToFault};
-ghost use Rattle.dmr_show.specs.Showing.{BeginsWithStrip, IsHeadFault, IsRead, IsReadUpToFault, IsReadWhole, IsRecordFault};
+ghost use Rattle.dmr_show.specs.Showing.{BeginsWithStrip, IsHeadFault, IsFileRead, IsReadUpToFault, IsReadWhole, IsRecordFault};
 ghost use Rattle.dmr_show.specs.Showing.{IsRecordingRead, IsShownWhole, has_strip};
 
 use crate::form::Form;
@@ -57,12 +57,12 @@ fn list_behind<S: Source, K: Sink>(
     requires source { S.has_failed source.old ≡ false }
     requires lines { K.has_failed lines.old.sink.now ≡ false }
     requires room { 65535 ≤ length room.old }
-    ensures whole { IfOk result (λ summary. IsRead format summary (S.left source.old) (S.left source.new)) }
+    ensures whole { IfOk result (λ summary. IsFileRead format summary (S.left source.old) (S.left source.new)) }
     ensures end { OnOk result (IsAtEnd (S.left source.new)) }
     ensures fault { IfErr result (λ e. IfFile e (λ fault. IsReadUpToFault format fault (S.left source.old) (S.left source.new))) }
     ensures cut { IfErr result (λ e. IfFile e (λ fault. is_of_end fault.fault ≡ true → IsAtEnd (S.left source.new))) }
     ensures source { IfErr result (λ e. IfFile e (λ fault. S.has_failed source.new ≡ is_device_fault fault.fault)) }
-    ensures output { IfErr result (λ e. IfOutput e (K.has_failed lines.new.sink.now ≡ true)) }
+    ensures output { IfErr result (λ e. IfNotWritten e (K.has_failed lines.new.sink.now ≡ true)) }
     ensures others { IfErr result (λ e. IfFile e (λ fault. K.has_failed lines.new.sink.now ≡ false)) }
     ensures well { OnOk result (K.has_failed lines.new.sink.now ≡ false) }
     ensures same_sink { lines.new.sink.ghost_name ≡ lines.old.sink.ghost_name }
@@ -112,7 +112,7 @@ fn list_rest<S: Source, K: Sink>(
     ensures fault { IfErr result (λ e. IfFile e (λ fault. IsReadUpToFault format fault (S.left source.old) (S.left source.new))) }
     ensures cut { IfErr result (λ e. IfFile e (λ fault. is_of_end fault.fault ≡ true → IsAtEnd (S.left source.new))) }
     ensures source { IfErr result (λ e. IfFile e (λ fault. S.has_failed source.new ≡ is_device_fault fault.fault)) }
-    ensures output { IfErr result (λ e. IfOutput e (K.has_failed lines.new.sink.now ≡ true)) }
+    ensures output { IfErr result (λ e. IfNotWritten e (K.has_failed lines.new.sink.now ≡ true)) }
     ensures others { IfErr result (λ e. IfFile e (λ fault. K.has_failed lines.new.sink.now ≡ false)) }
     ensures well { OnOk result (K.has_failed lines.new.sink.now ≡ false) }
     ensures same_sink { lines.new.sink.ghost_name ≡ lines.old.sink.ghost_name }
@@ -142,7 +142,7 @@ fn strip_behind<S: Source, K: Sink>(
         (S.left source.old) (S.left source.new) None None)) }
     ensures cut { IfErr result (λ e. IfFile e (λ fault. is_of_end fault.fault ≡ true → IsAtEnd (S.left source.new))) }
     ensures source { IfErr result (λ e. IfFile e (λ fault. S.has_failed source.new ≡ is_device_fault fault.fault)) }
-    ensures output { IfErr result (λ e. IfOutput e (K.has_failed lines.new.sink.now ≡ true)) }
+    ensures output { IfErr result (λ e. IfNotWritten e (K.has_failed lines.new.sink.now ≡ true)) }
     ensures others { IfErr result (λ e. IfFile e (λ fault. K.has_failed lines.new.sink.now ≡ false)) }
     ensures well { OnOk result (K.has_failed lines.new.sink.now ≡ false) }
     ensures same_sink { lines.new.sink.ghost_name ≡ lines.old.sink.ghost_name }
@@ -166,7 +166,7 @@ fn strip_rest<S: Source, K: Sink>(
     ensures fault { IfErr result (λ e. IfFile e (λ fault. IsReadUpToFault format fault (S.left source.old) (S.left source.new))) }
     ensures cut { IfErr result (λ e. IfFile e (λ fault. is_of_end fault.fault ≡ true → IsAtEnd (S.left source.new))) }
     ensures source { IfErr result (λ e. IfFile e (λ fault. S.has_failed source.new ≡ is_device_fault fault.fault)) }
-    ensures output { IfErr result (λ e. IfOutput e (K.has_failed lines.new.sink.now ≡ true)) }
+    ensures output { IfErr result (λ e. IfNotWritten e (K.has_failed lines.new.sink.now ≡ true)) }
     ensures others { IfErr result (λ e. IfFile e (λ fault. K.has_failed lines.new.sink.now ≡ false)) }
     ensures well { OnOk result (K.has_failed lines.new.sink.now ≡ false) }
     ensures same_sink { lines.new.sink.ghost_name ≡ lines.old.sink.ghost_name }
@@ -203,7 +203,7 @@ pub(crate) fn show_file<S: Source, K: Sink>(
         ⊎ IsRecordFault fault (S.left source.old) (S.left source.new))) }
     ensures cut { IfErr result (λ e. IfFile e (λ fault. is_of_end fault.fault ≡ true → IsAtEnd (S.left source.new))) }
     ensures source { IfErr result (λ e. IfFile e (λ fault. S.has_failed source.new ≡ is_device_fault fault.fault)) }
-    ensures output { IfErr result (λ e. IfOutput e (K.has_failed lines.new.sink.now ≡ true)) }
+    ensures output { IfErr result (λ e. IfNotWritten e (K.has_failed lines.new.sink.now ≡ true)) }
     ensures others { IfErr result (λ e. IfFile e (λ fault. K.has_failed lines.new.sink.now ≡ false)) }
     ensures well { OnOk result (K.has_failed lines.new.sink.now ≡ false) }
     ensures same_sink { lines.new.sink.ghost_name ≡ lines.old.sink.ghost_name }

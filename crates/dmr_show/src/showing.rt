@@ -1,6 +1,6 @@
 //! A file, shown.
 ghost use Rattle.std.specs.Prelude.{◌≡◌, ◌≤◌, ◌⊎◌, false, true, length, IfOk, IfErr, OnOk};
-ghost use Rattle.dmr_listing.specs.Endings.{IfFile, IfOutput};
+ghost use Rattle.dmr_listing.specs.Endings.{IfFile, IfNotWritten};
 ghost use Rattle.dmr_report.specs.Line.{PutsError};
 ghost use Rattle.dmr_report.specs.declared.status.TheConstants.{FAILURE, SUCCESS};
 ghost use Rattle.dmr_show.specs.Showing.{BeginsWithStrip, IsShownWhole, TellsFault};
@@ -32,7 +32,7 @@ fn show_to<S: Source, K: Sink>(
     ensures whole { IfOk result (λ shown. shown ≡ Shown.Whole → IsShownWhole (S.left source.old) (S.left source.new)) }
     ensures strip { IfOk result (λ shown. shown ≡ Shown.Whole → form ≡ Form.Strip → BeginsWithStrip true (S.left source.old)) }
     ensures none { IfOk result (λ shown. shown ≡ Shown.NoStrip → (form ≡ Form.Strip) × BeginsWithStrip false (S.left source.old)) }
-    ensures output { IfErr result (λ e. IfOutput e (K.has_failed out.new ≡ true)) }
+    ensures output { IfErr result (λ e. IfNotWritten e (K.has_failed out.new ≡ true)) }
     ensures others { IfErr result (λ e. IfFile e (λ fault. K.has_failed out.new ≡ false)) }
     ensures well { OnOk result (K.has_failed out.new ≡ false) }
 {

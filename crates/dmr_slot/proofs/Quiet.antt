@@ -8,12 +8,12 @@ use Rattle.dmr_hearing.specs.Slots.{silence}
 use Rattle.dmr_hearing.specs.declared.heard.Heard.{Heard}
 use Rattle.dmr_hearing.proofs.HeardAsBoth.{silent as quiet_sent}
 use Rattle.dmr_link.specs.declared.full_lc.FullLc.{FullLc}
-use Rattle.dmr_voice.specs.Rules.{step_of, nothing}
+use Rattle.dmr_voice.specs.Rules.{step_of, nothing_repeated}
 use Rattle.dmr_voice.specs.declared.place.Place.TheVariants.{A, B, C, D, E, F}
 use Rattle.dmr_voice.specs.declared.said.Said.{Said}
 use Rattle.dmr_voice.specs.declared.track.Track.{Track}
 use Rattle.dmr_voice.specs.declared.track.Track.TheVariants.{Idle, AfterHeader, Gap, InCall}
-use Rattle.dmr_slot.specs.Push.{Memory, EndsSilent, IsPush, moved}
+use Rattle.dmr_slot.specs.Push.{LineMemory, EndsSilent, IsPush, moved}
 use Rattle.dmr_slot.specs.declared.line.SlotOut.{SlotOut}
 
 silent_front : (front window : List Heard) → window ≡ front ++ replicate 6 silence → length front + 6 ≡ 6
@@ -74,7 +74,7 @@ ends_kept silent window all e =
 
 -- Where all are silent there is no call.
 pub step_silent : (colour : ℕ) (state : Track) (carried : Option FullLc)
-    → step_of colour state (replicate 6 silence) carried ≡ nothing
+    → step_of colour state (replicate 6 silence) carried ≡ nothing_repeated
 step_silent colour Idle carried = refl
 step_silent colour (AfterHeader header) carried = refl
 step_silent colour (Gap header) carried = refl
@@ -97,7 +97,7 @@ heard_silent colour slot heard hears none = subst (λ slot. Hears colour slot he
 -- A push that gives nothing and changes nothing,
 abbrev pub Stays : ℕ → ℕ → List Heard → Track → ℕ → Option FullLc → Option (List ℕ) → Type 0
 Stays colour call_hang window state left lc slot =
-    let memory : Memory =
+    let memory : LineMemory =
     record { colour = colour; call_hang = call_hang; window = window; state = state; left = left; lc = lc } in
     let free : SlotOut = record { repeated = None; hang = None; lc = None } in
     IsPush memory slot free memory

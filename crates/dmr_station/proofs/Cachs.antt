@@ -4,7 +4,7 @@ use Rattle.std.proofs.Common.{if◌then◌else◌, ap, subst, arith}
 use Rattle.std.proofs.lemmas.List.{get_or_default}
 use Rattle.dmr_bits.specs.Bits.{bits_of_octets}
 use Rattle.dmr_burst.specs.Cach.{IsCach}
-use Rattle.dmr_station.specs.Sent.{AreCachs, lcss_of}
+use Rattle.dmr_station.specs.Sent.{AreCachs, fragment_lcss}
 
 pub with_fragment : (busy odd : Bool) (lcss : ℕ) (fragments : List (List Bool)) (place : ℕ) (other : List Bool) (cach : List Bool)
     → place < 4 → length fragments ≡ 4 → IsCach busy odd lcss (slice_index_or fragments place other) cach
@@ -17,11 +17,11 @@ cach_of busy fragments cachs rest odd lcss =
     IsCach busy odd lcss (slice_index_or fragments rest []) (bits_of_octets (slice_index_or cachs rest []))
 
 module _ (busy : Bool) (fragments : List (List Bool)) (a b c d : List ℕ)
-    (first : cach_of busy fragments (a ∷ b ∷ c ∷ d ∷ []) 0 (0 % 2 == 1) (lcss_of 0))
-    (second : cach_of busy fragments (a ∷ b ∷ c ∷ d ∷ []) 1 (1 % 2 == 1) (lcss_of 1))
-    (third : cach_of busy fragments (a ∷ b ∷ c ∷ d ∷ []) 2 (2 % 2 == 1) (lcss_of 2))
-    (fourth : cach_of busy fragments (a ∷ b ∷ c ∷ d ∷ []) 3 (3 % 2 == 1) (lcss_of 3)) where
-  cach_at : (rest : ℕ) → rest < 4 → cach_of busy fragments (a ∷ b ∷ c ∷ d ∷ []) rest (rest % 2 == 1) (lcss_of rest)
+    (first : cach_of busy fragments (a ∷ b ∷ c ∷ d ∷ []) 0 (0 % 2 == 1) (fragment_lcss 0))
+    (second : cach_of busy fragments (a ∷ b ∷ c ∷ d ∷ []) 1 (1 % 2 == 1) (fragment_lcss 1))
+    (third : cach_of busy fragments (a ∷ b ∷ c ∷ d ∷ []) 2 (2 % 2 == 1) (fragment_lcss 2))
+    (fourth : cach_of busy fragments (a ∷ b ∷ c ∷ d ∷ []) 3 (3 % 2 == 1) (fragment_lcss 3)) where
+  cach_at : (rest : ℕ) → rest < 4 → cach_of busy fragments (a ∷ b ∷ c ∷ d ∷ []) rest (rest % 2 == 1) (fragment_lcss rest)
   cach_at zero few = first
   cach_at (suc zero) few = second
   cach_at (suc (suc zero)) few = third
@@ -34,6 +34,7 @@ module _ (busy : Bool) (fragments : List (List Bool)) (a b c d : List ℕ)
       let few : place % 4 < 4 = omega arith in
       let same : place % 4 % 4 ≡ place % 4 = omega arith in
       let parity : place % 4 % 2 ≡ place % 2 = omega arith in
-      subst (λ odd. cach_of busy fragments (a ∷ b ∷ c ∷ d ∷ []) (place % 4) odd (lcss_of place)) (ap (λ rest. rest == 1) parity)
+      subst (λ odd. cach_of busy fragments (a ∷ b ∷ c ∷ d
+          ∷ []) (place % 4) odd (fragment_lcss place)) (ap (λ rest. rest == 1) parity)
       (subst (λ lcss. cach_of busy fragments (a ∷ b ∷ c ∷ d ∷ []) (place % 4) (place % 4 % 2 == 1) lcss)
       (ap (λ rest. if rest == 0 then 1 else (if rest == 3 then 2 else 3)) same) (cach_at (place % 4) few))

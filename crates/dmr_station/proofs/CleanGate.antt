@@ -6,7 +6,7 @@ use Rattle.dmr_burst.specs.declared.burst.Burst.{Burst}
 use Rattle.dmr_burst.specs.declared.burst.Burst.TheVariants.{Data}
 use Rattle.dmr_checks.specs.Sealed.{IsSealed}
 use Rattle.dmr_checks.specs.declared.sealing.Mask.TheVariants as mask
-use Rattle.dmr_csbk.specs.Block.{IsSealedMessage}
+use Rattle.dmr_csbk.specs.Block.{IsSealedCsbk}
 use Rattle.dmr_data.specs.declared.block.Block.{Block}
 use Rattle.dmr_data.specs.declared.header.Header.{Header}
 use Rattle.dmr_data.specs.declared.rate.Rate.{Rate}
@@ -18,7 +18,7 @@ use Rattle.dmr_slot.specs.Clean.{IsCleanMessage, IsCleanInformation, IsCleanGate
 use Rattle.dmr_slot.specs.declared.line.SlotOut.{SlotOut}
 use Rattle.dmr_record.specs.Outgoing.{Sending}
 use Rattle.dmr_gateway.specs.Bursts.{IsWordBurst, IsHeaderBurst, IsBlockBurst, IsTryBurst, IsAnswerBurst, IsGatewayBurst}
-use Rattle.dmr_gateway.specs.Bursts.{IsEncodedAs}
+use Rattle.dmr_gateway.specs.Bursts.{IsGatewayOut}
 use Rattle.dmr_gateway.specs.Runs.{Happening}
 use Rattle.dmr_gateway.specs.declared.answers.Due.{Due}
 use Rattle.dmr_gateway.specs.declared.outbox.SlotBurst.{SlotBurst}
@@ -33,7 +33,7 @@ clean_data : (colour kind : ℕ) (information : List Bool) (b : Burst) → b ≡
 clean_data colour kind information b is small clean =
     subst (λ x. IsCleanGate colour (Some x)) (sym is) (refl, small, clean)
 
-control_message : (message : List Bool) → IsSealedMessage message → IsCleanMessage 3 message
+control_message : (message : List Bool) → IsSealedCsbk message → IsCleanMessage 3 message
 control_message message sealed =
     record {
       header = λ e. absurd (omega (arith, e));
@@ -91,7 +91,7 @@ clean_burst : (colour llid : ℕ) (sending : SlotBurst) (b : Burst) → IsGatewa
 clean_burst colour llid (burst.Answer due number) b u = clean_answer colour due number b u
 clean_burst colour llid (burst.Try sending) b u = clean_try colour llid sending b u
 
-clean_gate : (colour llid : ℕ) (sending : Option SlotBurst) (out : Option Burst) → IsEncodedAs colour llid sending out
+clean_gate : (colour llid : ℕ) (sending : Option SlotBurst) (out : Option Burst) → IsGatewayOut colour llid sending out
     → IsCleanGate colour out
 clean_gate colour llid None out u = subst (IsCleanGate colour) (sym u) tt
 clean_gate colour llid (Some sending) out u = subst (IsCleanGate colour) (sym u.2) (clean_burst colour llid sending u.0 u.1)

@@ -3,17 +3,17 @@ use Rattle.std.proofs.Common.{◌≡◌, ℕ, suc, ◌+◌, ◌%◌, ◌==◌, B
 use Rattle.std.proofs.Common.{refl, sym, ap, ◌∙◌, subst, arith}
 use Rattle.std.proofs.lemmas.List.{length-map}
 use Rattle.dmr_burst.specs.declared.burst.Burst.{Burst}
-use Rattle.dmr_slot.specs.Channel.{Claim, ChannelOut, claims_of, frame_of, frames_of, has_traffic_within}
-use Rattle.dmr_slot.specs.Clean.{AreCleanBursts, burst_of}
+use Rattle.dmr_slot.specs.Channel.{Claim, ChannelOut, claims_of, frame_of, channel_frames, has_traffic_within}
+use Rattle.dmr_slot.specs.Clean.{AreCleanBursts, line_burst}
 use Rattle.dmr_slot.specs.Frames.{AreSent}
-use Rattle.dmr_slot.specs.Push.{Memory as Line, ArePushed}
+use Rattle.dmr_slot.specs.Push.{LineMemory as Line, ArePushed}
 use Rattle.dmr_slot.specs.declared.line.SlotOut.{SlotOut}
 use Rattle.dmr_slot.proofs.CleanLines.{pushed_lines_are_clean}
 use Rattle.dmr_slot.proofs.Cleaning.{ArePairs, AllFramesSent, both_clean, firsts, frame_claims, seconds}
 use Rattle.dmr_station.specs.Announced.{AreAnnounced}
 use Rattle.dmr_station.specs.declared.announcing.Message.{Message}
 use Rattle.dmr_station.specs.declared.sending.DownlinkBurst.{DownlinkBurst}
-use Rattle.dmr_station.specs.Clean.{AreCleanSlots, IsCleanCach, IsCleanDownlink, IsEncodedAs, burst_in, bursts_in, first_slots}
+use Rattle.dmr_station.specs.Clean.{AreCleanSlots, IsCleanCach, IsCleanDownlink, IsEncodedAs, burst_sent, bursts_in, first_slots}
 use Rattle.dmr_station.specs.Clean.{second_slots}
 use Rattle.dmr_station.specs.Downlink.{Makes, slots_of, slots_in, frames_in, claims_in, marked_frames}
 use Rattle.dmr_record.specs.Outgoing.{Sending}
@@ -24,7 +24,7 @@ use Rattle.dmr_station.specs.Frames.{Settings, Counts, slot_in, marked}
 use Rattle.dmr_station.proofs.CleanGate.{clean_givens, gate_pairs, first_gates, second_gates}
 use Rattle.dmr_station.proofs.Made.{given_length}
 use Rattle.dmr_station.specs.Pairs.{Pairwise}
-use Rattle.dmr_station.specs.Sent.{lcss_of, IsCachOf, IsSentAs, AreSentAs}
+use Rattle.dmr_station.specs.Sent.{fragment_lcss, IsCachOf, IsSentAs, AreSentAs}
 
 -- ---- any bursts
 clean_cach : (busy : Bool) (m : Message) (place : ℕ) (octets : List ℕ) → IsCachOf busy m place octets → IsCleanCach octets
@@ -32,13 +32,13 @@ clean_cach busy m place octets u = record {
   at = busy;
   tc =
       (place % 2 == 1);
-  lcss = lcss_of place;
+  lcss = fragment_lcss place;
   fragment = slice_index_or u.0 (place % 4) [];
   fields = u.2;
 }
 
 encoded_slot : (place : ℕ) (slot : Option DownlinkBurst) (sent : Option (List ℕ × List ℕ)) → IsSentAs place slot sent
-    → IsEncodedAs (burst_in slot) sent
+    → IsEncodedAs (burst_sent slot) sent
 encoded_slot place None sent u = u
 encoded_slot place (Some d) None u = absurd u
 encoded_slot place (Some d) (Some s) u = (clean_cach d.is_repeated d.message place s.0 u.announces, u.encodes)
@@ -115,7 +115,7 @@ all_frames_sent colour (frame ∷ frames) [] u = absurd u
 all_frames_sent colour (frame ∷ frames) (sent ∷ bursts) u = (u.0, all_frames_sent colour frames bursts u.1)
 
 -- ---- what goes out, slot by slot
-burst_in_marked : (m : Message) (out : SlotOut) (burst : Option Burst) → burst_in (marked m out burst) ≡ burst
+burst_in_marked : (m : Message) (out : SlotOut) (burst : Option Burst) → burst_sent (marked m out burst) ≡ burst
 burst_in_marked m out None = refl
 burst_in_marked m out (Some burst) = refl
 
@@ -147,7 +147,7 @@ one_more m messages a b first second (x ∷ y ∷ []) bursts two u = record {
 slot_by_slot : (colour hang : ℕ) (back : List (List Claim)) (past : List (List SlotOut)) (messages : List Message)
     (first second : List SlotOut) (one two : List Given) (bursts : List (List (Option Burst)))
     → AreAnnounced past (frames_in first second) messages
-    → Pairwise (AreSent colour) (frames_of hang back (claims_in (frames_in first second) (gates_of one two))) bursts
+    → Pairwise (AreSent colour) (channel_frames hang back (claims_in (frames_in first second) (gates_of one two))) bursts
     → length (frames_in first second) ≡ length (gates_of one two) → SlotBySlot messages first second bursts
 slot_by_slot colour hang back past [] [] second one two [] v u e = record { first_is = refl; second_is = refl }
 slot_by_slot colour hang back past (m ∷ messages) [] second one two [] v u e = absurd v
@@ -187,20 +187,20 @@ clean_made s offers frames sending receipts counts u =
     u.first_line.pushed in
     let clean_second = pushed_lines_are_clean s.colour s.call_hang (slots_in 1 frames) u.second u.second_line.after
     u.second_line.pushed in
-    let channel : Pairwise (AreSent s.colour) (frames_of s.channel_hang [] (claims_in outs (gates_of one two))) bursts =
+    let channel : Pairwise (AreSent s.colour) (channel_frames s.channel_hang [] (claims_in outs (gates_of one two))) bursts =
     subst (λ (gates : List (List (Option Burst))). Pairwise (AreSent s.colour)
-    (frames_of s.channel_hang [] (claims_in outs gates)) bursts)
+    (channel_frames s.channel_hang [] (claims_in outs gates)) bursts)
     u.gateway.gates_are u.downlink.channel in
-    let sent = all_frames_sent s.colour (frames_of s.channel_hang [] (claims_in outs (gates_of one two))) bursts channel in
+    let sent = all_frames_sent s.colour (channel_frames s.channel_hang [] (claims_in outs (gates_of one two))) bursts channel in
     let both = both_clean s.colour s.channel_hang [] outs (gates_of one two) bursts as_long (pairs_in u.first u.second)
     (gate_pairs one two)
-    (subst (λ (line : List SlotOut). AreCleanBursts s.colour (map burst_of line)) (sym
+    (subst (λ (line : List SlotOut). AreCleanBursts s.colour (map line_burst line)) (sym
     (firsts_in u.first u.second long)) clean_first)
-    (subst (λ (line : List SlotOut). AreCleanBursts s.colour (map burst_of line)) (sym
+    (subst (λ (line : List SlotOut). AreCleanBursts s.colour (map line_burst line)) (sym
     (seconds_in u.first u.second long)) clean_second)
     (first_gates s.colour one two (clean_givens s 1 [] offers u.first one u.gateway.first_slot))
     (second_gates s.colour one two (clean_givens s 2 [] offers u.second two u.gateway.second_slot))
-    (subst (λ (claims : List (List Claim)). AllFramesSent s.colour (frames_of s.channel_hang [] claims) bursts)
+    (subst (λ (claims : List (List Claim)). AllFramesSent s.colour (channel_frames s.channel_hang [] claims) bursts)
     (same_claims outs (gates_of one two)) sent) in
     let slots = slot_by_slot s.colour s.channel_hang [] [] u.downlink.messages u.first u.second one two bursts u.downlink.announced
     channel as_long in

@@ -6,8 +6,8 @@ use Rattle.std.proofs.lemmas.List.Concat.{flat_map-cons}
 use Rattle.std.specs.Prelude.{option_to_list}
 use Rattle.dmr_arq.specs.declared.sender.Outcome.{Outcome}
 use Rattle.dmr_arq.specs.declared.sender.Outcome.TheVariants.{Delivered, Sent, GivenUp}
-use Rattle.dmr_station.specs.GatewayFrames.{Given, receipt_of, receipts_of, outcomes_of, outcomes_in, refused_in, counts_of}
-use Rattle.dmr_station.specs.Frames.{FrameGiven, Counts, added, all_counted, counted, is_outcome, outcome_count}
+use Rattle.dmr_station.specs.GatewayFrames.{Given, receipt_in, receipts_of, outcomes_of, outcomes_in, refused_in, counts_of}
+use Rattle.dmr_station.specs.Frames.{FrameGiven, Counts, added, all_counted, counted_frame, is_outcome, outcome_count}
 use Rattle.dmr_station.specs.Station.{receipts_from}
 use Rattle.dmr_station.proofs.Exchanging.{given_in, givens_of}
 
@@ -19,7 +19,7 @@ pub receipts_of_both : (frame : ℕ) (first second : List Given)
 receipts_of_both frame [] second = refl
 receipts_of_both frame (a ∷ first) [] = refl
 receipts_of_both frame (a ∷ first) (b ∷ second) =
-    ap (λ l. map (receipt_of frame) (a.received ++ b.received) ++ l) (receipts_of_both (frame + 1) first second)
+    ap (λ l. map (receipt_in frame) (a.received ++ b.received) ++ l) (receipts_of_both (frame + 1) first second)
 
 -- how many there are
 abbrev pub receipt_count : List Given → List Given → ℕ
@@ -32,9 +32,9 @@ pub receipts_counted : (frame : ℕ) (first second : List Given)
 receipts_counted frame [] second = refl
 receipts_counted frame (a ∷ first) [] = refl
 receipts_counted frame (a ∷ first) (b ∷ second) =
-    let here = map (receipt_of frame) (a.received ++ b.received) in
+    let here = map (receipt_in frame) (a.received ++ b.received) in
     length-append here (receipts_of (frame + 1) first second)
-    ∙ ap (λ n. n + length (receipts_of (frame + 1) first second)) (length-map (a.received ++ b.received) (receipt_of frame))
+    ∙ ap (λ n. n + length (receipts_of (frame + 1) first second)) (length-map (a.received ++ b.received) (receipt_in frame))
     ∙ ap (λ n. length (a.received ++ b.received) + n) (receipts_counted (frame + 1) first second)
 
 -- 2. Outcomes and refusals.
@@ -89,7 +89,7 @@ counted_of_both (a ∷ first) (b ∷ second) e =
     ap (λ (c : Counts). c.refused) rest in
     let x = refused_cons a first in
     let y = refused_cons b second in
-    same_counts (added (counted (given_in a b)) (all_counted (givens_of first second))) (counts_of (a ∷ first) (b ∷ second))
+    same_counts (added (counted_frame (given_in a b)) (all_counted (givens_of first second))) (counts_of (a ∷ first) (b ∷ second))
     (omega (arith, short, long, records))
     (outcomes_of_both Delivered a b first second (all_counted (givens_of first second)).delivered
     (ap (λ (c : Counts). c.delivered) rest))

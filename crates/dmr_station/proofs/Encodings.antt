@@ -12,7 +12,7 @@ use Rattle.dmr_burst.proofs.Interleaving.{one_announcement}
 use Rattle.dmr_embedded.proofs.ShortUnique.{one_short}
 use Rattle.dmr_station.specs.declared.announcing.Message.{Message}
 use Rattle.dmr_station.specs.declared.sending.DownlinkBurst.{DownlinkBurst}
-use Rattle.dmr_station.specs.Sent.{lcss_of, IsCachOf, IsSentAs, AreSentAs}
+use Rattle.dmr_station.specs.Sent.{fragment_lcss, IsCachOf, IsSentAs, AreSentAs}
 
 octets_from_bits : (xs ys : List ℕ) → All (λ octet. octet < 256) xs → All (λ octet. octet < 256) ys
     → bits_of_octets xs ≡ bits_of_octets ys → xs ≡ ys
@@ -24,9 +24,9 @@ one_cach : (busy : Bool) (m : Message) (place : ℕ) (a b : List ℕ) → All (�
     → IsCachOf busy m place a → IsCachOf busy m place b → a ≡ b
 one_cach busy m place a b p q u v =
     let same = one_short m.slco m.body u.0 v.0 u.1 v.1 in
-    let fields = subst (λ (fragments : List (List Bool)). IsCach busy (place % 2 == 1) (lcss_of place)
+    let fields = subst (λ (fragments : List (List Bool)). IsCach busy (place % 2 == 1) (fragment_lcss place)
     (slice_index_or fragments (place % 4) []) (bits_of_octets a)) same u.2 in
-    octets_from_bits a b p q (one_announcement busy (place % 2 == 1) (lcss_of place) (slice_index_or v.0 (place % 4) [])
+    octets_from_bits a b p q (one_announcement busy (place % 2 == 1) (fragment_lcss place) (slice_index_or v.0 (place % 4) [])
     (bits_of_octets a) (bits_of_octets b) fields v.2)
 
 same_pair : (a b : List ℕ × List ℕ) → a.0 ≡ b.0 → a.1 ≡ b.1 → Some a ≡ Some b

@@ -11,12 +11,14 @@ use Rattle.dmr_gateway.specs.Gateway as gateway
 use Rattle.dmr_gateway.specs.declared.received.Received.{Received}
 use Rattle.dmr_record.specs.declared.outgoing.Outgoing.{Outgoing}
 use Rattle.dmr_station.specs.Downlink.{Makes}
-use Rattle.dmr_station.specs.Frames.{Memory, Counts, FrameGiven, marked_slots, IsAsked, IsPassed, ArePassed, given_of, received_of}
-use Rattle.dmr_station.specs.Frames.{outcomes_of, received_taken, outcomes_told, added, all_counted, counted, nothing_counted}
+use Rattle.dmr_station.specs.Frames.{StationMemory, Counts, FrameGiven, marked_slots, IsAsked, IsPassed, ArePassed, given_of}
+use Rattle.dmr_station.specs.Frames.{received_of}
+use Rattle.dmr_station.specs.Frames.{outcomes_to_tell, received_taken, outcomes_told, added, all_counted, counted_frame}
+use Rattle.dmr_station.specs.Frames.{nothing_counted}
 use Rattle.dmr_station.specs.Sent.{AreSentAs}
-use Rattle.dmr_station.specs.Station.{State, fresh, IsOffered, AreOffered, after_offer, IsExchanged, AreExchanged}
+use Rattle.dmr_station.specs.Station.{State, fresh, IsOffered, AreOfferedOneByOne, after_offer, IsExchanged, AreExchanged}
 use Rattle.dmr_station.specs.Station.{records_of, receipts_from}
-use Rattle.dmr_station.specs.Station.{with_outcomes, all_taken, SendsByTheRules}
+use Rattle.dmr_station.specs.Station.{with_outcomes, all_received_taken, SendsByTheRules}
 use Rattle.dmr_station.proofs.Counting.{same_counts}
 use Rattle.dmr_station.proofs.Cleaning.{clean_made, sent_bursts_are_clean, two_sent}
 use Rattle.dmr_station.proofs.Encodings.{encoded-append}
@@ -30,7 +32,8 @@ two_marked m a b (x ∷ []) e = absurd (omega (arith, e))
 two_marked m a b (x ∷ y ∷ []) e = refl
 two_marked m a b (x ∷ y ∷ z ∷ more) e = absurd (omega (arith, e))
 
-two_slots : (before : Memory) (frame : List (Option (List ℕ))) (sending : List (Option DownlinkBurst)) (after : Memory)
+two_slots : (before : StationMemory) (frame : List (Option (List ℕ))) (sending : List (Option DownlinkBurst)) (after :
+    StationMemory)
     → IsAsked before frame sending after → length sending ≡ 2
 two_slots before frame sending after u =
     ap length u.marks
@@ -62,7 +65,7 @@ offering_at : (before next ready : State) (o : Outgoing) (os : List Outgoing) (o
     → next ≡ after_offer one.gate (refusal one.result) before
     → Offering (after_offer one.gate (refusal one.result) before) os ready → Offering before (o ∷ os) ready
 offering_at before next ready o os one is more =
-    let counted = more.offered in
+    let counted_frame = more.offered in
     record {
       refused = refusal one.result + more.refused;
       offered_all = (one.result, one.gate, more.refused, one.offer, refl, more.offered_all);
@@ -73,7 +76,7 @@ offering_at before next ready o os one is more =
       counts = more.counts ∙ more_refused (refusal one.result) more.refused before.counts;
     }
 
-offering : (before : State) (os : List Outgoing) (ready : State) → AreOffered before os ready → Offering before os ready
+offering : (before : State) (os : List Outgoing) (ready : State) → AreOfferedOneByOne before os ready → Offering before os ready
 offering before [] ready u = record {
   refused = 0;
   offered_all = (refl, ap (λ (s : State). s.memory.gate) u);
@@ -104,35 +107,36 @@ no_more c = same_counts c (added c nothing_counted) (omega arith) (omega arith) 
 
 -- a frame more is counted, with what is received in it
 counted_on : (c : Counts) (refused : ℕ) (asked : Gate) (rest all : Counts) (now : Counts)
-    → now ≡ with_outcomes (outcomes_of asked) (with_refused refused c)
+    → now ≡ with_outcomes (outcomes_to_tell asked) (with_refused refused c)
     → all ≡ added (record now { received = now.received + length (received_of asked) }) rest
-    → all ≡ added c (added (counted (given_of refused asked)) rest)
+    → all ≡ added c (added (counted_frame (given_of refused asked)) rest)
 counted_on c refused asked rest all now is e =
-    let own : Counts = with_outcomes (outcomes_of asked) (with_refused refused c) in
+    let own : Counts = with_outcomes (outcomes_to_tell asked) (with_refused refused c) in
     e ∙ ap (λ (n : Counts). added (record n { received = n.received + length (received_of asked) }) rest) is
     ∙ same_counts (added (record own { received = own.received + length (received_of asked) }) rest)
-    (added c (added (counted (given_of refused asked)) rest)) (omega arith) (omega arith) (omega arith) (omega arith) (omega arith)
+    (added c (added (counted_frame (given_of refused asked)) rest)) (omega arith) (omega arith) (omega arith) (omega arith) (omega
+        arith)
 
 cons_by : {X : Type 0} (a b : X) (more others : List X) → a ≡ b → more ≡ others → a ∷ more ≡ b ∷ others
 cons_by a b more others e f = cc
 
 passed_by : (before : State) (os : List Outgoing) (f : List (Option (List ℕ))) (ready next : State)
     (r : List (Option (List ℕ × List ℕ))) (o : Offering before os ready) (one : IsExchanged ready f r next)
-    → IsPassed before.memory os f one.sending (given_of o.refused one.asked.gate) (all_taken next).memory
+    → IsPassed before.memory os f one.sending (given_of o.refused one.asked.gate) (all_received_taken next).memory
 passed_by before os f ready next r o one = record {
   offers = ready.memory.gate;
   refused = o.refused;
   are_offered = o.offered_all;
   asked = one.asked;
-  is_asked = subst (λ (m : Memory). IsAsked m f one.sending one.asked) o.memory one.is_asked;
+  is_asked = subst (λ (m : StationMemory). IsAsked m f one.sending one.asked) o.memory one.is_asked;
   gives = refl;
-  taken = ap (λ (m : Memory). record m { gate = received_taken m.gate }) one.memory;
+  taken = ap (λ (m : StationMemory). record m { gate = received_taken m.gate }) one.memory;
 }
 
 -- telling what became of packets leaves what was received
-told_received : (next : State) (asked : Memory) → next.memory ≡ record asked { gate = outcomes_told asked.gate }
+told_received : (next : State) (asked : StationMemory) → next.memory ≡ record asked { gate = outcomes_told asked.gate }
     → received_of next.memory.gate ≡ received_of asked.gate
-told_received next asked e = ap (λ (m : Memory). received_of m.gate) e
+told_received next asked e = ap (λ (m : StationMemory). received_of m.gate) e
 
 together : (before : State) (offers : List (List Outgoing)) (frames : List (List (Option (List ℕ))))
     (records : List (List (Option (List ℕ × List ℕ)))) (received : List (List Received)) (after : State)
@@ -157,9 +161,9 @@ together before (o ∷ offers) (f ∷ frames) (r ∷ records) (g ∷ received) a
     let next : State = u.1 in
     let offers_made = offering before o ready u.2 in
     let one = u.3 in
-    let more = together (all_taken next) offers frames records received after u.5 in
+    let more = together (all_received_taken next) offers frames records received after u.5 in
     let two = two_slots ready.memory f one.sending one.asked one.is_asked in
-    let counted = one.frames in
+    let counted_frame = one.frames in
     let kept = offers_made.frames in
     let place : 2 * next.frames ≡ 2 * before.frames + length one.sending = omega arith in
     let start_place : 2 * ready.frames ≡ 2 * before.frames = omega arith in
@@ -173,14 +177,14 @@ together before (o ∷ offers) (f ∷ frames) (r ∷ records) (g ∷ received) a
     record {
       sending = one.sending ∷ more.sending;
       givens = given_of offers_made.refused one.asked.gate ∷ more.givens;
-      passed = ((all_taken next).memory, passed_by before o f ready next r offers_made one, more.passed);
+      passed = ((all_received_taken next).memory, passed_by before o f ready next r offers_made one, more.passed);
       encoded = encoded-append (2 * before.frames) one.sending slots r (records_of records)
           (subst (λ (p : ℕ). AreSentAs p one.sending r) start_place one.encoded)
           (subst (λ (p : ℕ). AreSentAs p slots (records_of records)) place more.encoded);
       repeated = omega arith;
       received_is = cons_by g _ received _ (u.4 ∙ told) more.received_is;
       counts = counted_on before.counts offers_made.refused one.asked.gate (all_counted more.givens) after.counts next.counts
-          (one.counts ∙ ap (with_outcomes (outcomes_of one.asked.gate)) offers_made.counts)
+          (one.counts ∙ ap (with_outcomes (outcomes_to_tell one.asked.gate)) offers_made.counts)
           (more.counts ∙ ap (λ (l : List Received). added (record next.counts { received = next.counts.received + length l })
           (all_counted more.givens)) told);
     }
@@ -203,14 +207,14 @@ all_offered before (o ∷ offers) (f ∷ frames) (r ∷ records) [] after u = ab
 all_offered before (o ∷ offers) (f ∷ frames) (r ∷ records) (g ∷ received) after u =
     let made = (offering before o u.0 u.2).offered in
     let kept = u.3.offered in
-    let more = all_offered (all_taken u.1) offers frames records received after u.5 in
+    let more = all_offered (all_received_taken u.1) offers frames records received after u.5 in
     omega arith
 
 pub sends_by_the_rules : SendsByTheRules
 sends_by_the_rules s read offers frames records received after pairs slots u =
     let all = together (fresh s) read frames records received after u in
     let made = makes s read offers frames all.sending all.givens after.memory all.passed pairs slots in
-    let counted = all.repeated in
+    let counted_frame = all.repeated in
     let receipts : receipts_from 0 received ≡ receipts_from 0 (map (λ (g : FrameGiven). g.received) all.givens) =
     ap (receipts_from 0) all.received_is in
     let counts : after.counts ≡ all_counted all.givens = all.counts ∙ from_nothing (all_counted all.givens) in
@@ -242,4 +246,4 @@ exchanged-append a b c (o ∷ os) more [] ys r q g h u v = absurd u
 exchanged-append a b c (o ∷ os) more (x ∷ xs) ys [] q g h u v = absurd u
 exchanged-append a b c (o ∷ os) more (x ∷ xs) ys (s ∷ r) q [] h u v = absurd u
 exchanged-append a b c (o ∷ os) more (x ∷ xs) ys (s ∷ r) q (t ∷ g) h u v =
-    (u.0, u.1, u.2, u.3, u.4, exchanged-append (all_taken u.1) b c os more xs ys r q g h u.5 v)
+    (u.0, u.1, u.2, u.3, u.4, exchanged-append (all_received_taken u.1) b c os more xs ys r q g h u.5 v)

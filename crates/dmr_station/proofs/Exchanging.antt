@@ -9,18 +9,18 @@ use Rattle.dmr_record.specs.Outgoing.{Sending}
 use Rattle.dmr_record.specs.declared.outgoing.Outgoing.{Outgoing}
 use Rattle.dmr_slot.specs.Channel.{claims_of}
 use Rattle.dmr_slot.specs.Frames.{OnAir, frame_out, frames_out, after_frame, AreSent}
-use Rattle.dmr_slot.specs.Push.{Memory as Line, ArePushed}
+use Rattle.dmr_slot.specs.Push.{LineMemory as Line, ArePushed}
 use Rattle.dmr_slot.specs.declared.line.SlotOut.{SlotOut}
 use Rattle.dmr_gateway.specs.Gateway.{Gate, IsSlot}
 use Rattle.dmr_gateway.specs.Attempts.{refused_now}
 use Rattle.dmr_gateway.specs.Runs.{Happening, brings}
 use Rattle.dmr_gateway.specs.Side.{all_received, side_outcome}
-use Rattle.dmr_gateway.specs.BothSlots.{Turn, Stands, FrameAsMeant, IsFrame}
+use Rattle.dmr_gateway.specs.BothSlots.{SlotTurn, Stands, FrameAsMeant, IsFrameOfBothSlots}
 use Rattle.dmr_gateway.proofs.BothSlots.{frames_as_meant}
 use Rattle.dmr_station.specs.Downlink.{slots_in, frames_in, claims_in, marked_frames}
 use Rattle.dmr_station.specs.GatewayFrames.{AreReadFrom, AreForSlots}
-use Rattle.dmr_station.specs.GatewayFrames.{of_slot, fault_of, faults_in, Given, AreGiven, Happens, IsGiven, gates_of}
-use Rattle.dmr_station.specs.Frames.{Settings, Memory, FrameGiven, IsAsked, IsPassed, ArePassed, taken_of, is_free}
+use Rattle.dmr_station.specs.GatewayFrames.{of_slot, record_fault, record_faults, Given, AreGiven, Happens, IsGiven, gates_of}
+use Rattle.dmr_station.specs.Frames.{Settings, StationMemory, FrameGiven, IsAsked, IsPassed, ArePassed, taken_of, is_free}
 use Rattle.dmr_station.specs.Pairs.{Pairwise}
 use Rattle.dmr_station.specs.declared.announcing.Message.{Message}
 use Rattle.dmr_station.specs.declared.sending.DownlinkBurst.{DownlinkBurst}
@@ -29,13 +29,13 @@ use Rattle.dmr_station.proofs.Offering.{offers_read, faults_read}
 
 -- 1. Faults of both slots.
 
-faults_cons : (s : Sending) (ss : List Sending) → faults_in (s ∷ ss) ≡ cond (is_some (fault_of s)) 1 0 + faults_in ss
-faults_cons s ss = sum_by-cons (λ (x : Sending). cond (is_some (fault_of x)) 1 0) s ss
+faults_cons : (s : Sending) (ss : List Sending) → record_faults (s ∷ ss) ≡ cond (is_some (record_fault s)) 1 0 + record_faults ss
+faults_cons s ss = sum_by-cons (λ (x : Sending). cond (is_some (record_fault x)) 1 0) s ss
 
 faults_at : (one two : Bool) (s : Sending) (ss : List Sending) → one ≡ not two
-    → faults_in ss ≡ faults_in (of_slot 1 ss) + faults_in (of_slot 2 ss)
-    → faults_in (s ∷ ss)
-    ≡ faults_in (cond one (s ∷ of_slot 1 ss) (of_slot 1 ss)) + faults_in (cond two (s ∷ of_slot 2 ss) (of_slot 2 ss))
+    → record_faults ss ≡ record_faults (of_slot 1 ss) + record_faults (of_slot 2 ss)
+    → record_faults (s ∷ ss)
+    ≡ record_faults (cond one (s ∷ of_slot 1 ss) (of_slot 1 ss)) + record_faults (cond two (s ∷ of_slot 2 ss) (of_slot 2 ss))
 faults_at true false s ss e more =
     let a = faults_cons s ss in
     let b = faults_cons s (of_slot 1 ss) in omega (arith, a, b, more)
@@ -49,7 +49,8 @@ one_slot : (slot : ℕ) → IsSlot slot → eqb slot 1 ≡ not (eqb slot 2)
 one_slot slot (inl e) = rw e refl
 one_slot slot (inr e) = rw e refl
 
-faults_of_both : (ss : List Sending) → AreForSlots ss → faults_in ss ≡ faults_in (of_slot 1 ss) + faults_in (of_slot 2 ss)
+faults_of_both : (ss : List Sending) → AreForSlots ss
+    → record_faults ss ≡ record_faults (of_slot 1 ss) + record_faults (of_slot 2 ss)
 faults_of_both [] slots = refl
 faults_of_both (s ∷ ss) slots =
     faults_at (eqb s.slot 1) (eqb s.slot 2) s ss (one_slot s.slot slots.0) (faults_of_both ss slots.1)
@@ -94,16 +95,16 @@ record Frame (s : Settings) (back_1 back_2 : List Happening) (offered : List Sen
   both : given ≡ given_in one_given two_given
   stands : Stands s.colour s.llid s.queue (one ∷ back_1) (two ∷ back_2) after
 
-frame : (s : Settings) (back_1 back_2 : List Happening) (m : Memory) (os : List Outgoing) (ss : List Sending)
-    (f : List (Option (List ℕ))) (sending : List (Option DownlinkBurst)) (given : FrameGiven) (next : Memory)
+frame : (s : Settings) (back_1 back_2 : List Happening) (m : StationMemory) (os : List Outgoing) (ss : List Sending)
+    (f : List (Option (List ℕ))) (sending : List (Option DownlinkBurst)) (given : FrameGiven) (next : StationMemory)
     (p : IsPassed m os f sending given next) → Stands s.colour s.llid s.queue back_1 back_2 m.gate → AreReadFrom os ss
     → AreForSlots ss
     → Frame s back_1 back_2 ss p.is_asked.first p.is_asked.second p.is_asked.first_gate p.is_asked.second_gate given next.gate
 frame s back_1 back_2 m os ss f sending given next p stands pairs slots =
     let a = p.is_asked in
-    let one : Turn = record { repeated = a.first.repeated; free = is_free a.first; burst = a.first_gate } in
-    let two : Turn = record { repeated = a.second.repeated; free = is_free a.second; burst = a.second_gate } in
-    let by_calls : IsFrame os one two p.refused m.gate p.asked.gate = record {
+    let one : SlotTurn = record { repeated = a.first.repeated; free = is_free a.first; burst = a.first_gate } in
+    let two : SlotTurn = record { repeated = a.second.repeated; free = is_free a.second; burst = a.second_gate } in
+    let by_calls : IsFrameOfBothSlots os one two p.refused m.gate p.asked.gate = record {
       slots = read_for_slots os ss pairs slots;
       offers = p.offers;
       are_offered = p.are_offered;
@@ -113,8 +114,8 @@ frame s back_1 back_2 m os ss f sending given next p stands pairs slots =
     } in
     let meant : FrameAsMeant s.colour s.llid s.queue back_1 back_2 os one two p.refused p.asked.gate =
     frames_as_meant s.colour s.llid s.queue back_1 back_2 os one two p.refused m.gate p.asked.gate stands by_calls in
-    let one_refused : ℕ = faults_in (of_slot 1 ss) + gateway_refused s (meant.first_new ∷ back_1) in
-    let two_refused : ℕ = faults_in (of_slot 2 ss) + gateway_refused s (meant.second_new ∷ back_2) in
+    let one_refused : ℕ = record_faults (of_slot 1 ss) + gateway_refused s (meant.first_new ∷ back_1) in
+    let two_refused : ℕ = record_faults (of_slot 2 ss) + gateway_refused s (meant.second_new ∷ back_2) in
     let one_given : Given = record {
       burst = a.first_gate;
       received = all_received p.asked.gate.first;
@@ -163,7 +164,7 @@ frame s back_1 back_2 m os ss f sending given next p stands pairs slots =
       two_burst = refl;
       both = p.gives ∙ ap (λ n. record (given_in one_given two_given) { refused = n }) sum;
       stands = subst (λ (g : Gate). Stands s.colour s.llid s.queue (meant.first_new ∷ back_1) (meant.second_new ∷ back_2) g)
-          (sym (ap (λ (x : Memory). x.gate) p.taken)) meant.stands;
+          (sym (ap (λ (x : StationMemory). x.gate) p.taken)) meant.stands;
     }
 
 -- 3. Frame after frame.
@@ -175,7 +176,7 @@ givens_of (a ∷ first) [] = []
 givens_of (a ∷ first) (b ∷ second) = given_in a b ∷ givens_of first second
 
 -- What frames come to, in both slots, after those that happened before.
-pub record Exchanged (s : Settings) (m : Memory) (back_1 back_2 : List Happening) (offers : List (List Sending))
+pub record Exchanged (s : Settings) (m : StationMemory) (back_1 back_2 : List Happening) (offers : List (List Sending))
     (frames : List (List (Option (List ℕ)))) (sending : List (List (Option DownlinkBurst)))
     (givens : List FrameGiven) : Type 0 where
   pub first : List SlotOut
@@ -200,7 +201,8 @@ cons_by : {X : Type 0} (a b : X) (more others : List X) → a ≡ b → more ≡
 cons_by a b more others e f = cc
 
 -- with the bursts of the gateway as both slots give them
-claimed : (m : Memory) (f : List (Option (List ℕ))) (x : List (Option DownlinkBurst)) (asked : Memory) (a : IsAsked m f x asked)
+claimed : (m : StationMemory) (f : List (Option (List ℕ))) (x : List (Option DownlinkBurst)) (asked : StationMemory) (a : IsAsked m
+    f x asked)
     (one two : Option Burst) → a.first_gate ≡ one → a.second_gate ≡ two
     → AreSent m.channel.colour (frame_out m.channel (claims_of (a.first ∷ a.second ∷ []) (one ∷ two ∷ []))) a.bursts
 claimed m f x asked a one two e g =
@@ -208,7 +210,7 @@ claimed m f x asked a one two e g =
     (frame_out m.channel (claims_of (a.first ∷ a.second ∷ []) l)) a.bursts)
     (ap (λ (o : Option Burst). o ∷ a.second_gate ∷ []) e ∙ ap (λ (o : Option Burst). one ∷ o ∷ []) g) a.sent
 
-channel_after : (m : Memory) (f : List (Option (List ℕ))) (x : List (Option DownlinkBurst)) (asked : Memory)
+channel_after : (m : StationMemory) (f : List (Option (List ℕ))) (x : List (Option DownlinkBurst)) (asked : StationMemory)
     (a : IsAsked m f x asked) (one two : Option Burst) → a.first_gate ≡ one → a.second_gate ≡ two
     → asked.channel ≡ after_frame m.channel (claims_of (a.first ∷ a.second ∷ []) (one ∷ two ∷ []))
 channel_after m f x asked a one two e g =
@@ -216,9 +218,9 @@ channel_after m f x asked a one two e g =
     ∙ ap (λ (l : List (Option Burst)). after_frame m.channel (claims_of (a.first ∷ a.second ∷ []) l))
     (ap (λ (o : Option Burst). o ∷ a.second_gate ∷ []) e ∙ ap (λ (o : Option Burst). one ∷ o ∷ []) g)
 
-pub exchanged : (s : Settings) (back_1 back_2 : List Happening) (m : Memory) (oss : List (List Outgoing))
+pub exchanged : (s : Settings) (back_1 back_2 : List Happening) (m : StationMemory) (oss : List (List Outgoing))
     (offers : List (List Sending)) (frames : List (List (Option (List ℕ)))) (sending : List (List (Option DownlinkBurst)))
-    (givens : List FrameGiven) (after : Memory) → ArePassed m oss frames sending givens after
+    (givens : List FrameGiven) (after : StationMemory) → ArePassed m oss frames sending givens after
     → Stands s.colour s.llid s.queue back_1 back_2 m.gate → Pairwise AreReadFrom oss offers → AllByRecursion AreForSlots offers
     → Exchanged s m back_1 back_2 offers frames sending givens
 exchanged s back_1 back_2 m [] [] [] [] [] after u stands pairs slots = record {
@@ -262,13 +264,13 @@ exchanged s back_1 back_2 m (os ∷ oss) (ss ∷ offers) (f ∷ fs) (x ∷ xs) (
       first_pushed = (
         p.asked.first,
         a.first_line,
-        subst (λ (l : Line). ArePushed l (slots_in 0 fs) more.first more.first_after) (ap (λ (k : Memory). k.first) moved)
+        subst (λ (l : Line). ArePushed l (slots_in 0 fs) more.first more.first_after) (ap (λ (k : StationMemory). k.first) moved)
             more.first_pushed,
       );
       second_pushed = (
         p.asked.second,
         a.second_line,
-        subst (λ (l : Line). ArePushed l (slots_in 1 fs) more.second more.second_after) (ap (λ (k : Memory). k.second) moved)
+        subst (λ (l : Line). ArePushed l (slots_in 1 fs) more.second more.second_after) (ap (λ (k : StationMemory). k.second) moved)
             more.second_pushed,
       );
       first_given = now.one_given ∷ more.first_given;
@@ -280,7 +282,7 @@ exchanged s back_1 back_2 m (os ∷ oss) (ss ∷ offers) (f ∷ fs) (x ∷ xs) (
         claimed (record m { gate = p.offers }) f x p.asked a now.one_given.burst now.two_given.burst now.one_burst now.two_burst,
         subst (λ (c : OnAir). Pairwise (AreSent c.colour)
             (frames_out c (claims_in (frames_in more.first more.second) (gates_of more.first_given more.second_given))) more.bursts)
-            (ap (λ (k : Memory). k.channel) moved
+            (ap (λ (k : StationMemory). k.channel) moved
             ∙ channel_after (record m { gate = p.offers }) f x p.asked a now.one_given.burst now.two_given.burst now.one_burst
             now.two_burst) more.channel,
       );
@@ -289,7 +291,7 @@ exchanged s back_1 back_2 m (os ∷ oss) (ss ∷ offers) (f ∷ fs) (x ∷ xs) (
         p.asked.kept,
         a.announces,
         subst (λ (k : Option Message). Announces k (frames_in more.first more.second) more.messages)
-            (ap (λ (k : Memory). k.kept) moved) more.announces,
+            (ap (λ (k : StationMemory). k.kept) moved) more.announces,
       );
       marks = cons_by x _ xs _ a.marks more.marks;
       both = cons_by g _ gs _ now.both more.both;

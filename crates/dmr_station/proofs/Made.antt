@@ -2,10 +2,10 @@
 use Rattle.std.proofs.Common.{◌≡◌, ℕ, List, [], ◌∷◌, ◌++◌, length, map, replicate, Option, None, refl, sym, ap, ◌∙◌, subst, arith}
 use Rattle.std.proofs.lemmas.List.{map-append, length-map}
 use Rattle.dmr_burst.specs.declared.burst.Burst.{Burst}
-use Rattle.dmr_slot.specs.Channel.{ChannelOut, frames_of}
+use Rattle.dmr_slot.specs.Channel.{ChannelOut, channel_frames}
 use Rattle.dmr_slot.specs.Frames.{AreSent}
-use Rattle.dmr_slot.specs.Push.{Memory as Line, start as silent_line, ArePushed}
-use Rattle.dmr_slot.specs.Recordings.{handed as handed_slots}
+use Rattle.dmr_slot.specs.Push.{LineMemory as Line, silent_line, ArePushed}
+use Rattle.dmr_slot.specs.Recordings.{handed_slots}
 use Rattle.dmr_slot.specs.declared.line.SlotOut.{SlotOut}
 use Rattle.dmr_slot.proofs.Channels.{looks_back}
 use Rattle.dmr_slot.proofs.Recorded.{line_of_what_is_meant}
@@ -17,8 +17,9 @@ use Rattle.dmr_voice.specs.Transmissions.{Transmission, sent_list}
 use Rattle.dmr_voice.specs.WellFormed.{IsWellFormed}
 use Rattle.dmr_station.specs.declared.announcing.Message.{Message}
 use Rattle.dmr_station.specs.declared.sending.DownlinkBurst.{DownlinkBurst}
-use Rattle.dmr_station.specs.Downlink.{slots_in, frames_in, claims_in, marked_frames, IsDownlinkOf, IsPushedLine, Makes, silence}
-use Rattle.dmr_station.specs.Downlink.{handed}
+use Rattle.dmr_station.specs.Downlink.{slots_in, frames_in, claims_in, marked_frames, IsDownlinkOf, IsPushedLine, Makes}
+use Rattle.dmr_station.specs.Downlink.{silent_frame}
+use Rattle.dmr_station.specs.Downlink.{handed_frames}
 use Rattle.std.specs.List.{AllByRecursion}
 use Rattle.dmr_gateway.specs.Runs.{Happening}
 use Rattle.dmr_gateway.specs.BothSlots.{Stands}
@@ -26,7 +27,7 @@ use Rattle.dmr_gateway.proofs.BothSlots.{starts as starts_there}
 use Rattle.dmr_record.specs.Outgoing.{Sending}
 use Rattle.dmr_record.specs.declared.outgoing.Outgoing.{Outgoing}
 use Rattle.dmr_station.specs.GatewayFrames.{AreReadFrom, AreForSlots, Given, AreGiven, gates_of}
-use Rattle.dmr_station.specs.Frames.{Settings, Memory, FrameGiven, start, slot_in, ArePassed, all_counted}
+use Rattle.dmr_station.specs.Frames.{Settings, StationMemory, FrameGiven, start, slot_in, ArePassed, all_counted}
 use Rattle.dmr_station.specs.Station.{receipts_from}
 use Rattle.dmr_station.proofs.Counting.{receipts_of_both, counted_of_both}
 use Rattle.dmr_station.proofs.Exchanging.{exchanged}
@@ -53,7 +54,7 @@ pushed_line s slots outs after pushed =
     record { after = after; pushed = pushed; looks_back = front_of_any_line s.colour s.call_hang slots outs after pushed }
 
 pub makes : (s : Settings) (oss : List (List Outgoing)) (offers : List (List Sending)) (frames : List (List (Option (List ℕ))))
-    (sending : List (List (Option DownlinkBurst))) (givens : List FrameGiven) (after : Memory)
+    (sending : List (List (Option DownlinkBurst))) (givens : List FrameGiven) (after : StationMemory)
     → ArePassed (start s) oss frames sending givens after → Pairwise AreReadFrom oss offers → AllByRecursion AreForSlots offers
     → Makes s offers frames sending (receipts_from 0 (map (λ (g : FrameGiven). g.received) givens)) (all_counted givens)
 makes s oss offers frames sending givens after u pairs slots =
@@ -90,26 +91,27 @@ makes s oss offers frames sending givens after u pairs slots =
     }
 
 -- ---- from slots to what was sent
-handed_in_first : (frames : List (List (Option (List ℕ)))) → slots_in 0 (handed frames) ≡ handed_slots (slots_in 0 frames)
-handed_in_first frames = ap (λ (l : List (Option (List ℕ))). None ∷ l) (map-append (slot_in 0) frames (replicate 5 silence))
+handed_in_first : (frames : List (List (Option (List ℕ)))) → slots_in 0 (handed_frames frames) ≡ handed_slots (slots_in 0 frames)
+handed_in_first frames = ap (λ (l : List (Option (List ℕ))). None ∷ l) (map-append (slot_in 0) frames (replicate 5 silent_frame))
 
-handed_in_second : (frames : List (List (Option (List ℕ)))) → slots_in 1 (handed frames) ≡ handed_slots (slots_in 1 frames)
-handed_in_second frames = ap (λ (l : List (Option (List ℕ))). None ∷ l) (map-append (slot_in 1) frames (replicate 5 silence))
+handed_in_second : (frames : List (List (Option (List ℕ)))) → slots_in 1 (handed_frames frames) ≡ handed_slots (slots_in 1 frames)
+handed_in_second frames = ap (λ (l : List (Option (List ℕ))). None ∷ l) (map-append (slot_in 1) frames (replicate 5 silent_frame))
 
 -- in one slot, of which this was handed over
 module _ (s : Settings) (lead : ℕ) (ts : List (Transmission
     × ℕ)) (number : ℕ) (frames : List (List (Option (List ℕ)))) (outs : List SlotOut)
     (well : IsWellFormed s.colour ts) (recorded : IsDamagedRecordingOf s.colour (sent_list s.colour lead ts)
     (slots_in number frames))
-    (same : slots_in number (handed frames) ≡ handed_slots (slots_in number frames)) where
-  whole_of_meaning : IsPushedLine s (slots_in number (handed frames)) outs
+    (same : slots_in number (handed_frames frames) ≡ handed_slots (slots_in number frames)) where
+  whole_of_meaning : IsPushedLine s (slots_in number (handed_frames frames)) outs
       → IsLineOfWhatIsMeant s (sent_list s.colour lead ts) (slots_in number frames) outs
   whole_of_meaning line =
       line_of_what_is_meant repeats_what_is_meant s.colour s.call_hang lead ts (slots_in number frames) outs line.after well
       recorded
       (subst (λ (l : List (Option (List ℕ))). ArePushed (silent_line s.colour s.call_hang) l outs line.after) same line.pushed)
 
-  front_of_meaning : (xs ys : List (List (Option (List ℕ)))) → handed frames ≡ xs ++ ys → IsPushedLine s (slots_in number xs) outs
+  front_of_meaning : (xs ys : List (List (Option (List ℕ)))) → handed_frames frames ≡ xs ++ ys
+      → IsPushedLine s (slots_in number xs) outs
       → IsFrontOfWhatIsMeant s (sent_list s.colour lead ts) (slots_in number frames) (length xs) outs
   front_of_meaning xs ys split line =
       let slots_split : handed_slots (slots_in number frames) ≡ slots_in number xs ++ slots_in number ys =
@@ -124,24 +126,24 @@ module _ (s : Settings) (lead : ℕ) (ts : List (Transmission
 module _ (s : Settings) (lead : ℕ) (ts : List (Transmission
     × ℕ)) (frames : List (List (Option (List ℕ)))) (outs : List SlotOut) (well : IsWellFormed s.colour ts) where
   first_of_meaning : IsDamagedRecordingOf s.colour (sent_list s.colour lead ts) (slots_in 0 frames)
-      → IsPushedLine s (slots_in 0 (handed frames)) outs
+      → IsPushedLine s (slots_in 0 (handed_frames frames)) outs
       → IsLineOfWhatIsMeant s (sent_list s.colour lead ts) (slots_in 0 frames) outs
   first_of_meaning recorded pushed = whole_of_meaning s lead ts 0 frames outs well recorded (handed_in_first frames) pushed
 
   second_of_meaning : IsDamagedRecordingOf s.colour (sent_list s.colour lead ts) (slots_in 1 frames)
-      → IsPushedLine s (slots_in 1 (handed frames)) outs
+      → IsPushedLine s (slots_in 1 (handed_frames frames)) outs
       → IsLineOfWhatIsMeant s (sent_list s.colour lead ts) (slots_in 1 frames) outs
   second_of_meaning recorded pushed = whole_of_meaning s lead ts 1 frames outs well recorded (handed_in_second frames) pushed
 
   first_front : (xs ys : List (List (Option (List ℕ))))
-      → IsDamagedRecordingOf s.colour (sent_list s.colour lead ts) (slots_in 0 frames) → handed frames ≡ xs ++ ys
+      → IsDamagedRecordingOf s.colour (sent_list s.colour lead ts) (slots_in 0 frames) → handed_frames frames ≡ xs ++ ys
       → IsPushedLine s (slots_in 0 xs) outs → IsFrontOfWhatIsMeant s (sent_list s.colour lead ts) (slots_in 0 frames)
       (length xs) outs
   first_front xs ys recorded split pushed = front_of_meaning s lead ts 0 frames outs well recorded
       (handed_in_first frames) xs ys split pushed
 
   second_front : (xs ys : List (List (Option (List ℕ))))
-      → IsDamagedRecordingOf s.colour (sent_list s.colour lead ts) (slots_in 1 frames) → handed frames ≡ xs ++ ys
+      → IsDamagedRecordingOf s.colour (sent_list s.colour lead ts) (slots_in 1 frames) → handed_frames frames ≡ xs ++ ys
       → IsPushedLine s (slots_in 1 xs) outs → IsFrontOfWhatIsMeant s (sent_list s.colour lead ts) (slots_in 1 frames)
       (length xs) outs
   second_front xs ys recorded split pushed = front_of_meaning s lead ts 1 frames outs well recorded
@@ -199,7 +201,7 @@ one_sent_list colour (f ∷ fs) (a ∷ as') (b ∷ bs) u v =
 pub one_downlink : (s : Settings) (first second : List SlotOut) (gates : List (List (Option Burst)))
     (a b : List (List (Option DownlinkBurst))) → IsDownlinkOf s first second gates a → IsDownlinkOf s first second gates b → a ≡ b
 one_downlink s first second gates a b u v =
-    let same = one_sent_list s.colour (frames_of s.channel_hang [] (claims_in
+    let same = one_sent_list s.colour (channel_frames s.channel_hang [] (claims_in
     (frames_in first second) gates)) u.bursts v.bursts u.channel v.channel in
     let announced = one_announced [] (frames_in first second) u.messages v.messages u.announced v.announced in
     u.marks ∙ ap (λ (messages : List Message). marked_frames messages (frames_in first second) u.bursts) announced

@@ -10,53 +10,53 @@ use Rattle.dmr_gateway.specs.Packets as asked
 use Rattle.dmr_gateway.specs.declared.fault.GatewayFault.{GatewayFault}
 use Rattle.dmr_gateway.specs.declared.queue.Queued.{Queued}
 use Rattle.dmr_gateway.proofs.Kept.{kept}
-use Rattle.dmr_station.specs.GatewayFrames.{IsReadFrom, of_slot, Offers, OffersOne, fault_of, faults_in}
+use Rattle.dmr_station.specs.GatewayFrames.{IsReadOutgoing, of_slot, OffersOfRecords, OffersOne, record_fault, record_faults}
 use Rattle.dmr_station.specs.Pairs.{Pairwise}
 
 -- a record and its datagram
-fault_read : (o : Outgoing) (s : Sending) → IsReadFrom o s → asked.fault_of o ≡ fault_of s
+fault_read : (o : Outgoing) (s : Sending) → IsReadOutgoing o s → asked.fault_of o ≡ record_fault s
 fault_read o s r =
     ap (λ n. offer_fault o.confirmed o.full n o.octets) r.keeps.count
     ∙ (ap (λ octets. offer_fault o.confirmed o.full (length s.datagram) octets) r.keeps.front
     ∙ ((kept o.confirmed o.full s.datagram).fault
-    ∙ ap fault_of r.fields))
+    ∙ ap record_fault r.fields))
 
-packet_read : (llid : ℕ) (o : Outgoing) (s : Sending) (q : Queued) → IsReadFrom o s → fault_of s ≡ None
+packet_read : (llid : ℕ) (o : Outgoing) (s : Sending) (q : Queued) → IsReadOutgoing o s → record_fault s ≡ None
     → IsOutgoingPacket llid o q → IsPacketFor llid s.confirmed s.full s.datagram q
 packet_read llid o s q r none p =
-    let whole : take 1400 s.datagram ≡ s.datagram = (kept o.confirmed o.full s.datagram).whole (ap fault_of r.fields ∙ none) in
+    let whole : take 1400 s.datagram ≡ s.datagram = (kept o.confirmed o.full s.datagram).whole (ap record_fault r.fields ∙ none) in
     let same : o.octets ≡ s.datagram = r.keeps.front ∙ whole in
     let a : IsPacketFor llid o.confirmed o.full s.datagram q =
     subst (λ octets. IsPacketFor llid o.confirmed o.full octets q) same p in
     subst (λ (x : Sending). IsPacketFor llid x.confirmed x.full s.datagram q) r.fields a
 
-slot_read : (o : Outgoing) (s : Sending) → IsReadFrom o s → o.slot ≡ s.slot
+slot_read : (o : Outgoing) (s : Sending) → IsReadOutgoing o s → o.slot ≡ s.slot
 slot_read o s r = ap (λ (x : Sending). x.slot) r.fields
 
 one_read : (mine : Bool) (own meant : Option GatewayFault) (llid slot : ℕ) (o : Outgoing) (s : Sending) (more : List Sending)
     (packets : List Queued) (Rest : List Queued → Type 0) →
-    own ≡ meant → meant ≡ fault_of s → IsReadFrom o s →
-    ((later : List Queued) → Rest later → Offers llid (of_slot slot more) later) →
+    own ≡ meant → meant ≡ record_fault s → IsReadOutgoing o s →
+    ((later : List Queued) → Rest later → OffersOfRecords llid (of_slot slot more) later) →
     gateway.OffersOf mine own llid o packets Rest →
-    Offers llid (cond mine (s ∷ of_slot slot more) (of_slot slot more)) packets
+    OffersOfRecords llid (cond mine (s ∷ of_slot slot more) (of_slot slot more)) packets
 one_read false own meant llid slot o s more packets Rest e m r rest p = rest packets p
 one_read true None None llid slot o s more packets Rest e m r rest p =
-    let found : OffersOne None llid s packets (Offers llid (of_slot slot more)) =
+    let found : OffersOne None llid s packets (OffersOfRecords llid (of_slot slot more)) =
     (p.0, p.1, packet_read llid o s p.0 r (sym m) p.2, p.3, rest p.1 p.4) in
-    subst (λ f. OffersOne f llid s packets (Offers llid (of_slot slot more))) m found
+    subst (λ f. OffersOne f llid s packets (OffersOfRecords llid (of_slot slot more))) m found
 one_read true (Some fault) (Some other) llid slot o s more packets Rest e m r rest p =
-    subst (λ f. OffersOne f llid s packets (Offers llid (of_slot slot more))) m (rest packets p)
+    subst (λ f. OffersOne f llid s packets (OffersOfRecords llid (of_slot slot more))) m (rest packets p)
 one_read true None (Some other) llid slot o s more packets Rest e m r rest p = cc
 one_read true (Some fault) None llid slot o s more packets Rest e m r rest p = cc
 
 -- The packets that are offered in a slot are those of its datagrams.
-pub offers_read : (llid slot : ℕ) (os : List Outgoing) (ss : List Sending) (packets : List Queued) → Pairwise IsReadFrom os ss →
-    gateway.Offers llid slot os packets → Offers llid (of_slot slot ss) packets
+pub offers_read : (llid slot : ℕ) (os : List Outgoing) (ss : List Sending) (packets : List Queued) → Pairwise IsReadOutgoing os ss →
+    gateway.Offers llid slot os packets → OffersOfRecords llid (of_slot slot ss) packets
 offers_read llid slot [] [] packets pairs p = p
 offers_read llid slot [] (s ∷ ss) packets pairs p = elim pairs [ ]
 offers_read llid slot (o ∷ os) [] packets pairs p = elim pairs [ ]
 offers_read llid slot (o ∷ os) (s ∷ ss) packets pairs p =
-    one_read (eqb s.slot slot) (asked.fault_of o) (fault_of s) llid slot o s ss packets (gateway.Offers llid slot os)
+    one_read (eqb s.slot slot) (asked.fault_of o) (record_fault s) llid slot o s ss packets (gateway.Offers llid slot os)
     (fault_read o s pairs.0) refl pairs.0
     (λ later q. offers_read llid slot os ss later pairs.1 q)
     (subst (λ n. gateway.OffersOf (eqb n slot) (asked.fault_of o) llid o packets (gateway.Offers llid slot os))
@@ -67,12 +67,12 @@ count_of None = refl
 count_of (Some fault) = refl
 
 -- and as many have a fault of their own
-pub faults_read : (os : List Outgoing) (ss : List Sending) → Pairwise IsReadFrom os ss → gateway.faults_in os ≡ faults_in ss
+pub faults_read : (os : List Outgoing) (ss : List Sending) → Pairwise IsReadOutgoing os ss → gateway.faults_in os ≡ record_faults ss
 faults_read [] [] pairs = refl
 faults_read [] (s ∷ ss) pairs = elim pairs [ ]
 faults_read (o ∷ os) [] pairs = elim pairs [ ]
 faults_read (o ∷ os) (s ∷ ss) pairs =
     ap (λ f. gateway.fault_count f + gateway.faults_in os) (fault_read o s pairs.0)
-    ∙ (ap (λ n. n + gateway.faults_in os) (count_of (fault_of s))
-    ∙ (ap (λ n. cond (is_some (fault_of s)) 1 0 + n) (faults_read os ss pairs.1)
-    ∙ sym (sum_by-cons (λ (x : Sending). cond (is_some (fault_of x)) 1 0) s ss)))
+    ∙ (ap (λ n. n + gateway.faults_in os) (count_of (record_fault s))
+    ∙ (ap (λ n. cond (is_some (record_fault s)) 1 0 + n) (faults_read os ss pairs.1)
+    ∙ sym (sum_by-cons (λ (x : Sending). cond (is_some (record_fault x)) 1 0) s ss)))

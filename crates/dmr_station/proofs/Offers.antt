@@ -4,11 +4,11 @@ use Rattle.dmr_gateway.specs.Gateway.{IsOffer, refusal}
 use Rattle.dmr_gateway.specs.Packets.{fault_of}
 use Rattle.dmr_gateway.specs.declared.fault.GatewayFault.{GatewayFault}
 use Rattle.dmr_record.specs.declared.outgoing.Outgoing.{Outgoing}
-use Rattle.dmr_station.specs.Frames.{Memory}
+use Rattle.dmr_station.specs.Frames.{StationMemory}
 use Rattle.dmr_station.specs.Station.{State, IsOffered, state_of}
 use Rattle.dmr_station.specs.declared.station.Counts.{Counts}
 
-pub one_offer : (before : State) (m next : Memory) (c : Counts) (o : Outgoing) (result : Result (Unit {0}) GatewayFault)
+pub one_offer : (before : State) (m next : StationMemory) (c : Counts) (o : Outgoing) (result : Result (Unit {0}) GatewayFault)
     (refused : ℕ)
     → state_of m c ≡ before → IsOffer (fault_of o) o result m.gate next.gate → next ≡ record m { gate = next.gate }
     → refused ≡ c.refused + refusal result
@@ -19,6 +19,6 @@ one_offer before m next c o result refused is offer others count =
       result = result;
       gate = next.gate;
       offer = offer;
-      state = ap (λ (x : Memory). state_of x (record c { offered = c.offered + 1; refused = refused })) others
+      state = ap (λ (x : StationMemory). state_of x (record c { offered = c.offered + 1; refused = refused })) others
           ∙ ap (λ (n : ℕ). state_of (record m { gate = next.gate }) (record c { offered = c.offered + 1; refused = n })) count;
     })

@@ -1,6 +1,6 @@
 -- What a slot means is heard in one way, and so a gateway receives one thing of it.
 use Rattle.std.proofs.Common.{◌≡◌, ℕ, Bool, List, [], ◌∷◌, Option, Some, None, refl, sym, ◌∙◌, ap, subst}
-use Rattle.dmr_gateway.specs.Heard.{Tells, IsReading}
+use Rattle.dmr_gateway.specs.Heard.{Tells, IsReadByGateway}
 use Rattle.dmr_gateway.specs.Records.{received_now}
 use Rattle.dmr_gateway.specs.declared.heard.Heard.{Heard}
 use Rattle.dmr_gateway.specs.declared.received.Received.{Received}
@@ -16,8 +16,8 @@ told_alike None (Some y) P u v = (u y).1 ((v y).0 refl)
 told_alike (Some x) None P u v = sym ((v x).1 ((u x).0 refl))
 told_alike (Some x) (Some y) P u v = sym ((v x).1 ((u x).0 refl))
 
-pub read_alike : (kind : ℕ) (information : List Bool) (a b : Heard) → IsReading kind information a
-    → IsReading kind information b → a ≡ b
+pub read_alike : (kind : ℕ) (information : List Bool) (a b : Heard) → IsReadByGateway kind information a
+    → IsReadByGateway kind information b → a ≡ b
 read_alike kind information a b u v =
     ap (λ x. record a { header = x }) (told_alike a.header b.header _ u.header v.header)
     ∙ ap (λ x. record a { header = b.header; unconfirmed = x })

@@ -4,7 +4,7 @@ use Rattle.dmr_arq.specs.declared.sender.Outcome.{Outcome}
 use Rattle.dmr_gateway.specs.Gateway.{Gate, next_received, after_received, next_outcome, after_outcome}
 use Rattle.dmr_gateway.specs.Side.{side_outcome}
 use Rattle.dmr_gateway.specs.declared.received.Received.{Received}
-use Rattle.dmr_station.specs.Frames.{received_of, outcomes_of, received_taken, outcomes_told}
+use Rattle.dmr_station.specs.Frames.{received_of, outcomes_to_tell, received_taken, outcomes_told}
 
 -- 1. What was received.
 
@@ -72,7 +72,7 @@ with_outcomes_of g a b =
     }
 
 record Told (g : Gate) : Type 0 where
-  outcomes : option_to_list (next_outcome g) ++ option_to_list (next_outcome (after_outcome g)) ≡ outcomes_of g
+  outcomes : option_to_list (next_outcome g) ++ option_to_list (next_outcome (after_outcome g)) ≡ outcomes_to_tell g
   told : after_outcome (after_outcome g) ≡ outcomes_told g
 
 told_at : (g : Gate) (a b : Option Outcome) → Told (with_outcomes_of g a b)
@@ -84,7 +84,8 @@ told_at g (Some x) (Some y) = record { outcomes = refl; told = refl }
 told_twice : (g : Gate) → Told g
 told_twice g = told_at g (side_outcome g.first) (side_outcome g.second)
 
-pub both_outcomes : (g : Gate) → option_to_list (next_outcome g) ++ option_to_list (next_outcome (after_outcome g)) ≡ outcomes_of g
+pub both_outcomes : (g : Gate) → option_to_list (next_outcome g) ++ option_to_list (next_outcome (after_outcome g))
+    ≡ outcomes_to_tell g
 both_outcomes g = (told_twice g).outcomes
 
 pub both_told : (g : Gate) → after_outcome (after_outcome g) ≡ outcomes_told g

@@ -52,10 +52,10 @@ pub record IsCleanDownlink (colour : ℕ) (sent : List (Option (List ℕ × List
 -- 3. What is sent.
 
 -- The burst that a slot of the downlink sends, or none where it is silent.
-abbrev pub burst_in : Option DownlinkBurst → Option Burst
-burst_in None = None
-burst_in (Some d) = Some d.burst
+abbrev pub burst_sent : Option DownlinkBurst → Option Burst
+burst_sent None = None
+burst_sent (Some d) = Some d.burst
 
 -- The bursts of one slot after another, none for a silent one.
 abbrev pub bursts_in : List (Option DownlinkBurst) → List (Option Burst)
-bursts_in slots = map burst_in slots
+bursts_in slots = map burst_sent slots

@@ -2,10 +2,10 @@
 use Rattle.std.specs.Prelude.{ℕ, ◌≡◌, Bool, false, List, [], ◌∷◌, ◌++◌, map, replicate, count_by, Option, Some, None}
 use Rattle.std.specs.List.{flat_map}
 use Rattle.dmr_burst.specs.declared.burst.Burst.{Burst}
-use Rattle.dmr_slot.specs.Channel.{Claim, claims_of, frames_of}
+use Rattle.dmr_slot.specs.Channel.{Claim, claims_of, channel_frames}
 use Rattle.dmr_slot.specs.Frames.{AreSent}
 use Rattle.dmr_slot.specs.Fronts.{IsFrontOfLine}
-use Rattle.dmr_slot.specs.Push.{Memory as Line, start as silent_line, ArePushed}
+use Rattle.dmr_slot.specs.Push.{LineMemory as Line, silent_line, ArePushed}
 use Rattle.dmr_slot.specs.declared.line.SlotOut.{SlotOut}
 use Rattle.dmr_station.specs.Announced.{AreAnnounced}
 use Rattle.dmr_station.specs.declared.announcing.Message.{Message}
@@ -62,7 +62,7 @@ marked_frames (m ∷ messages) (outs ∷ more) (frame ∷ bursts) = marked_slots
 pub record IsDownlinkOf (s : Settings) (first second : List SlotOut) (gates : List (List (Option Burst)))
     (sending : List (List (Option DownlinkBurst))) : Type 0 where
   pub bursts : List (List (Option Burst))
-  pub channel : Pairwise (AreSent s.colour) (frames_of s.channel_hang [] (claims_in (frames_in first second) gates)) bursts
+  pub channel : Pairwise (AreSent s.colour) (channel_frames s.channel_hang [] (claims_in (frames_in first second) gates)) bursts
   pub messages : List Message
   pub announced : AreAnnounced [] (frames_in first second) messages
   pub marks : sending ≡ marked_frames messages (frames_in first second) bursts
@@ -89,9 +89,9 @@ pub record Makes (s : Settings) (offers : List (List Sending)) (frames : List (L
   pub downlink : IsDownlinkOf s first second gates sending
 
 -- A frame in which nothing is received.
-abbrev pub silence : List (Option (List ℕ))
-silence = None ∷ None ∷ []
+abbrev pub silent_frame : List (Option (List ℕ))
+silent_frame = None ∷ None ∷ []
 
 -- The frames that are handed over for a recording: nothing first, and five times past its end.
-abbrev pub handed : List (List (Option (List ℕ))) → List (List (Option (List ℕ)))
-handed frames = silence ∷ (frames ++ replicate 5 silence)
+abbrev pub handed_frames : List (List (Option (List ℕ))) → List (List (Option (List ℕ)))
+handed_frames frames = silent_frame ∷ (frames ++ replicate 5 silent_frame)

@@ -5,14 +5,14 @@ use Rattle.std.specs.Prelude.{option_to_list, slice_index_or}
 use Rattle.dmr_burst.specs.declared.burst.Burst.{Burst}
 use Rattle.dmr_arq.specs.declared.sender.Outcome.{Outcome}
 use Rattle.dmr_arq.specs.declared.sender.Outcome.TheVariants.{Delivered, Sent, GivenUp}
-use Rattle.dmr_gateway.specs.Gateway.{Gate, start as silent_gateway, AreOffered, IsAskedFor}
+use Rattle.dmr_gateway.specs.Gateway.{Gate, new_gate as silent_gateway, AreOffered, IsAskedFor}
 use Rattle.dmr_gateway.specs.Side.{all_received, side_told, side_outcome}
 use Rattle.dmr_gateway.specs.declared.config.Config.{Config}
 use Rattle.dmr_gateway.specs.declared.received.Received.{Received}
 use Rattle.dmr_record.specs.declared.outgoing.Outgoing.{Outgoing}
 use Rattle.dmr_slot.specs.Channel.{claims_of}
 use Rattle.dmr_slot.specs.Frames.{OnAir, off_air, frame_out, after_frame, AreSent}
-use Rattle.dmr_slot.specs.Push.{Memory as Line, start as silent_line, IsPush}
+use Rattle.dmr_slot.specs.Push.{LineMemory as Line, silent_line, IsPush}
 use Rattle.dmr_slot.specs.declared.line.SlotOut.{SlotOut}
 use Rattle.dmr_station.specs.Announced.{IsAnnounced}
 use Rattle.dmr_station.specs.declared.announcing.Message.{Message}
@@ -42,7 +42,7 @@ settings_of config =
 
 -- What is remembered between two frames: the lines of both slots, the channel that they share, the gateway, and the message whose
 -- second half is to come, where the next frame isn't the first of two.
-pub record Memory : Type 0 where
+pub record StationMemory : Type 0 where
   pub first : Line
   pub second : Line
   pub channel : OnAir
@@ -50,7 +50,7 @@ pub record Memory : Type 0 where
   pub kept : Option Message
 
 -- Nothing was heard, and nothing was sent.
-abbrev pub start : Settings → Memory
+abbrev pub start : Settings → StationMemory
 start s = record {
   first = silent_line s.colour s.call_hang;
   second = silent_line s.colour s.call_hang;
@@ -60,7 +60,7 @@ start s = record {
 }
 
 -- The settings of what is remembered.
-abbrev pub settings_in : Memory → Settings
+abbrev pub settings_in : StationMemory → Settings
 settings_in m =
     record {
       colour = m.channel.colour;
@@ -132,8 +132,8 @@ abbrev pub outcome_count : Outcome → List Outcome → ℕ
 outcome_count outcome outcomes = count_by (is_outcome outcome) outcomes
 
 -- What one frame counts: its records, its packets by what became of them, and the offers that it refused.
-abbrev pub counted : FrameGiven → Counts
-counted given =
+abbrev pub counted_frame : FrameGiven → Counts
+counted_frame given =
     record {
       received = length given.received;
       delivered = outcome_count Delivered given.outcomes;
@@ -145,7 +145,7 @@ counted given =
 -- What these frames count together.
 abbrev pub all_counted : List FrameGiven → Counts
 all_counted [] = nothing_counted
-all_counted (given ∷ more) = added (counted given) (all_counted more)
+all_counted (given ∷ more) = added (counted_frame given) (all_counted more)
 
 -- The gateway hears what the line of a slot repeats, and is asked for a burst.
 abbrev pub IsSlotAsked : ℕ → SlotOut → Gate → Option Burst → Gate → Type 0
@@ -153,8 +153,8 @@ IsSlotAsked slot out before burst after = IsAskedFor slot out.repeated (is_free 
 
 -- A frame of the uplink is pushed into both lines, the gateway hears what they repeat and is asked for a burst for each slot, and
 -- what they give goes out as the channel decides, with the message that is announced.
-pub record IsAsked (before : Memory) (frame : List (Option (List ℕ))) (sending : List (Option DownlinkBurst))
-    (after : Memory) : Type 0 where
+pub record IsAsked (before : StationMemory) (frame : List (Option (List ℕ))) (sending : List (Option DownlinkBurst))
+    (after : StationMemory) : Type 0 where
   pub first : SlotOut
   pub second : SlotOut
   pub first_line : IsPush before.first (slot_in 0 frame) first after.first
@@ -177,12 +177,12 @@ abbrev pub received_of : Gate → List Received
 received_of g = all_received g.first ++ all_received g.second
 
 -- What became of packets and isn't told yet: of one in slot 1, and then of one in slot 2.
-abbrev pub outcomes_of : Gate → List Outcome
-outcomes_of g = option_to_list (side_outcome g.first) ++ option_to_list (side_outcome g.second)
+abbrev pub outcomes_to_tell : Gate → List Outcome
+outcomes_to_tell g = option_to_list (side_outcome g.first) ++ option_to_list (side_outcome g.second)
 
 -- What a frame gives of a gateway that was asked for its bursts, where it refused so many datagrams.
 abbrev pub given_of : ℕ → Gate → FrameGiven
-given_of refused g = record { received = received_of g; outcomes = outcomes_of g; refused = refused }
+given_of refused g = record { received = received_of g; outcomes = outcomes_to_tell g; refused = refused }
 
 -- The gateway once all that it received is taken: no status and no packet is left in either slot.
 abbrev pub received_taken : Gate → Gate
@@ -194,16 +194,16 @@ abbrev pub outcomes_told : Gate → Gate
 outcomes_told g = record g { first = side_told g.first; second = side_told g.second }
 
 -- What is remembered once all that the gateway received is taken, and what became of packets is told.
-abbrev pub taken_of : Memory → Memory
+abbrev pub taken_of : StationMemory → StationMemory
 taken_of m = record m { gate = received_taken (outcomes_told m.gate) }
 
 -- A frame: datagrams are offered, the frame is passed on, and what the gateway gives is taken.
-pub record IsPassed (before : Memory) (offered : List Outgoing) (frame : List (Option (List ℕ)))
-    (sending : List (Option DownlinkBurst)) (given : FrameGiven) (after : Memory) : Type 0 where
+pub record IsPassed (before : StationMemory) (offered : List Outgoing) (frame : List (Option (List ℕ)))
+    (sending : List (Option DownlinkBurst)) (given : FrameGiven) (after : StationMemory) : Type 0 where
   pub offers : Gate
   pub refused : ℕ
   pub are_offered : AreOffered offered before.gate refused offers
-  pub asked : Memory
+  pub asked : StationMemory
   pub is_asked : IsAsked (record before { gate = offers }) frame sending asked
   pub gives : given ≡ given_of refused asked.gate
   pub taken : after ≡ taken_of asked
@@ -212,9 +212,9 @@ pub record IsPassed (before : Memory) (offered : List Outgoing) (frame : List (O
 
 -- Each frame goes by what the frames before it left: these datagrams are offered, this goes out, and this is given; and what is
 -- remembered behind the last of them.
-abbrev pub ArePassed : Memory → List (List Outgoing) → List (List (Option (List ℕ))) → List (List (Option DownlinkBurst)) →
-    List FrameGiven → Memory → Type 0
+abbrev pub ArePassed : StationMemory → List (List Outgoing) → List (List (Option (List ℕ))) → List (List (Option DownlinkBurst)) →
+    List FrameGiven → StationMemory → Type 0
 ArePassed m [] [] [] [] after = after ≡ m
 ArePassed m (offered ∷ offers) (frame ∷ frames) (slots ∷ sending) (given ∷ givens) after =
-    (next : Memory) × IsPassed m offered frame slots given next × ArePassed next offers frames sending givens after
+    (next : StationMemory) × IsPassed m offered frame slots given next × ArePassed next offers frames sending givens after
 ArePassed m offers frames sending givens after = ⊥

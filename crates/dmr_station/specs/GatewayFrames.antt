@@ -11,9 +11,9 @@ use Rattle.dmr_record.specs.declared.outgoing.Outgoing.{Outgoing}
 use Rattle.dmr_record.specs.Received.{Receipt}
 use Rattle.dmr_slot.specs.declared.line.SlotOut.{SlotOut}
 use Rattle.dmr_gateway.specs.Attempts.{attempts, refused_now}
-use Rattle.dmr_gateway.specs.Bursts.{IsEncodedAs}
+use Rattle.dmr_gateway.specs.Bursts.{IsGatewayOut}
 use Rattle.dmr_gateway.specs.Gateway.{IsSlot}
-use Rattle.dmr_gateway.specs.Heard.{IsHeardAs}
+use Rattle.dmr_gateway.specs.Heard.{IsHeardByGateway}
 use Rattle.dmr_gateway.specs.Packets.{offer_fault, IsPacketFor}
 use Rattle.dmr_gateway.specs.Records.{received_now}
 use Rattle.dmr_gateway.specs.Runs.{Happening, all_heard, brings}
@@ -23,16 +23,16 @@ use Rattle.dmr_gateway.specs.declared.received.Received.{Received}
 use Rattle.dmr_station.specs.Pairs.{Pairwise}
 use Rattle.dmr_station.specs.Frames.{Settings, Counts, is_free, outcome_count}
 
--- 1. Offers.
+-- 1. OffersOfRecords.
 
 -- A record of the outgoing file as it was read: its fields, the length of its datagram, and the first of its octets.
-pub record IsReadFrom (o : Outgoing) (s : Sending) : Type 0 where
+pub record IsReadOutgoing (o : Outgoing) (s : Sending) : Type 0 where
   pub fields : sending_of o s.datagram ≡ s
   pub keeps : Keeps o s.datagram
 
 -- The records that were read stand one by one for those of the outgoing file, and there are as many.
 abbrev pub AreReadFrom : List Outgoing → List Sending → Type 0
-AreReadFrom records sendings = Pairwise IsReadFrom records sendings
+AreReadFrom records sendings = Pairwise IsReadOutgoing records sendings
 
 -- Each datagram is for slot 1 or for slot 2.
 abbrev pub AreForSlots : List Sending → Type 0
@@ -48,8 +48,8 @@ by_frame frame zero sendings = []
 by_frame frame (suc count) sendings = filter (λ s. s.frame == frame) sendings ∷ by_frame (frame + 1) count sendings
 
 -- The fault that a datagram has of its own, whatever waits in its slot.
-abbrev pub fault_of : Sending → Option GatewayFault
-fault_of s = offer_fault s.confirmed s.full (length s.datagram) s.datagram
+abbrev pub record_fault : Sending → Option GatewayFault
+record_fault s = offer_fault s.confirmed s.full (length s.datagram) s.datagram
 
 -- A datagram with a fault is refused; of any other there is the packet that is offered.
 abbrev pub OffersOne : Option GatewayFault → ℕ → Sending → List Queued → (List Queued → Type 0) → Type 0
@@ -58,13 +58,13 @@ OffersOne None llid s packets Rest =
     (q : Queued) × (later : List Queued) × IsPacketFor llid s.confirmed s.full s.datagram q × (packets ≡ q ∷ later) × Rest later
 
 -- The packets that are offered for these datagrams, in their order: one of each that has no fault of its own.
-abbrev pub Offers : ℕ → List Sending → List Queued → Type 0
-Offers llid [] packets = packets ≡ []
-Offers llid (s ∷ sendings) packets = OffersOne (fault_of s) llid s packets (Offers llid sendings)
+abbrev pub OffersOfRecords : ℕ → List Sending → List Queued → Type 0
+OffersOfRecords llid [] packets = packets ≡ []
+OffersOfRecords llid (s ∷ sendings) packets = OffersOne (record_fault s) llid s packets (OffersOfRecords llid sendings)
 
 -- How many of these datagrams have a fault of their own.
-abbrev pub faults_in : List Sending → ℕ
-faults_in sendings = count_by (λ s. is_some (fault_of s)) sendings
+abbrev pub record_faults : List Sending → ℕ
+record_faults sendings = count_by (λ s. is_some (record_fault s)) sendings
 
 -- 2. One slot.
 
@@ -79,17 +79,17 @@ pub record Given : Type 0 where
 -- What happens in the slot in a frame: these datagrams are offered, the gateway hears what its line repeats, and the slot is free
 -- where its line gives nothing.
 pub record Happens (s : Settings) (offered : List Sending) (out : SlotOut) (h : Happening) : Type 0 where
-  pub offers : Offers s.llid offered h.offers
-  pub heard : IsHeardAs out.repeated h.heard
+  pub offers : OffersOfRecords s.llid offered h.offers
+  pub heard : IsHeardByGateway out.repeated h.heard
   pub free : h.free ≡ is_free out
 
 -- What the slot gives in the newest frame: the burst of the attempt that stands in it, what is completed in it, what became of a
 -- packet; and refused are the datagrams with a fault, and those that found the queue full.
 pub record IsGiven (s : Settings) (slot : ℕ) (frames : List Happening) (offered : List Sending) (given : Given) : Type 0 where
-  pub burst : IsEncodedAs s.colour s.llid (attempts s.queue s.llid (brings s.llid frames)).burst given.burst
+  pub burst : IsGatewayOut s.colour s.llid (attempts s.queue s.llid (brings s.llid frames)).burst given.burst
   pub received : given.received ≡ received_now s.llid slot (all_heard frames)
   pub outcome : given.outcome ≡ (attempts s.queue s.llid (brings s.llid frames)).ledger.outcome
-  pub refused : given.refused ≡ faults_in offered + refused_now s.queue s.llid (brings s.llid frames)
+  pub refused : given.refused ≡ record_faults offered + refused_now s.queue s.llid (brings s.llid frames)
 
 -- Frame by frame, each with the datagrams that are offered in it, after those that happened before, the newest of them first.
 abbrev pub AreGiven : Settings → ℕ → List Happening → List (List Sending) → List SlotOut → List Given → Type 0
@@ -108,15 +108,15 @@ gates_of (a ∷ first) [] = []
 gates_of (a ∷ first) (b ∷ second) = (a.burst ∷ b.burst ∷ []) ∷ gates_of first second
 
 -- The record of the received file for what was received in a frame: its frame, slot, kind, source and octets.
-abbrev pub receipt_of : ℕ → Received → Receipt
-receipt_of frame r = record { frame = frame; slot = r.slot; kind = r.kind; source = r.source; octets = r.octets }
+abbrev pub receipt_in : ℕ → Received → Receipt
+receipt_in frame r = record { frame = frame; slot = r.slot; kind = r.kind; source = r.source; octets = r.octets }
 
 -- The records from a frame on, slot 1 first in each.
 abbrev pub receipts_of : ℕ → List Given → List Given → List Receipt
 receipts_of frame [] second = []
 receipts_of frame (a ∷ first) [] = []
 receipts_of frame (a ∷ first) (b ∷ second) =
-    map (receipt_of frame) (a.received ++ b.received) ++ receipts_of (frame + 1) first second
+    map (receipt_in frame) (a.received ++ b.received) ++ receipts_of (frame + 1) first second
 
 -- What became of packets in one slot, frame after frame.
 abbrev pub outcomes_of : List Given → List Outcome

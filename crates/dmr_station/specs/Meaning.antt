@@ -1,7 +1,7 @@
 -- What goes out for recordings of well-formed transmissions in both slots: what they mean.
 use Rattle.std.specs.Prelude.{ℕ, ◌≡◌, List, [], ◌∷◌, ◌++◌, length, replicate, take, Option}
 use Rattle.dmr_burst.specs.declared.burst.Burst.{Burst}
-use Rattle.dmr_gateway.specs.Heard.{IsReading, nothing}
+use Rattle.dmr_gateway.specs.Heard.{IsReadByGateway, nothing_said}
 use Rattle.dmr_gateway.specs.Records.{received_now}
 use Rattle.dmr_gateway.specs.declared.heard.Heard.{Heard}
 use Rattle.dmr_gateway.specs.declared.received.Received.{Received}
@@ -17,7 +17,7 @@ use Rattle.dmr_voice.specs.declared.said.Content.TheVariants.{Data}
 use Rattle.dmr_voice.specs.declared.said.Said.{Said}
 use Rattle.dmr_voice.specs.declared.said.Said.TheVariants.{Nothing, Repeat}
 use Rattle.dmr_station.specs.declared.sending.DownlinkBurst.{DownlinkBurst}
-use Rattle.dmr_station.specs.Downlink.{slots_in, handed, IsDownlinkOf, Makes}
+use Rattle.dmr_station.specs.Downlink.{slots_in, handed_frames, IsDownlinkOf, Makes}
 use Rattle.dmr_station.specs.Frames.{Settings, Counts}
 use Rattle.dmr_station.specs.GatewayFrames.{IsGatewayOf}
 
@@ -80,22 +80,23 @@ ForWhatWasRecorded colour Holds =
 abbrev pub SendsWhatIsMeant : Type 0
 SendsWhatIsMeant = (s : Settings) → ForWhatWasRecorded s.colour (λ first second frames.
     (offers : List (List Sending)) (sending : List (List (Option DownlinkBurst))) (receipts : List Receipt) (counts : Counts)
-    → Makes s offers (handed frames) sending receipts counts
+    → Makes s offers (handed_frames frames) sending receipts counts
     → IsDownlinkOfWhatIsMeant s first second frames offers sending receipts counts)
 
 -- and what they make of a front of it is a front of that.
 abbrev pub SendsFrontOfWhatIsMeant : Type 0
 SendsFrontOfWhatIsMeant = (s : Settings) → ForWhatWasRecorded s.colour (λ first second frames.
     (front rest : List (List (Option (List ℕ)))) (offers : List (List Sending)) (sending : List (List (Option DownlinkBurst)))
-    (receipts : List Receipt) (counts : Counts) → handed frames ≡ front ++ rest → Makes s offers front sending receipts counts
+    (receipts : List Receipt) (counts : Counts) → handed_frames frames ≡ front ++ rest
+        → Makes s offers front sending receipts counts
     → IsFrontOfTheDownlink s first second frames (length front) offers sending receipts counts)
 
 -- 3. What a gateway receives of what is meant.
 
 -- What a slot means to a gateway: data is heard as what its information reads as, and anything else as nothing.
 abbrev pub IsHeardOf : Said → Heard → Type 0
-IsHeardOf (Repeat (Data kind information) role) h = IsReading kind information h
-IsHeardOf said h = h ≡ nothing
+IsHeardOf (Repeat (Data kind information) role) h = IsReadByGateway kind information h
+IsHeardOf said h = h ≡ nothing_said
 
 -- The records of a slot whose places mean this: of each place what is received in it, after those heard before, newest first.
 abbrev pub AreRecordsOf : ℕ → ℕ → List Heard → List Said → List (List Received) → Type 0

@@ -17,8 +17,8 @@ FitsItsFields slot = IfSome slot (λ d. IsBurst d.burst × IsFitMessage d.messag
 
 -- The records of the downlink are counted from 0, slot 1 first. Four of them carry one Short LC: the first fragment, two that
 -- continue it, and the last.
-abbrev pub lcss_of : ℕ → ℕ
-lcss_of place =
+abbrev pub fragment_lcss : ℕ → ℕ
+fragment_lcss place =
     if place % 4 == 0 then first_fragment else (if place % 4 == 3 then last_fragment else continuation_fragment)
 
 -- The CACH of a record: AT is 1 where a repeated burst follows, TC is 0 where slot 1 follows, and of the four fragments of a
@@ -26,12 +26,12 @@ lcss_of place =
 abbrev pub IsCachOf : Bool → Message → ℕ → List ℕ → Type 0
 IsCachOf busy m place octets =
     (fragments : List (List Bool)) × IsShortLc m.slco m.body fragments
-    × IsCach busy (place % 2 == 1) (lcss_of place) (slice_index_or fragments (place % 4) []) (bits_of_octets octets)
+    × IsCach busy (place % 2 == 1) (fragment_lcss place) (slice_index_or fragments (place % 4) []) (bits_of_octets octets)
 
 -- The CACHs of records with these fragments, one for each fragment.
 abbrev pub AreCachs : Bool → List (List Bool) → List (List ℕ) → Type 0
 AreCachs busy fragments cachs =
-    (place : ℕ) → IsCach busy (place % 2 == 1) (lcss_of place) (slice_index_or fragments (place % 4) [])
+    (place : ℕ) → IsCach busy (place % 2 == 1) (fragment_lcss place) (slice_index_or fragments (place % 4) [])
     (bits_of_octets (slice_index_or cachs (place % 4) []))
 
 -- The four CACHs of a message, each in its place.
@@ -39,14 +39,14 @@ abbrev pub CarryMessage : Bool → Message → List (List ℕ) → Type 0
 CarryMessage busy m cachs = (place : ℕ) → IsCachOf busy m place (slice_index_or cachs (place % 4) [])
 
 -- Each of these numbers is an octet: below 256.
-abbrev pub AreOctets : List ℕ → Type 0
-AreOctets octets = All (λ octet. octet < 256) octets
+abbrev pub FitOctets : List ℕ → Type 0
+FitOctets octets = All (λ octet. octet < 256) octets
 
 -- What is sent for a slot: the octets of the CACH and of the base station's encoding of its burst, or nothing.
 pub record IsSentBurst (place : ℕ) (d : DownlinkBurst) (cach burst : List ℕ) : Type 0 where
-  pub cach_octets : AreOctets cach
+  pub cach_octets : FitOctets cach
   pub announces : IsCachOf d.is_repeated d.message place cach
-  pub burst_octets : AreOctets burst
+  pub burst_octets : FitOctets burst
   pub encodes : IsEncoding d.burst Bs (bits_of_octets burst)
 
 -- What one slot sends, with its CACH, as the record in this place of the downlink; a silent slot is a record of silence.

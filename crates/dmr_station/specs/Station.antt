@@ -14,10 +14,10 @@ use Rattle.dmr_station.specs.declared.sending.DownlinkBurst.{DownlinkBurst}
 use Rattle.dmr_station.specs.declared.station.Counts.{Counts as StationCounts}
 use Rattle.dmr_station.specs.Clean.{IsCleanDownlink}
 use Rattle.dmr_station.specs.Downlink.{repeated_count, slots_of, Makes}
-use Rattle.dmr_station.specs.Frames.{Settings, Memory, Counts, start, settings_in as settings_remembered, nothing_counted}
+use Rattle.dmr_station.specs.Frames.{Settings, StationMemory, Counts, start, settings_in as settings_remembered, nothing_counted}
 use Rattle.dmr_station.specs.Frames.{outcome_count}
-use Rattle.dmr_station.specs.Frames.{IsAsked, received_of, outcomes_of, received_taken, outcomes_told}
-use Rattle.dmr_station.specs.GatewayFrames.{AreReadFrom, AreForSlots, receipt_of}
+use Rattle.dmr_station.specs.Frames.{IsAsked, received_of, outcomes_to_tell, received_taken, outcomes_told}
+use Rattle.dmr_station.specs.GatewayFrames.{AreReadFrom, AreForSlots, receipt_in}
 use Rattle.dmr_station.specs.Pairs.{Pairwise}
 use Rattle.dmr_station.specs.Sent.{AreSentAs}
 
@@ -26,7 +26,7 @@ use Rattle.dmr_station.specs.Sent.{AreSentAs}
 -- What a station remembers, how many frames of the downlink it has sent, how many of their slots repeated a burst, how many
 -- datagrams it was offered, and what it counts of the gateway.
 pub record State : Type 0 where
-  pub memory : Memory
+  pub memory : StationMemory
   pub frames : ℕ
   pub repeated : ℕ
   pub offered : ℕ
@@ -38,7 +38,7 @@ counts_of_gateway c =
     record { received = c.received; delivered = c.delivered; sent = c.sent; given_up = c.given_up; refused = c.refused }
 
 -- What a station is between two frames, of what it remembers and of the program's counters.
-abbrev pub state_of : Memory → StationCounts → State
+abbrev pub state_of : StationMemory → StationCounts → State
 state_of m c =
     record { memory = m; frames = c.frames; repeated = c.repeated; offered = c.offered; counts = counts_of_gateway c }
 
@@ -47,8 +47,8 @@ abbrev pub fresh : Settings → State
 fresh s = record { memory = start s; frames = 0; repeated = 0; offered = 0; counts = nothing_counted }
 
 -- What the rules go by in a station, of what it remembers.
-abbrev pub settings_in : State → Settings
-settings_in state = settings_remembered state.memory
+abbrev pub settings_of_state : State → Settings
+settings_of_state state = settings_remembered state.memory
 
 -- 2. One frame.
 
@@ -69,9 +69,9 @@ pub record IsOffered (before : State) (o : Outgoing) (after : State) : Type 0 wh
   pub state : after ≡ after_offer gate (refusal result) before
 
 -- Datagrams are offered, one after another.
-abbrev pub AreOffered : State → List Outgoing → State → Type 0
-AreOffered before [] after = after ≡ before
-AreOffered before (o ∷ more) after = (next : State) × IsOffered before o next × AreOffered next more after
+abbrev pub AreOfferedOneByOne : State → List Outgoing → State → Type 0
+AreOfferedOneByOne before [] after = after ≡ before
+AreOfferedOneByOne before (o ∷ more) after = (next : State) × IsOffered before o next × AreOfferedOneByOne next more after
 
 -- The counts once it is told that this became of packets.
 abbrev pub with_outcomes : List Outcome → Counts → Counts
@@ -88,14 +88,14 @@ with_outcomes outcomes c =
 pub record IsExchanged (before : State) (frame : List (Option (List ℕ))) (records : List (Option (List ℕ × List ℕ)))
     (after : State) : Type 0 where
   pub sending : List (Option DownlinkBurst)
-  pub asked : Memory
+  pub asked : StationMemory
   pub is_asked : IsAsked before.memory frame sending asked
   pub memory : after.memory ≡ record asked { gate = outcomes_told asked.gate }
   pub encoded : AreSentAs (2 * before.frames) sending records
   pub frames : after.frames ≡ before.frames + 1
   pub repeated : after.repeated ≡ before.repeated + repeated_count sending
   pub offered : after.offered ≡ before.offered
-  pub counts : after.counts ≡ with_outcomes (outcomes_of asked.gate) before.counts
+  pub counts : after.counts ≡ with_outcomes (outcomes_to_tell asked.gate) before.counts
 
 -- The station once so many records were taken of what its gateway received, which left the gateway so.
 abbrev pub with_received : Gate → ℕ → State → State
@@ -107,8 +107,8 @@ abbrev pub taken_once : State → State
 taken_once s = with_received (after_received s.memory.gate) (length (option_to_list (next_received s.memory.gate))) s
 
 -- The station once all records of what the gateway received are taken and counted.
-abbrev pub all_taken : State → State
-all_taken s = with_received (received_taken s.memory.gate) (length (received_of s.memory.gate)) s
+abbrev pub all_received_taken : State → State
+all_received_taken s = with_received (received_taken s.memory.gate) (length (received_of s.memory.gate)) s
 
 -- The counters stay below the frames and the offers, however much is still to be taken.
 pub record IsWithinFrames (s : State) : Type 0 where
@@ -128,8 +128,8 @@ abbrev pub AreExchanged : State → List (List Outgoing) → List (List (Option 
     List (List Received) → State → Type 0
 AreExchanged before [] [] [] [] after = after ≡ before
 AreExchanged before (offered ∷ offers) (frame ∷ frames) (records ∷ more) (received ∷ others) after =
-    (ready : State) × (next : State) × AreOffered before offered ready × IsExchanged ready frame records next
-    × (received ≡ received_of next.memory.gate) × AreExchanged (all_taken next) offers frames more others after
+    (ready : State) × (next : State) × AreOfferedOneByOne before offered ready × IsExchanged ready frame records next
+    × (received ≡ received_of next.memory.gate) × AreExchanged (all_received_taken next) offers frames more others after
 AreExchanged before offers frames records received after = ⊥
 
 -- The records of frames, in order.
@@ -139,7 +139,7 @@ records_of frames = flat_map (λ frame. frame) frames
 -- The records of what was received in frames, from this frame on.
 abbrev pub receipts_from : ℕ → List (List Received) → List Receipt
 receipts_from frame [] = []
-receipts_from frame (received ∷ more) = map (receipt_of frame) received ++ receipts_from (frame + 1) more
+receipts_from frame (received ∷ more) = map (receipt_in frame) received ++ receipts_from (frame + 1) more
 
 -- What is sent where these frames were taken and these datagrams offered in each: what the rules make of them by looking back,
 -- exactly encoded, and all clean; what is received; how many slots repeat a burst, and what is counted of the gateway.

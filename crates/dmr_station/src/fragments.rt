@@ -2,7 +2,7 @@
 ghost use Rattle.std.specs.Prelude.{◌≡◌, ◌<◌, ◌%◌, ◌==◌};
 ghost use Rattle.dmr_bits.specs.Bits.{bits_of_octets};
 ghost use Rattle.dmr_burst.specs.Cach.{IsCach};
-ghost use Rattle.dmr_station.specs.Sent.{AreCachs, lcss_of};
+ghost use Rattle.dmr_station.specs.Sent.{AreCachs, fragment_lcss};
 
 use crate::announcing::Message;
 use dmr_bits::Bits;
@@ -93,7 +93,7 @@ fn cachs(busy: bool, fragments: &[Bits<17>; 4]) -> [[u8; 3]; 4]
 
 /// The CACH of a record at this place, with this fragment.
 fn cach_at(busy: bool, place: u32, fragment: &Bits<17>) -> [u8; 3]
-    ensures cach { IsCach busy (place % 2 == 1) (lcss_of place) fragment.now (bits_of_octets result) }
+    ensures cach { IsCach busy (place % 2 == 1) (fragment_lcss place) fragment.now (bits_of_octets result) }
 {
     cach(
         busy,
@@ -105,7 +105,7 @@ fn cach_at(busy: bool, place: u32, fragment: &Bits<17>) -> [u8; 3]
 
 /// Where in its Short LC the fragment of a record stands.
 fn link_control_start_stop(place: u32) -> u8
-    ensures value { result ≡ lcss_of place }
+    ensures value { result ≡ fragment_lcss place }
     ensures fits { result < 4 }
 {
     match place % 4 {

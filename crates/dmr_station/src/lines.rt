@@ -29,9 +29,9 @@ pub struct Lines {
 impl Model for Lines {
     ghost use Rattle.std.specs.Prelude.{IfSome};
     ghost use Rattle.dmr_station.specs.Announced.{IsFitMessage};
-    ghost use Rattle.dmr_station.specs.Frames.{Memory};
+    ghost use Rattle.dmr_station.specs.Frames.{StationMemory};
 
-    ghost Value = { Memory };
+    ghost Value = { StationMemory };
 
     ghost view = { λ l. record {
       first = l.first;
@@ -51,7 +51,7 @@ impl Lines {
     ghost use Rattle.std.specs.List.{flat_map};
     ghost use Rattle.dmr_gateway.specs.Gateway.{HasNothingReceived, next_received, after_received};
     ghost use Rattle.dmr_gateway.specs.Received.{IsFitReceived};
-    ghost use Rattle.dmr_station.specs.Frames.{settings_of, start, IsAsked, outcomes_of, outcomes_told};
+    ghost use Rattle.dmr_station.specs.Frames.{settings_of, start, IsAsked, outcomes_to_tell, outcomes_told};
 
     /// Lines and a gateway that have heard nothing. They take memory here alone, for each slot, and then for the
     /// gateway.
@@ -112,7 +112,7 @@ impl Lines {
 
     /// What became of the gateway's packets, one in each slot at most, slot 1's first.
     pub(crate) fn take_outcomes(&mut self) -> [Option<Outcome>; 2]
-        ensures outcomes { flat_map option_to_list result ≡ outcomes_of self.old.gate }
+        ensures outcomes { flat_map option_to_list result ≡ outcomes_to_tell self.old.gate }
         ensures told { self.new ≡ record self.old { gate = outcomes_told self.old.gate } }
     {
         let first = self.gateway.take_outcome();

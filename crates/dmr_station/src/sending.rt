@@ -1,6 +1,6 @@
 //! The octets of what a slot of the downlink sends.
 ghost use Rattle.std.specs.Prelude.{◌<◌, ◌^◌, ◌+◌, All};
-ghost use Rattle.dmr_station.specs.Sent.{AreOctets, AreSentAs, FitsItsFields, IsSentAs};
+ghost use Rattle.dmr_station.specs.Sent.{FitOctets, AreSentAs, FitsItsFields, IsSentAs};
 
 use crate::announcing::Message;
 use crate::fragments::Fragments;
@@ -18,7 +18,7 @@ pub struct DownlinkBurst {
 
 /// Tells the proof that octets are below 256, which the array that a call gives doesn't.
 fn below_256(octets: &[u8])
-    ensures octets { AreOctets octets.now }
+    ensures octets { FitOctets octets.now }
 {
     let _count = octets.len();
 }

@@ -3,7 +3,7 @@ use Rattle.dmr_bits.specs.Bits.{octets_of}
 use Rattle.dmr_bptc.specs.ProductWord.{information}
 use Rattle.dmr_checks.specs.Sealed.{IsSealed}
 use Rattle.dmr_checks.specs.declared.sealing.Mask.TheVariants as mask
-use Rattle.dmr_csbk.specs.Block.{IsBlock}
+use Rattle.dmr_csbk.specs.Block.{IsCsbk}
 use Rattle.dmr_csbk.proofs.block.csbk_read.Goals as goal
 
 same_some : (a b : List Bool) → Some a ≡ Some b → a ≡ b
@@ -42,11 +42,11 @@ returns-clause-block c = (
 pub returns-clause-undone : goal.returns-clause-undone
 returns-clause-undone c = λ word product damaged sealed.
     let same : c.in-Some.message ≡ information word = same_some _ _ (c.in-Some.ensures.undone word product damaged) in
-    let read : IsBlock c.fields_of.result c.in-Some.message =
+    let read : IsCsbk c.fields_of.result c.in-Some.message =
     record {
       fit = c.fields_of.ensures.fits;
       long = c.octets.ensures.length;
       fields = c.fields_of.ensures.fields;
       sealed = subst (IsSealed mask.Csbk) c.octets.ensures.value (c.opens.ensures.sealed.0 c.if-not-opens.false);
     } in
-    subst (IsBlock c.fields_of.result) same read
+    subst (IsCsbk c.fields_of.result) same read

@@ -1,6 +1,6 @@
 use Rattle.std.proofs.Common.{rules, ◌+◌, [], ◌∷◌, ◌++◌, None, Some, sym, ap, ◌∙◌, subst, arith}
 use Rattle.std.proofs.lemmas.List.{length_push}
-use Rattle.dmr_listing.specs.Listings.{IsListed, Turn}
+use Rattle.dmr_listing.specs.Listings.{IsListed, ListingTurn}
 use Rattle.dmr_listing.proofs.Listings.{listed_burst, listed_part, listed_silence, octets_more}
 use Rattle.dmr_listing.proofs.listing.list_recording.Goals as goal
 
@@ -14,7 +14,7 @@ loop-slot-preserved-in-None g c =
     let short = c.record_octets-octet.ensures.few in
     let before = c.slots.ensures.value in
     let turn = c.pass.ensures.turn in
-    let later = ap (λ (t : Turn). t.slots) turn in
+    let later = ap (λ (t : ListingTurn). t.slots) turn in
     let more = length_push slots None in
     let next = octets_more c.args.recording slots None c.loop-slot.octet octet in
     record {
@@ -27,7 +27,7 @@ loop-slot-preserved-in-None g c =
         slots ++ None ∷ [],
         omega (arith, more, counted, later),
         ap (λ n. c.loop-slot.octet + n) long ∙ next,
-        subst (λ (t : Turn). IsListed c.args.recording (slots ++ None ∷ []) [] t (g.S.Source.left c.args.source.now)
+        subst (λ (t : ListingTurn). IsListed c.args.recording (slots ++ None ∷ []) [] t (g.S.Source.left c.args.source.now)
             (g.S.Source.left c.read_recording.new.source) (g.L.BurstLines.given c.args.lines.now)
             (g.L.BurstLines.given c.loop-slot.lines)) (sym turn)
             (listed_silence c.args.recording slots c.loop-slot.view _ _ _ _ _ listed silence),
@@ -57,7 +57,7 @@ loop-slot-preserved g c =
     let short = c.record_octets-octet.ensures.few in
     let before = c.slots.ensures.value in
     let turn = c.line-line.ensures.turn in
-    let later = ap (λ (t : Turn). t.slots) turn in
+    let later = ap (λ (t : ListingTurn). t.slots) turn in
     let burst = c.in-Some.burst in
     let more = length_push slots (Some burst) in
     let next = octets_more c.args.recording slots (Some burst) c.loop-slot.octet octet in
@@ -71,7 +71,7 @@ loop-slot-preserved g c =
         slots ++ Some burst ∷ [],
         omega (arith, more, counted, later),
         ap (λ n. c.loop-slot.octet + n) long ∙ next,
-        subst (λ (t : Turn). IsListed c.args.recording (slots ++ Some burst ∷ []) [] t (g.S.Source.left c.args.source.now)
+        subst (λ (t : ListingTurn). IsListed c.args.recording (slots ++ Some burst ∷ []) [] t (g.S.Source.left c.args.source.now)
             (g.S.Source.left c.read_recording.new.source) (g.L.BurstLines.given c.args.lines.now)
             (g.L.BurstLines.given c.put.new.self)) (sym turn)
             (listed_burst c.args.recording slots c.loop-slot.view burst c.line-line.result _ _ _ _ _ _ listed is_burst spelled

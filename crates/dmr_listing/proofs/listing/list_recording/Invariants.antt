@@ -2,7 +2,7 @@
 use Rattle.std.proofs.Common.{◌≡◌, ◌+◌, ◌*◌, ◌-◌, ◌≤◌, List, [], length, false}
 use Rattle.dmr_listing.specs.Entries.{octet_behind}
 use Rattle.dmr_listing.specs.Listings.{IsListed}
-use Rattle.dmr_listing.specs.Recordings.{Slot, most_slots_of, spelling}
+use Rattle.dmr_listing.specs.Recordings.{RecordedSlot, most_slots_of, spelling}
 use Rattle.dmr_listing.proofs.listing.list_recording.Given as goal
 
 abbrev pub invariant-loop-slot : goal.invariant-loop-slot
@@ -12,7 +12,7 @@ invariant-loop-slot g l = record {
   kept : g.L.BurstLines.kept l.lines ≡ g.L.BurstLines.kept l.initial.lines;
   few : l.view.slots ≤ most_slots_of l.recording;
   room : l.octet ≤ 8 + 37 * l.view.slots;
-  so_far : (slots : List Slot) × (length slots ≡ l.view.slots) × (l.octet ≡ octet_behind (spelling l.recording) slots)
+  so_far : (slots : List RecordedSlot) × (length slots ≡ l.view.slots) × (l.octet ≡ octet_behind (spelling l.recording) slots)
       × IsListed l.recording slots [] l.view (g.S.Source.left l.initial.source) (g.S.Source.left l.source)
       (g.L.BurstLines.given l.initial.lines) (g.L.BurstLines.given l.lines);
 }

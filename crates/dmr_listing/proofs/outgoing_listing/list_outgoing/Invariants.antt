@@ -3,7 +3,7 @@ use Rattle.std.proofs.Common.{◌≡◌, ◌+◌, ◌*◌, ◌-◌, ◌≤◌, L
 use Rattle.dmr_record.specs.Outgoing.{Sending, sending_octets}
 use Rattle.dmr_record.specs.declared.outgoing.TheConstants.{RECORD_LIMIT}
 use Rattle.dmr_listing.specs.Entries.{octet_behind}
-use Rattle.dmr_listing.specs.OutgoingListings.{IsListed, last_frame}
+use Rattle.dmr_listing.specs.OutgoingListings.{IsListed, frame_of_last}
 use Rattle.dmr_listing.proofs.outgoing_listing.list_outgoing.Given as goal
 
 abbrev pub invariant-loop-record : goal.invariant-loop-record
@@ -13,7 +13,7 @@ invariant-loop-record g l = record {
   kept : g.L.OutgoingLines.kept l.lines ≡ g.L.OutgoingLines.kept l.initial.lines;
   few : l.count ≤ RECORD_LIMIT;
   room : l.octet ≤ 8 + 65544 * l.count;
-  so_far : (sendings : List Sending) × (length sendings ≡ l.count) × (last_frame 0 sendings ≡ l.last)
+  so_far : (sendings : List Sending) × (length sendings ≡ l.count) × (frame_of_last 0 sendings ≡ l.last)
       × (l.octet ≡ octet_behind sending_octets sendings)
       × IsListed sendings [] (g.S.Source.left l.initial.source) (g.S.Source.left l.source)
       (g.L.OutgoingLines.given l.initial.lines) (g.L.OutgoingLines.given l.lines);

@@ -1,6 +1,6 @@
 use Rattle.std.proofs.Common.{rules, ◌≡◌, ◌+◌, ℕ, [], ◌∷◌, ◌++◌, Option, None, Some, take, sym, ap, ◌∙◌, subst, arith}
 use Rattle.std.proofs.lemmas.List.{length_push}
-use Rattle.dmr_record.specs.Received.{Fields, Follows, Receipt, fields_of, fields_read, kind_octet, last_read}
+use Rattle.dmr_record.specs.Received.{ReceivedFields, Follows, Receipt, received_fields, fields_read, kind_octet, last_read}
 use Rattle.dmr_record.specs.Received.{receipt_octets, receipt_of}
 use Rattle.dmr_record.specs.declared.received.Received.{Received}
 use Rattle.dmr_listing.specs.ReceivedListings.{last_fields}
@@ -8,7 +8,7 @@ use Rattle.dmr_listing.proofs.ReceivedListings.{last_more, received_more, receiv
 use Rattle.dmr_listing.proofs.received_listing.list_received.Goals as goal
 
 -- the fields of a record that was read, with this count
-abbrev fields : Received → ℕ → Fields
+abbrev fields : Received → ℕ → ReceivedFields
 fields r count = record { frame = r.frame; slot = r.slot; kind = kind_octet r.kind; source = r.source; count = count }
 
 pub returns-then-is_err-clause-output : goal.returns-then-is_err-clause-output
@@ -31,10 +31,10 @@ loop-received-preserved g c =
     let read = c.in-Ok-Some.received in
     let octets = take read.length c.read_received.new.octets in
     let next : Receipt = receipt_of read octets in
-    let same : fields_of next ≡ fields_read read = ap (λ n. fields read n) whole in
-    let behind : Follows (last_fields None receipts) (fields_of next) =
-    subst (λ (l : Option Fields). Follows l (fields_of next)) (sym last)
-    (subst (λ (f : Fields). Follows (last_read c.loop-received.last) f) (sym same) follows) in
+    let same : received_fields next ≡ fields_read read = ap (λ n. fields read n) whole in
+    let behind : Follows (last_fields None receipts) (received_fields next) =
+    subst (λ (l : Option ReceivedFields). Follows l (received_fields next)) (sym last)
+    (subst (λ (f : ReceivedFields). Follows (last_read c.loop-received.last) f) (sym same) follows) in
     let from = c.from.ensures in
     let short = is_receipt.octets in
     let more = length_push receipts next in

@@ -1,7 +1,7 @@
 use Rattle.std.proofs.Common.{rules, ◌+◌, [], ◌∷◌, ◌++◌, length, Some, sym, ap, ◌∙◌, subst, arith}
 use Rattle.std.proofs.lemmas.List.{length_push}
-use Rattle.dmr_listing.specs.Entries.{place_of}
-use Rattle.dmr_listing.specs.Listings.{Turn}
+use Rattle.dmr_listing.specs.Entries.{place_by_number}
+use Rattle.dmr_listing.specs.Listings.{ListingTurn}
 use Rattle.dmr_listing.specs.Recordings.{ShowsSlotFaultOf}
 use Rattle.dmr_listing.specs.Strips.{IsDrawn}
 use Rattle.dmr_listing.proofs.Drawing.{drawn_given, drawn_none, drawn_part, drawn_pushed, full_up_to_strip, stripped}
@@ -21,7 +21,7 @@ loop-slot-init g c = record {
     [],
     search rules,
     search rules,
-    subst (λ (t : Turn). IsDrawn c.args.recording c.args.frames [] [] t (g.S.Source.left c.args.source.now)
+    subst (λ (t : ListingTurn). IsDrawn c.args.recording c.args.frames [] [] t (g.S.Source.left c.args.source.now)
         (g.S.Source.left c.args.source.now) c.new-strip.result (g.L.StripLines.given c.args.lines.now)
         (g.L.StripLines.given c.args.lines.now)) (sym c.new-view.ensures.value)
         (drawn_none c.args.recording c.args.frames _ c.new-strip.result _ c.new-strip.ensures.none),
@@ -74,14 +74,14 @@ returns-in-Err-clause-fault g c =
           (search rules);
       shown = subst (λ n. ShowsSlotFaultOf c.args.recording n c.in-Err.fault taken) (before ∙ sym counted) fault;
       octet = octet;
-      place = ap Some (c.of_slot.ensures.value ∙ ap place_of (after ∙ sym counted));
+      place = ap Some (c.of_slot.ensures.value ∙ ap place_by_number (after ∙ sym counted));
     }
 
 pub returns-then-is_err-3-clause-output : goal.returns-then-is_err-3-clause-output
 returns-then-is_err-3-clause-output g c =
     let (slots, counted, octet, drawn) = c.loop-slot.invariant.so_far in
     let (below, is_slot, read) = rw c.in-Ok-Some.field-0-is at c.in-Ok-Some.ensures.slot in
-    let at = c.of_slot-place.ensures.value ∙ ap place_of c.slots-in-loop-slot.ensures.value in
+    let at = c.of_slot-place.ensures.value ∙ ap place_by_number c.slots-in-loop-slot.ensures.value in
     full_up_to_strip c.args.recording c.args.frames (slots ++ c.in-Ok-Some.slot ∷ []) c.mark-mark.new.self _ _ _
     c.add.new.strip _ _ _
     (drawn_pushed c.args.recording c.args.frames slots c.loop-slot.view c.in-Ok-Some.slot c.mark-mark.result
@@ -98,7 +98,7 @@ loop-slot-preserved g c =
     let short = c.record_octets-octet.ensures.few in
     let before = c.slots.ensures.value in
     let later = turn_later c.loop-slot.view slot c.mark-mark.result c.mark-mark.new.self c.mark-mark.ensures.mark in
-    let at = c.of_slot-place.ensures.value ∙ ap place_of c.slots-in-loop-slot.ensures.value in
+    let at = c.of_slot-place.ensures.value ∙ ap place_by_number c.slots-in-loop-slot.ensures.value in
     let more = length_push slots slot in
     let next = octets_more c.args.recording slots slot c.loop-slot.octet octet in
     record {

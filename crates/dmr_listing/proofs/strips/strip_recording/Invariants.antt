@@ -1,7 +1,7 @@
 -- The slots so far were drawn, and the next record begins at this octet.
 use Rattle.std.proofs.Common.{◌≡◌, ◌+◌, ◌*◌, ◌-◌, ◌≤◌, ◌<◌, List, [], length, false}
 use Rattle.dmr_listing.specs.Entries.{octet_behind}
-use Rattle.dmr_listing.specs.Recordings.{Slot, most_slots_of, spelling}
+use Rattle.dmr_listing.specs.Recordings.{RecordedSlot, most_slots_of, spelling}
 use Rattle.dmr_listing.specs.Strips.{IsDrawn, most_marks}
 use Rattle.dmr_listing.proofs.strips.strip_recording.Given as goal
 
@@ -13,7 +13,7 @@ invariant-loop-slot g l = record {
   few : l.view.slots ≤ most_slots_of l.recording;
   room : l.octet ≤ 8 + 37 * l.view.slots;
   free : length l.strip.marks < most_marks;
-  so_far : (slots : List Slot) × (length slots ≡ l.view.slots) × (l.octet ≡ octet_behind (spelling l.recording) slots)
+  so_far : (slots : List RecordedSlot) × (length slots ≡ l.view.slots) × (l.octet ≡ octet_behind (spelling l.recording) slots)
       × IsDrawn l.recording l.frames slots [] l.view (g.S.Source.left l.initial.source) (g.S.Source.left l.source) l.strip
       (g.L.StripLines.given l.initial.lines) (g.L.StripLines.given l.lines);
 }

@@ -1,7 +1,7 @@
 use Rattle.std.proofs.Common.{rules, ◌++◌, inl, inr, ◌∷◌, refl}
 use Rattle.std.proofs.lemmas.Result.{err_from_is_err_and}
 use Rattle.std.proofs.KnownBytes.{Consumes-trans}
-use Rattle.dmr_record.specs.Outgoing.{Fields, field_octets, Fit}
+use Rattle.dmr_record.specs.Outgoing.{OutgoingFields, outgoing_field_octets, FitsOutgoing}
 use Rattle.dmr_record.proofs.OutgoingLemmas.{ShowsOutgoingFault-part}
 use Rattle.dmr_record.proofs.Pieces.{tagged}
 use Rattle.dmr_record.proofs.outgoing.read_outgoing_into.Goals as goal
@@ -22,10 +22,10 @@ pub returns-in_default-mode_named-clause-fault : goal.returns-in_default-mode_na
 returns-in_default-mode_named-clause-fault g c =
     let octet = rw c.in-Some.is at c.in_ok-tag.ensures.octet in
     let read = c.in_ok-fields.fields in
-    let f : Fields = record { frame = read.frame; slot = read.slot; mode = read.mode; count = read.length } in
-    let fit : Fit f = record { frame = search rules; count = search rules } in (
-      2 ∷ field_octets f,
-      tagged _ _ _ _ 2 (field_octets f) c.if-tag-ne-OUTGOING.false octet c.in_ok-fields.ensures.fields,
+    let f : OutgoingFields = record { frame = read.frame; slot = read.slot; mode = read.mode; count = read.length } in
+    let fit : FitsOutgoing f = record { frame = search rules; count = search rules } in (
+      2 ∷ outgoing_field_octets f,
+      tagged _ _ _ _ 2 (outgoing_field_octets f) c.if-tag-ne-OUTGOING.false octet c.in_ok-fields.ensures.fields,
       (c.if-before-ge-RECORD_LIMIT.false, inr (f, fit, c.in_default-mode_named.ensures.none, refl)),
     )
 
@@ -33,10 +33,10 @@ pub returns-then-fields-last-clause-fault : goal.returns-then-fields-last-clause
 returns-then-fields-last-clause-fault g c =
     let octet = rw c.in-Some.is at c.in_ok-tag.ensures.octet in
     let read = c.in_ok-fields.fields in
-    let f : Fields = record { frame = read.frame; slot = read.slot; mode = read.mode; count = read.length } in
-    let fit : Fit f = record { frame = search rules; count = search rules } in (
-      2 ∷ field_octets f,
-      tagged _ _ _ _ 2 (field_octets f) c.if-tag-ne-OUTGOING.false octet c.in_ok-fields.ensures.fields,
+    let f : OutgoingFields = record { frame = read.frame; slot = read.slot; mode = read.mode; count = read.length } in
+    let fit : FitsOutgoing f = record { frame = search rules; count = search rules } in (
+      2 ∷ outgoing_field_octets f,
+      tagged _ _ _ _ 2 (outgoing_field_octets f) c.if-tag-ne-OUTGOING.false octet c.in_ok-fields.ensures.fields,
       (c.if-before-ge-RECORD_LIMIT.false, f, fit, c.in-Some-mode_named.ensures.place, c.if-fields-last.true, refl),
     )
 
@@ -45,14 +45,14 @@ returns-in_err-read_octets-clause-fault g c =
     let p = err_from_is_err_and c.from_residual-in_err-read_octets.result c.from_residual-in_err-read_octets.ensures.1 in
     let octet = rw c.in-Some.is at c.in_ok-tag.ensures.octet in
     let read = c.in_ok-fields.fields in
-    let f : Fields = record { frame = read.frame; slot = read.slot; mode = read.mode; count = read.length } in
-    let fit : Fit f = record { frame = search rules; count = search rules } in
+    let f : OutgoingFields = record { frame = read.frame; slot = read.slot; mode = read.mode; count = read.length } in
+    let fit : FitsOutgoing f = record { frame = search rules; count = search rules } in
     let (part, fewer, took) = c.in_err-read_octets.ensures.part in
-    let fields = tagged _ _ _ _ 2 (field_octets f) c.if-tag-ne-OUTGOING.false octet c.in_ok-fields.ensures.fields in
+    let fields = tagged _ _ _ _ 2 (outgoing_field_octets f) c.if-tag-ne-OUTGOING.false octet c.in_ok-fields.ensures.fields in
     rw (p.1, p.2) (
-      2 ∷ (field_octets f ++ part),
-      Consumes-trans _ _ _ (2 ∷ field_octets f) part fields took,
-      ShowsOutgoingFault-part _ _ _ _ (2 ∷ (field_octets f ++ part)) c.if-before-ge-RECORD_LIMIT.false (λ e. (cc))
+      2 ∷ (outgoing_field_octets f ++ part),
+      Consumes-trans _ _ _ (2 ∷ outgoing_field_octets f) part fields took,
+      ShowsOutgoingFault-part _ _ _ _ (2 ∷ (outgoing_field_octets f ++ part)) c.if-before-ge-RECORD_LIMIT.false (λ e. (cc))
           c.in_err-read_octets.ensures.cause
           (inr (inr (f, part, fit, c.in-Some-mode_named.ensures.place, c.if-fields-last.false, fewer, refl))),
     )

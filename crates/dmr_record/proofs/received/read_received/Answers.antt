@@ -1,7 +1,7 @@
 use Rattle.std.proofs.Common.{rules, arith, ◌++◌, inl, inr, ◌∷◌, ◌≡◌, length, refl}
 use Rattle.std.proofs.lemmas.Result.{err_from_is_err_and}
 use Rattle.std.proofs.KnownBytes.{Consumes-trans}
-use Rattle.dmr_record.specs.Received.{kind_octet, field_octets, fields_read, IsPlace}
+use Rattle.dmr_record.specs.Received.{kind_octet, received_field_octets, fields_read, IsSlotAndKind}
 use Rattle.dmr_record.proofs.Pieces.{tagged, Consumes-spelled}
 use Rattle.dmr_record.proofs.ReceivedLemmas.{kind_octet-low, ShowsReceivedFault-part}
 use Rattle.dmr_record.proofs.received.read_received.Goals as goal
@@ -24,9 +24,9 @@ returns-in_default-received_of-clause-fault g c =
     let eleven : length c.fill_whole.new.buffer ≡ 11 = search rules in
     let (f, fit, misses, spelled) = c.in_default-received_of.ensures.none in
     let octets = c.in_ok-fill_whole.ensures.octets in
-    let took = Consumes-spelled _ _ 11 c.fill_whole.new.buffer (field_octets f) eleven spelled octets in (
-      3 ∷ field_octets f,
-      tagged _ _ _ _ 3 (field_octets f) c.if-tag-ne-RECEIVED.false octet took,
+    let took = Consumes-spelled _ _ 11 c.fill_whole.new.buffer (received_field_octets f) eleven spelled octets in (
+      3 ∷ received_field_octets f,
+      tagged _ _ _ _ 3 (received_field_octets f) c.if-tag-ne-RECEIVED.false octet took,
       (c.if-before-ge-RECEIVED_LIMIT.false, inr (f, fit, misses, refl)),
     )
 
@@ -36,10 +36,10 @@ returns-then-not-follows-clause-fault g c =
     let eleven : length c.fill_whole.new.buffer ≡ 11 = search rules in
     let read = c.in-Some-received_of.received in
     let f = fields_read read in
-    let took = Consumes-spelled _ _ 11 c.fill_whole.new.buffer (field_octets f) eleven c.in-Some-received_of.ensures.fields
+    let took = Consumes-spelled _ _ 11 c.fill_whole.new.buffer (received_field_octets f) eleven c.in-Some-received_of.ensures.fields
     c.in_ok-fill_whole.ensures.octets in (
-      3 ∷ field_octets f,
-      tagged _ _ _ _ 3 (field_octets f) c.if-tag-ne-RECEIVED.false octet took,
+      3 ∷ received_field_octets f,
+      tagged _ _ _ _ 3 (received_field_octets f) c.if-tag-ne-RECEIVED.false octet took,
       (
         c.if-before-ge-RECEIVED_LIMIT.false,
         f,
@@ -57,15 +57,15 @@ returns-in_err-fill_whole-2-clause-fault g c =
     let eleven : length c.fill_whole.new.buffer ≡ 11 = search rules in
     let read = c.in-Some-received_of.received in
     let f = fields_read read in
-    let took = Consumes-spelled _ _ 11 c.fill_whole.new.buffer (field_octets f) eleven c.in-Some-received_of.ensures.fields
+    let took = Consumes-spelled _ _ 11 c.fill_whole.new.buffer (received_field_octets f) eleven c.in-Some-received_of.ensures.fields
     c.in_ok-fill_whole.ensures.octets in
-    let front = tagged _ _ _ _ 3 (field_octets f) c.if-tag-ne-RECEIVED.false octet took in
+    let front = tagged _ _ _ _ 3 (received_field_octets f) c.if-tag-ne-RECEIVED.false octet took in
     let (part, fewer, more) = c.in_err-fill_whole-2.ensures.part in
-    let place : IsPlace read.slot (kind_octet read.kind) = (c.in-Some-received_of.ensures.slot, kind_octet-low read.kind) in
+    let place : IsSlotAndKind read.slot (kind_octet read.kind) = (c.in-Some-received_of.ensures.slot, kind_octet-low read.kind) in
     rw (p.1, p.2) (
-      3 ∷ (field_octets f ++ part),
-      Consumes-trans _ _ _ (3 ∷ field_octets f) part front more,
-      ShowsReceivedFault-part _ _ _ _ (3 ∷ (field_octets f ++ part)) c.if-before-ge-RECEIVED_LIMIT.false (λ e. (cc))
+      3 ∷ (received_field_octets f ++ part),
+      Consumes-trans _ _ _ (3 ∷ received_field_octets f) part front more,
+      ShowsReceivedFault-part _ _ _ _ (3 ∷ (received_field_octets f ++ part)) c.if-before-ge-RECEIVED_LIMIT.false (λ e. (cc))
           c.in_err-fill_whole-2.ensures.cause
           (inr (inr (f, part, c.in-Some-received_of.ensures.fit, place, c.if-not-follows.ensures.value.0 refl, omega arith, refl))),
     )

@@ -1,9 +1,9 @@
 use Rattle.std.proofs.Common.{rules, arith, ◌≡◌, ◌<◌, ℕ, inl, inr, length, get_or, slice_index_or, subst}
-use Rattle.dmr_record.specs.Received.{Fields, Fit, field_octets}
+use Rattle.dmr_record.specs.Received.{ReceivedFields, FitsReceived, received_field_octets}
 use Rattle.dmr_record.proofs.Numbers.{received_fields_spelled, source_fits}
 use Rattle.dmr_record.proofs.received.received_of.Goals as goal
 
-abbrev fields : ℕ → ℕ → ℕ → ℕ → ℕ → Fields
+abbrev fields : ℕ → ℕ → ℕ → ℕ → ℕ → ReceivedFields
 fields frame slot kind source count = record { frame = frame; slot = slot; kind = kind; source = source; count = count }
 
 pub returns-in_default-clause-none : goal.returns-in_default-clause-none
@@ -13,7 +13,7 @@ returns-in_default-clause-none c =
     let f = fields c.read_u32-frame.result (slice_index_or c.args.octets 4 0) (slice_index_or c.args.octets 5 0)
     c.read_u24-source.result c.read_u16-length.result in
     let high = c.in_default.ensures.none in
-    let fit : Fit f = record {
+    let fit : FitsReceived f = record {
       frame = search rules;
       source = source_fits c.args.octets _ eleven each c.read_u24-source.ensures;
       count = search rules;
@@ -31,7 +31,7 @@ returns-then-slot-ne2-clause-none c =
     let each : (i : ℕ) → get_or c.args.octets i 0 < 256 = search rules in
     let f = fields c.read_u32-frame.result (slice_index_or c.args.octets 4 0) (slice_index_or c.args.octets 5 0)
     c.read_u24-source.result c.read_u16-length.result in
-    let fit : Fit f = record {
+    let fit : FitsReceived f = record {
       frame = search rules;
       source = source_fits c.args.octets _ eleven each c.read_u24-source.ensures;
       count = search rules;
@@ -49,7 +49,7 @@ returns-clause-fields c =
     let each : (i : ℕ) → get_or c.args.octets i 0 < 256 = search rules in
     let spelled = received_fields_spelled c.args.octets _ _ _ eleven each c.read_u32-frame.ensures c.read_u24-source.ensures
     c.read_u16-length.ensures in
-    subst (λ (k : ℕ). c.args.octets ≡ field_octets (fields c.read_u32-frame.result (slice_index_or c.args.octets 4 0) k
+    subst (λ (k : ℕ). c.args.octets ≡ received_field_octets (fields c.read_u32-frame.result (slice_index_or c.args.octets 4 0) k
     c.read_u24-source.result c.read_u16-length.result))
     c.in-Some.ensures.kind spelled
 

@@ -2,7 +2,7 @@ use Rattle.std.proofs.Common.{◌≡◌, ℕ, List, [], ◌∷◌, ◌++◌, ◌
 use Rattle.std.specs.List.{All}
 use Rattle.std.proofs.lemmas.List.{drop_all}
 use Rattle.std.proofs.lemmas.List.Elements.{All-from_get_or}
-use Rattle.dmr_bits.specs.Register.{run}
+use Rattle.dmr_bits.specs.Register.{register_after}
 use Rattle.dmr_rs.specs.Field.{octet_field}
 use Rattle.dmr_rs.specs.Word.{generator_low}
 use Rattle.dmr_rs.proofs.Roots.{check, check_is, length-check, three_octets, word_is_completed, only_check}
@@ -14,7 +14,7 @@ returns c =
     let register : List ℕ = c.loop-octet.register in
     let parity : List ℕ = c.from-2.result ∷ c.from-3.result ∷ c.from-4.result ∷ [] in
     let ended : register ≡ check octets =
-    ap (run octet_field generator_low register) (sym (drop_all c.loop-octet.octet-index octets (omega arith)))
+    ap (register_after octet_field generator_low register) (sym (drop_all c.loop-octet.octet-index octets (omega arith)))
     ∙ c.loop-octet.invariant ∙ check_is octets in
     let long : length register ≡ 3 = ap length ended ∙ length-check octets in
     let same : check octets ≡ parity =

@@ -17,7 +17,8 @@ returns g c =
     let put = rw c.unwrap.ensures at c.try_extend_from_slice.ensures.ok in
     let old = c.self.inside.cells.items in
     record {
-      value = put ∙ kept_front g.row.CAP c.min-count.result old c.args.more.now (omega (arith, c.remaining_capacity-room.ensures)) (omega (
+      value = put ∙ kept_front g.row.CAP c.min-count.result old c.args.more.now (omega (arith, c.remaining_capacity-room.ensures))
+          (omega (
         arith,
         c.remaining_capacity-room.ensures,
         c.min-count.ensures,

@@ -1,6 +1,6 @@
 use Rattle.std.proofs.Common.{rules, refl, ◌∷◌, [], ap, sym, subst, ◌∙◌, arith}
 use Rattle.dmr_station.specs.Station.{State}
-use Rattle.dmr_repeater.specs.Schedule.{Progress, Gives}
+use Rattle.dmr_repeater.specs.Schedule.{ReadingProgress, Gives}
 use Rattle.dmr_repeater.proofs.Records.{Gives-waiting, OffersDue-none, OffersDue-one, OffersDue-nothing}
 use Rattle.dmr_repeater.proofs.Records.{given_of_offers, given_count}
 use Rattle.dmr_repeater.proofs.Records.{StopsIn-at}
@@ -21,9 +21,9 @@ loop-self-preserved g c =
     let (o, some, due) = c.in-Ok-true.ensures.due c.in-Ok-true.field-0-test in
     let value = c.offer_waiting.ensures.value in
     let offered = rw some at c.offer_waiting.ensures.offered in
-    let gives = subst (λ (p : Progress). Gives c.loop-self.self p (o ∷ []) [] (g.S.Source.left c.loop-self.source)
+    let gives = subst (λ (p : ReadingProgress). Gives c.loop-self.self p (o ∷ []) [] (g.S.Source.left c.loop-self.source)
     (g.S.Source.left c.has_due.new.source)) (sym value) (Gives-waiting _ _ o _ _ c.in-Ok-true.ensures.gives some) in
-    let same = ap (λ (p : Progress). p.at_end) value in
+    let same = ap (λ (p : ReadingProgress). p.at_end) value in
     let inv = c.loop-self.invariant in
     let one = ap (λ (s : State). s.offered) offered.state in
     let counted = inv.counted in

@@ -2,7 +2,7 @@ use Rattle.std.proofs.Common.{◌≡◌, ◌∙◌, ap, refl, subst, sym, All}
 use Rattle.dmr_hearing.specs.Fit.{IsFitHeard}
 use Rattle.dmr_voice.specs.Tracking.{Tracking}
 use Rattle.dmr_slot.proofs.Pushing.{fit_after, push_is, sound_after, window_after}
-use Rattle.dmr_slot.specs.Push.{EndsSilent, known_after, left_after}
+use Rattle.dmr_slot.specs.Push.{EndsSilent, known_after, call_left_after}
 use Rattle.dmr_slot.proofs.Quiet.{heard_silent, state_silent}
 use Rattle.dmr_slot.proofs.line.SlotLine.take.Goals as goal
 
@@ -28,11 +28,11 @@ known_is : (c : goal.After-advance)
 known_is c = c.advance.ensures.link_control ∙ ap (λ lc. known_after lc c.role_of.result) c.slot_out-out.ensures.link_control
 
 left_is : (c : goal.After-advance)
-    → c.advance.new.self.left ≡ left_after c.self.inside.hang.frames c.self.inside.hang.left c.role_of.result
+    → c.advance.new.self.left ≡ call_left_after c.self.inside.hang.frames c.self.inside.hang.left c.role_of.result
 left_is c =
     c.advance.ensures.left
-    ∙ ap (λ frames. left_after frames c.slot_out-out.new.hang.left c.role_of.result) c.slot_out-out.ensures.frames
-    ∙ ap (λ left. left_after c.self.inside.hang.frames left c.role_of.result) c.slot_out-out.ensures.left
+    ∙ ap (λ frames. call_left_after frames c.slot_out-out.new.hang.left c.role_of.result) c.slot_out-out.ensures.frames
+    ∙ ap (λ left. call_left_after c.self.inside.hang.frames left c.role_of.result) c.slot_out-out.ensures.left
 
 pub invariant_of-self : goal.invariant_of-self
 invariant_of-self c = record {
