@@ -1,7 +1,7 @@
 //! Doing what the words of a command line ask for.
 ghost use Rattle.std.specs.Prelude.{◌≡◌, ◌≤◌, ◌⊎◌, false, true};
 ghost use Rattle.dmr_report.specs.Line.{PutsError};
-ghost use Rattle.dmr_report.specs.declared.status.TheConstants.{FAILURE, SUCCESS, USAGE};
+ghost use Rattle.dmr_report.specs.Status.{failure, success, usage};
 ghost use Rattle.dmr_show.specs.Showing.{TellsFault};
 ghost use Rattle.dmr_command.specs.Request.{IsShow};
 
@@ -19,11 +19,11 @@ fn print_answer<K: Sink, E: Sink>(alloc: Global, answer: &Error, out: &mut K, er
     requires out { K.has_failed out.old ≡ false }
     requires err { E.has_failed err.old ≡ false }
     ensures alone { (out.new ≡ out.old) ⊎ (err.new ≡ err.old) }
-    ensures success { result ≡ SUCCESS → err.new ≡ err.old }
-    ensures usage { result ≡ USAGE → out.new ≡ out.old }
+    ensures success { result ≡ success → err.new ≡ err.old }
+    ensures usage { result ≡ usage → out.new ≡ out.old }
     ensures status { result ≤ 2 }
-    ensures out_failed { K.has_failed out.new ≡ true → result ≡ FAILURE }
-    ensures err_failed { E.has_failed err.new ≡ true → result ≡ FAILURE }
+    ensures out_failed { K.has_failed out.new ≡ true → result ≡ failure }
+    ensures err_failed { E.has_failed err.new ≡ true → result ≡ failure }
 {
     match format!(in alloc; "{answer}") {
         Ok(text) if answer.use_stderr() => print_text(err, text.as_str(), USAGE),
@@ -67,10 +67,10 @@ fn show_file<S: System, K: Sink, E: Sink>(
     requires err { E.has_failed err.old ≡ false }
     ensures alone { (err.new ≡ err.old)
         ⊎ TellsFault result (K.has_failed out.new) (E.has_failed err.new) (E.held err.old) (E.held err.new) }
-    ensures success { result ≡ SUCCESS → err.new ≡ err.old }
+    ensures success { result ≡ success → err.new ≡ err.old }
     ensures status { result ≤ 1 }
-    ensures out_failed { K.has_failed out.new ≡ true → result ≡ FAILURE }
-    ensures err_failed { E.has_failed err.new ≡ true → result ≡ FAILURE }
+    ensures out_failed { K.has_failed out.new ≡ true → result ≡ failure }
+    ensures err_failed { E.has_failed err.new ≡ true → result ≡ failure }
 {
     match open_source(system, alloc, Place::named(name)) {
         Ok(mut source) => show(alloc, name, form, filter, &mut source, out, err),
@@ -100,11 +100,11 @@ pub fn fulfil<S: System, K: Sink, E: Sink>(
     // A listing goes to the first; where it ends at a fault, a line of error goes to the second.
     ensures listing { IsShow request.entry → (err.new ≡ err.old)
         ⊎ TellsFault result (K.has_failed out.new) (E.has_failed err.new) (E.held err.old) (E.held err.new) }
-    ensures success { result ≡ SUCCESS → err.new ≡ err.old }
-    ensures usage { result ≡ USAGE → out.new ≡ out.old }
+    ensures success { result ≡ success → err.new ≡ err.old }
+    ensures usage { result ≡ usage → out.new ≡ out.old }
     ensures status { result ≤ 2 }
-    ensures out_failed { K.has_failed out.new ≡ true → result ≡ FAILURE }
-    ensures err_failed { E.has_failed err.new ≡ true → result ≡ FAILURE }
+    ensures out_failed { K.has_failed out.new ≡ true → result ≡ failure }
+    ensures err_failed { E.has_failed err.new ≡ true → result ≡ failure }
 {
     match request {
         Request::Slot(burst) => print_slot(burst, out, err),
@@ -135,11 +135,11 @@ pub fn obey<T: AsStr, S: System, K: Sink, E: Sink>(
     // its line of error to the second.
     ensures alone { (out.new ≡ out.old) ⊎ (err.new ≡ err.old)
         ⊎ TellsFault result (K.has_failed out.new) (E.has_failed err.new) (E.held err.old) (E.held err.new) }
-    ensures success { result ≡ SUCCESS → err.new ≡ err.old }
-    ensures usage { result ≡ USAGE → out.new ≡ out.old }
+    ensures success { result ≡ success → err.new ≡ err.old }
+    ensures usage { result ≡ usage → out.new ≡ out.old }
     ensures status { result ≤ 2 }
-    ensures out_failed { K.has_failed out.new ≡ true → result ≡ FAILURE }
-    ensures err_failed { E.has_failed err.new ≡ true → result ≡ FAILURE }
+    ensures out_failed { K.has_failed out.new ≡ true → result ≡ failure }
+    ensures err_failed { E.has_failed err.new ≡ true → result ≡ failure }
 {
     match request_of(alloc, words) {
         Ok(request) => fulfil(alloc, request, system, out, err),

@@ -5,7 +5,7 @@ use Rattle.std.specs.List.{AllByRecursion}
 use Rattle.dmr_record.specs.Outgoing.{AreInFrameOrder, IsSending, Keeps, Sending, ShowsOutgoingFault, sending_octets, sending_of}
 use Rattle.dmr_record.specs.Outgoing.{sendings_octets}
 use Rattle.dmr_record.specs.declared.outgoing.Outgoing.{Outgoing}
-use Rattle.dmr_record.specs.declared.outgoing.TheConstants.{RECORD_LIMIT}
+use Rattle.dmr_record.specs.Limits.{record_limit}
 use Rattle.dmr_listing.specs.Entries.{octet_behind}
 use Rattle.dmr_listing.specs.Listings.{Gains}
 use Rattle.dmr_listing.specs.declared.fault_line.FaultLine.{FaultLine}
@@ -42,7 +42,7 @@ pub record IsListedUpToFault (fault : FaultLine) (left_old left_new : Option (Li
   pub sendings : List Sending
   pub part : List ℕ
   pub before : IsListed sendings part left_old left_new given_old given_new
-  pub shown : ShowsOutgoingFault RECORD_LIMIT (length sendings) (frame_of_last 0 sendings) fault.fault part
+  pub shown : ShowsOutgoingFault record_limit (length sendings) (frame_of_last 0 sendings) fault.fault part
   pub octet : fault.octet ≡ octet_behind sending_octets sendings
   pub place : fault.place ≡ None
 

@@ -3,7 +3,7 @@ use Rattle.std.specs.Prelude.{◌≡◌, ◌≢◌, ℕ, ◌%◌, ◌<◌, ◌�
 use Rattle.std.specs.List.{flat_map}
 use Rattle.dmr_record.specs.declared.fault.RecordFault.{RecordFault}
 use Rattle.dmr_record.specs.declared.fault.RecordFault.TheVariants.{CutRecord, BadTag, HalfFrame, TooLong, Read}
-use Rattle.dmr_record.specs.declared.head.TheConstants.{DOWNLINK_MAGIC}
+use Rattle.dmr_record.specs.Head.{downlink_magic}
 use Rattle.dmr_record.specs.Head.{head_octets}
 
 -- A slot of the downlink: silence, or the three octets of a CACH and the 33 of a burst.
@@ -26,7 +26,7 @@ downlink_octets slots = flat_map sent_octets slots
 
 -- the file of these slots: slot 1 and slot 2 of the first frame, and so on
 abbrev pub downlink_file : List Sent → List ℕ
-downlink_file slots = head_octets DOWNLINK_MAGIC ++ downlink_octets slots
+downlink_file slots = head_octets downlink_magic ++ downlink_octets slots
 
 -- the most slots that a downlink file has: two for each of the 1,048,576 frames of an uplink, and of six more
 abbrev pub most_slots : ℕ

@@ -4,7 +4,6 @@ use Rattle.dmr_record.specs.declared.fault.RecordFault.{RecordFault}
 use Rattle.dmr_record.specs.declared.fault.RecordFault.TheVariants.{Magic, Version, CutRecord, Read}
 use Rattle.dmr_record.specs.declared.head.FileFormat.{FileFormat}
 use Rattle.dmr_record.specs.declared.head.FileFormat.TheVariants.{Uplink, Downlink, Outgoing, Received}
-use Rattle.dmr_record.specs.declared.head.TheConstants.{UPLINK_MAGIC, DOWNLINK_MAGIC, OUTGOING_MAGIC, RECEIVED_MAGIC}
 
 -- what stands behind the magic of each file
 abbrev pub file_version : List ℕ
@@ -23,12 +22,25 @@ ShowsHeadFault magic Magic octets = (length octets ≡ 8) × (take 4 octets ≢ 
 ShowsHeadFault magic Version octets = (length octets ≡ 8) × (take 4 octets ≡ magic) × (drop 4 octets ≢ file_version)
 ShowsHeadFault magic e octets = ⊥
 
+-- DMRU, DMRD, DMRO and DMRI
+abbrev pub uplink_magic : List ℕ
+uplink_magic = 0x44 ∷ 0x4D ∷ 0x52 ∷ 0x55 ∷ []
+
+abbrev pub downlink_magic : List ℕ
+downlink_magic = 0x44 ∷ 0x4D ∷ 0x52 ∷ 0x44 ∷ []
+
+abbrev pub outgoing_magic : List ℕ
+outgoing_magic = 0x44 ∷ 0x4D ∷ 0x52 ∷ 0x4F ∷ []
+
+abbrev pub received_magic : List ℕ
+received_magic = 0x44 ∷ 0x4D ∷ 0x52 ∷ 0x49 ∷ []
+
 -- what a file of this format begins with
 abbrev pub magic_of : FileFormat → List ℕ
-magic_of Uplink = UPLINK_MAGIC
-magic_of Downlink = DOWNLINK_MAGIC
-magic_of Outgoing = OUTGOING_MAGIC
-magic_of Received = RECEIVED_MAGIC
+magic_of Uplink = uplink_magic
+magic_of Downlink = downlink_magic
+magic_of Outgoing = outgoing_magic
+magic_of Received = received_magic
 
 -- These octets, taken in place of the head of a file of any format, show this fault: that of a version in place of one of the
 -- heads, and any other in place of each.

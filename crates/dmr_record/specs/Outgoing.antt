@@ -2,7 +2,7 @@
 use Rattle.std.specs.Prelude.{◌≡◌, ◌≢◌, ℕ, ◌+◌, ◌^◌, ◌<◌, ◌≤◌, ◌⊎◌, List, [], ◌∷◌, ◌++◌, Bool, if◌then◌else◌, length, take}
 use Rattle.std.specs.List.{flat_map}
 use Rattle.byteorder.specs.Endian.{big_bytes}
-use Rattle.dmr_record.specs.declared.head.TheConstants.{OUTGOING_MAGIC}
+use Rattle.dmr_record.specs.Head.{outgoing_magic}
 use Rattle.dmr_record.specs.declared.fault.RecordFault.{RecordFault}
 use Rattle.dmr_record.specs.declared.fault.RecordFault.TheVariants.{CutRecord, BadTag, FrameOrder, TooLong, Read}
 use Rattle.dmr_record.specs.declared.outgoing.Outgoing.{Outgoing}
@@ -62,7 +62,7 @@ sendings_octets sendings = flat_map sending_octets sendings
 
 -- the file of these records
 abbrev pub outgoing_file : List Sending → List ℕ
-outgoing_file sendings = head_octets OUTGOING_MAGIC ++ sendings_octets sendings
+outgoing_file sendings = head_octets outgoing_magic ++ sendings_octets sendings
 
 -- The frames don't decrease, and the first is no earlier than the last one before.
 abbrev pub AreInFrameOrder : ℕ → List Sending → Type 0

@@ -4,7 +4,7 @@ use Rattle.std.specs.List.{flat_map}
 use Rattle.byteorder.specs.Endian.{big_bytes}
 use Rattle.dmr_record.specs.declared.fault.RecordFault.{RecordFault}
 use Rattle.dmr_record.specs.declared.fault.RecordFault.TheVariants.{CutRecord, BadTag, FrameOrder, TooLong, Read}
-use Rattle.dmr_record.specs.declared.head.TheConstants.{RECEIVED_MAGIC}
+use Rattle.dmr_record.specs.Head.{received_magic}
 use Rattle.dmr_record.specs.declared.received.Received.{Received}
 use Rattle.dmr_record.specs.declared.received.ReceivedKind.{ReceivedKind}
 use Rattle.dmr_record.specs.declared.received.ReceivedKind.TheVariants.{Datagram, ShortData, Status}
@@ -45,7 +45,7 @@ receipts_octets receipts = flat_map receipt_octets receipts
 
 -- the file of these records
 abbrev pub received_file : List Receipt → List ℕ
-received_file receipts = head_octets RECEIVED_MAGIC ++ flat_map receipt_octets receipts
+received_file receipts = head_octets received_magic ++ flat_map receipt_octets receipts
 
 -- the most records that a received file has: a status and a packet in each slot of the longest downlink file
 abbrev pub most_receipts : ℕ

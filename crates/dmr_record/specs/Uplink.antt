@@ -1,7 +1,7 @@
 -- The uplink file: what its octets spell, and what faults they show.
 use Rattle.std.specs.Prelude.{◌≡◌, ◌≢◌, ℕ, ◌%◌, ◌<◌, ◌≤◌, List, [], ◌∷◌, ◌++◌, Option, Some, None, length}
 use Rattle.std.specs.List.{AllByRecursion, flat_map}
-use Rattle.dmr_record.specs.declared.head.TheConstants.{UPLINK_MAGIC}
+use Rattle.dmr_record.specs.Head.{uplink_magic}
 use Rattle.dmr_record.specs.declared.fault.RecordFault.{RecordFault}
 use Rattle.dmr_record.specs.declared.fault.RecordFault.TheVariants.{CutRecord, BadTag, HalfFrame, TooLong, Read}
 use Rattle.dmr_record.specs.Head.{head_octets}
@@ -47,7 +47,7 @@ frames_octets frames = flat_map frame_octets frames
 
 -- the file of these frames
 abbrev pub uplink_file : List UplinkSlots → List ℕ
-uplink_file frames = head_octets UPLINK_MAGIC ++ frames_octets frames
+uplink_file frames = head_octets uplink_magic ++ frames_octets frames
 
 -- less than a whole slot: nothing, or 01 and fewer octets than a burst has
 abbrev pub IsPartOfSlot : List ℕ → Type 0

@@ -6,6 +6,7 @@ ghost use Rattle.std.specs.Io.KnownBytes.{Consumes, IsAtEnd};
 ghost use Rattle.dmr_record.specs.Faults.{is_of_end, is_device_fault};
 ghost use Rattle.dmr_record.specs.Outgoing.{outgoing_field_octets, mode_of, IsSlotAndMode, Keeps};
 ghost use Rattle.dmr_record.specs.Outgoing.{IsSending, emptied, sending_of, sending_octets, ShowsOutgoingFault};
+ghost use Rattle.dmr_record.specs.Limits.{record_limit};
 
 use crate::device::Source;
 use crate::fault::RecordFault;
@@ -144,7 +145,7 @@ pub fn read_outgoing<S: Source>(
 ) -> Result<Option<Outgoing>, RecordFault>
     requires well { S.has_failed source.old ≡ false }
     // A record is what the octets taken spell.
-    ensures sending { IfOk result (λ found. IfSome found (λ o. (before < RECORD_LIMIT) × (last ≤ o.frame)
+    ensures sending { IfOk result (λ found. IfSome found (λ o. (before < record_limit) × (last ≤ o.frame)
         × ((datagram : List ℕ) × Keeps o datagram × IsSending (sending_of o datagram)
         × Consumes (S.left source.old) (S.left source.new) (sending_octets (sending_of o datagram))))) }
     // There is none only at the end.
@@ -153,7 +154,7 @@ pub fn read_outgoing<S: Source>(
     ensures well { OnOk result (S.has_failed source.new ≡ false) }
     // A fault is shown by the octets taken, all of this record.
     ensures fault { IfErr result (λ e. (taken : List ℕ) × Consumes (S.left source.old) (S.left source.new) taken
-        × ShowsOutgoingFault RECORD_LIMIT before last e taken) }
+        × ShowsOutgoingFault record_limit before last e taken) }
     ensures cut { IfErr result (λ e. is_of_end e ≡ true → IsAtEnd (S.left source.new)) }
     // `Read` is told exactly where the device failed.
     ensures device { IfErr result (λ e. S.has_failed source.new ≡ is_device_fault e) }
@@ -178,7 +179,7 @@ pub fn read_outgoing_into<S: Source>(
 ) -> Result<bool, RecordFault>
     requires well { S.has_failed source.old ≡ false }
     // A record is what the octets taken spell.
-    ensures sending { IfOk result (λ found. found ≡ true → (before < RECORD_LIMIT) × (last ≤ outgoing.new.frame)
+    ensures sending { IfOk result (λ found. found ≡ true → (before < record_limit) × (last ≤ outgoing.new.frame)
         × ((datagram : List ℕ) × Keeps outgoing.new datagram × IsSending (sending_of outgoing.new datagram)
         × Consumes (S.left source.old) (S.left source.new) (sending_octets (sending_of outgoing.new datagram)))) }
     // There is none only at the end.
@@ -189,7 +190,7 @@ pub fn read_outgoing_into<S: Source>(
     ensures well { OnOk result (S.has_failed source.new ≡ false) }
     // A fault is shown by the octets taken, all of this record.
     ensures fault { IfErr result (λ e. (taken : List ℕ) × Consumes (S.left source.old) (S.left source.new) taken
-        × ShowsOutgoingFault RECORD_LIMIT before last e taken) }
+        × ShowsOutgoingFault record_limit before last e taken) }
     ensures faulty { OnErr result (outgoing.new ≡ emptied outgoing.old) }
     ensures cut { IfErr result (λ e. is_of_end e ≡ true → IsAtEnd (S.left source.new)) }
     // `Read` is told exactly where the device failed.

@@ -6,6 +6,7 @@ ghost use Rattle.dmr_record.specs.Faults.{is_of_end, is_device_fault};
 ghost use Rattle.dmr_record.specs.Uplink.{IsSilenceOrBurst, IsFrame, ShowsSlotFault, ShowsUplinkFault, slot_tag, slot_body};
 ghost use Rattle.dmr_record.specs.Uplink.{frame_octets};
 ghost use Rattle.dmr_record.specs.Uplink.{ShowsUplinkSlotFault, most_uplink_slots, slot_octets};
+ghost use Rattle.dmr_record.specs.Limits.{frame_limit};
 
 use crate::device::Source;
 use crate::fault::RecordFault;
@@ -55,7 +56,7 @@ pub fn read_frame<S: Source>(
 ) -> Result<Option<[Option<[u8; 33]>; 2]>, RecordFault>
     requires well { S.has_failed source.old ≡ false }
     // A frame is what the octets taken spell.
-    ensures frame { IfOk result (λ found. IfSome found (λ frame. (before < FRAME_LIMIT) × IsFrame frame
+    ensures frame { IfOk result (λ found. IfSome found (λ frame. (before < frame_limit) × IsFrame frame
         × Consumes (S.left source.old) (S.left source.new) (frame_octets frame))) }
     // There is none only at the end.
     ensures end { IfOk result (λ found. IfNone found (Consumes (S.left source.old) (S.left source.new) []
@@ -63,7 +64,7 @@ pub fn read_frame<S: Source>(
     ensures well { OnOk result (S.has_failed source.new ≡ false) }
     // A fault is shown by the octets taken, all of this frame.
     ensures fault { IfErr result (λ e. (taken : List ℕ) × Consumes (S.left source.old) (S.left source.new) taken
-        × ShowsUplinkFault FRAME_LIMIT before e taken) }
+        × ShowsUplinkFault frame_limit before e taken) }
     ensures cut { IfErr result (λ e. is_of_end e ≡ true → IsAtEnd (S.left source.new)) }
     // `Read` is told exactly where the device failed.
     ensures device { IfErr result (λ e. S.has_failed source.new ≡ is_device_fault e) }

@@ -7,7 +7,7 @@ use Rattle.std.specs.List.{flat_map}
 use Rattle.std.specs.Io.KnownBytes.{Consumes, Appends, IsAtEnd}
 use Rattle.std.proofs.KnownBytes.{Appends-trans, Consumes-nil, Consumes-trans}
 use Rattle.dmr_gateway.specs.declared.received.Received.{Received}
-use Rattle.dmr_record.specs.declared.head.TheConstants.{UPLINK_MAGIC, DOWNLINK_MAGIC, OUTGOING_MAGIC, RECEIVED_MAGIC}
+use Rattle.dmr_record.specs.Head.{uplink_magic, downlink_magic, outgoing_magic, received_magic}
 use Rattle.dmr_record.specs.declared.outgoing.Outgoing.{Outgoing}
 use Rattle.dmr_record.specs.Downlink.{downlink_octets}
 use Rattle.dmr_record.specs.Head.{head_octets}
@@ -67,9 +67,9 @@ records_push : (r : List (List (Option (List ℕ × List ℕ)))) (now : List (Op
 records_push r now = flat_map-append (λ frame. frame) r (now ∷ []) ∙ ap (λ l. records_of r ++ l) (append-nil now)
 
 module _ (s : Settings) (output : Stream) (a z : Files) (b p h t : Option (List ℕ))
-    (uplink : Consumes a.uplink b (head_octets UPLINK_MAGIC)) (head : Consumes a.outgoing p (head_octets OUTGOING_MAGIC))
-    (downlink : Appends a.downlink h (head_octets DOWNLINK_MAGIC))
-    (received : Appends a.received t (head_octets RECEIVED_MAGIC))
+    (uplink : Consumes a.uplink b (head_octets uplink_magic)) (head : Consumes a.outgoing p (head_octets outgoing_magic))
+    (downlink : Appends a.downlink h (head_octets downlink_magic))
+    (received : Appends a.received t (head_octets received_magic))
     (frames given ys : List (List (Option (List ℕ)))) (frame : List (Option (List ℕ)))
     (split : handed_frames frames ≡ given ++ frame ∷ ys)
     (u : Tears output (moment (fresh s) unread p h t) given frame z.outgoing z.downlink z.received) where
@@ -164,9 +164,9 @@ module _ (s : Settings) (output : Stream) (a z : Files) (b p h t : Option (List 
         (receipts_from 0 u.sends.received) (records_of u.sends.records)) first_frames
         (by_rules s given u.sends.offers u.sends.records u.sends.received u.between.station u.schedule [] a.outgoing z.outgoing ss
         front u.sends.exchanged);
-    written = Appends-trans a.downlink h u.between.downlink (head_octets DOWNLINK_MAGIC)
+    written = Appends-trans a.downlink h u.between.downlink (head_octets downlink_magic)
         (downlink_octets (records_of u.sends.records)) downlink u.sends.written;
-    records = Appends-trans a.received t u.between.received (head_octets RECEIVED_MAGIC)
+    records = Appends-trans a.received t u.between.received (head_octets received_magic)
         (receipts_octets 0 u.sends.received) received u.sends.receipts;
   }
 
@@ -177,7 +177,7 @@ module _ (s : Settings) (output : Stream) (a z : Files) (b p h t : Option (List 
   fails reads step = record {
     frames = frames;
     each = reads.each;
-    uplink = Consumes-trans a.uplink b z.uplink (head_octets UPLINK_MAGIC) (frames_octets frames) uplink
+    uplink = Consumes-trans a.uplink b z.uplink (head_octets uplink_magic) (frames_octets frames) uplink
         (subst (Consumes b z.uplink) (append-nil (frames_octets frames)) reads.read);
     frame = length given;
     step = step;
@@ -196,9 +196,9 @@ module _ (s : Settings) (output : Stream) (a z : Files) (b p h t : Option (List 
   }
 
 module _ (s : Settings) (m : State) (new : m ≡ fresh s) (output : Stream) (a z : Files) (b p h t : Option (List ℕ))
-    (uplink : Consumes a.uplink b (head_octets UPLINK_MAGIC)) (head : Consumes a.outgoing p (head_octets OUTGOING_MAGIC))
-    (downlink : Appends a.downlink h (head_octets DOWNLINK_MAGIC))
-    (received : Appends a.received t (head_octets RECEIVED_MAGIC)) where
+    (uplink : Consumes a.uplink b (head_octets uplink_magic)) (head : Consumes a.outgoing p (head_octets outgoing_magic))
+    (downlink : Appends a.downlink h (head_octets downlink_magic))
+    (received : Appends a.received t (head_octets received_magic)) where
   -- while the uplink lasts
   pub fails_with_uplink : TearsWithUplink output (moment m unread p h t) b z.uplink z.outgoing z.downlink z.received
       → FailsInFrame output s a z

@@ -6,7 +6,7 @@ use Rattle.std.specs.List.{AllByRecursion}
 use Rattle.std.proofs.KnownBytes.{Consumes-trans}
 use Rattle.std.proofs.lemmas.Bool.{cases_lt}
 use Rattle.std.proofs.lemmas.List.Elements.{filter-append}
-use Rattle.dmr_record.specs.declared.head.TheConstants.{OUTGOING_MAGIC}
+use Rattle.dmr_record.specs.Head.{outgoing_magic}
 use Rattle.dmr_record.specs.Head.{head_octets}
 use Rattle.dmr_gateway.specs.Gateway.{IsSlot}
 use Rattle.dmr_station.proofs.Exchanges.{offer_count}
@@ -252,7 +252,7 @@ pub record ReadInAll (offers : List (List Outgoing)) (r : ReadingProgress) (part
 
 pub read_in_all : (offers : List (List Outgoing)) (q r : ReadingProgress) (more : List Outgoing) (part : List ℕ)
     (o p b d : Option (List ℕ))
-    → Consumes o p (head_octets OUTGOING_MAGIC) → (u : AreOfferedInTurn 0 offers unread q p b) → (g : Gives q r more part b d)
+    → Consumes o p (head_octets outgoing_magic) → (u : AreOfferedInTurn 0 offers unread q p b) → (g : Gives q r more part b d)
     → ReadInAll offers r part o d (read_in_turn 0 offers unread q p b u ++ g.sendings)
 unfolding Gives-trans
 read_in_all offers q r more part o p b d head u g =
@@ -270,7 +270,7 @@ read_in_all offers q r more part o p b d head u g =
         each = each;
         order = order;
         few = let few = whole.few (omega arith) in omega (arith, few, counted, long);
-        read = Consumes-trans o p d (head_octets OUTGOING_MAGIC) (sendings_octets ss ++ part) head read;
+        read = Consumes-trans o p d (head_octets outgoing_magic) (sendings_octets ss ++ part) head read;
       };
       pairs = in_turn 0 offers unread q p b u [] g.sendings tt (λ end. (g.ended end).0) order;
       slots = slots_in_turn 0 (length offers) ss each;

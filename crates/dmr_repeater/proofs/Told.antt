@@ -5,9 +5,9 @@ use Rattle.std.proofs.lemmas.List.{length-append, append_cancel_left}
 use Rattle.std.specs.List.{AllByRecursion}
 use Rattle.std.specs.Io.KnownBytes.{Consumes, IsAtEnd}
 use Rattle.dmr_record.specs.declared.fault.RecordFault.{RecordFault}
-use Rattle.dmr_record.specs.declared.head.TheConstants.{OUTGOING_MAGIC}
+use Rattle.dmr_record.specs.Head.{outgoing_magic}
 use Rattle.dmr_record.specs.declared.outgoing.Outgoing.{Outgoing}
-use Rattle.dmr_record.specs.declared.outgoing.TheConstants.{RECORD_LIMIT}
+use Rattle.dmr_record.specs.Limits.{record_limit}
 use Rattle.dmr_record.specs.Faults.{is_of_end, is_device_fault}
 use Rattle.dmr_record.specs.Head.{head_octets}
 use Rattle.dmr_record.specs.Outgoing.{Sending, IsSending, AreInFrameOrder}
@@ -27,7 +27,7 @@ order-right last [] ys p = p
 order-right last (x ∷ xs) ys p = order-right x.frame xs ys p.1
 
 pub no_fault_stops : (e : RecordFault) (p r : ReadingProgress) (given : List Outgoing) (part : List ℕ) (others : List Sending)
-    (a c : Option (List ℕ)) → Gives p r given part a c → ShowsOutgoingFault RECORD_LIMIT r.records r.last e part
+    (a c : Option (List ℕ)) → Gives p r given part a c → ShowsOutgoingFault record_limit r.records r.last e part
     → (is_of_end e ≡ true → IsAtEnd c)
     → HasRecords p others a → is_device_fault e ≡ true
 no_fault_stops e p r given part others a c u shown cut has =
@@ -35,22 +35,22 @@ no_fault_stops e p r given part others a c u shown cut has =
     let (rest, split, at_end) = consumed c (sendings_octets others) (sendings_octets xs ++ part) (rw has.has at u.read) in
     let (more, whole, left) = front_read IsSending sending_octets sending_code xs others (part ++ rest) u.each has.each
     (sym (append_assoc (sendings_octets xs) part rest) ∙ sym split) in
-    let shown_there = subst (λ (n : ℕ). ShowsOutgoingFault RECORD_LIMIT n r.last e part) u.count shown in
-    let shown_at = subst (λ (n : ℕ). ShowsOutgoingFault RECORD_LIMIT (p.records + length xs) n e part) u.last shown_there in
+    let shown_there = subst (λ (n : ℕ). ShowsOutgoingFault record_limit n r.last e part) u.count shown in
+    let shown_at = subst (λ (n : ℕ). ShowsOutgoingFault record_limit (p.records + length xs) n e part) u.last shown_there in
     let counts = ap length whole in
     let few = has.few in
-    no_outgoing_fault RECORD_LIMIT (p.records + length xs) (last_frame p.last xs) e part rest more
+    no_outgoing_fault record_limit (p.records + length xs) (last_frame p.last xs) e part rest more
     (All-right IsSending xs more (subst (AllByRecursion IsSending) whole has.each))
     (order-right p.last xs more (subst (AreInFrameOrder p.last) whole has.order))
     (omega (arith, length-append xs more, counts)) shown_at (λ end. at_end (cut end)) left
 
 pub has_records : (others : List Sending) (a b : Option (List ℕ)) → HasOutgoing others a
-    → Consumes a b (head_octets OUTGOING_MAGIC) → HasRecords unread others b
+    → Consumes a b (head_octets outgoing_magic) → HasRecords unread others b
 has_records others a b has read = record {
   each = has.each;
   order = has.order;
   few = let few = has.few in omega arith;
-  has = left_behind OUTGOING_MAGIC (sendings_octets others) a b has.has read;
+  has = left_behind outgoing_magic (sendings_octets others) a b has.has read;
 }
 
 -- what a source that tells its octets has left of them
@@ -82,7 +82,7 @@ pub first_records : (l0 l1 : Option (List ℕ)) (ss others : List Sending) (part
 first_records l0 l1 ss others part u has =
     let (rest, split, at_end) = consumed l1 (outgoing_file others) (outgoing_file ss ++ part) (rw has.has at u.read) in
     let behind : sendings_octets others ≡ (sendings_octets ss ++ part) ++ rest =
-    append_cancel_left (head_octets OUTGOING_MAGIC) (sendings_octets others) ((sendings_octets ss ++ part) ++ rest) split in
+    append_cancel_left (head_octets outgoing_magic) (sendings_octets others) ((sendings_octets ss ++ part) ++ rest) split in
     let (more, whole, left) = front_read IsSending sending_octets sending_code ss others (part ++ rest) u.each has.each
     (sym (append_assoc (sendings_octets ss) part rest) ∙ sym behind) in
     let each : AllByRecursion IsSending more = All-right IsSending ss more (subst (AllByRecursion IsSending) whole has.each) in (

@@ -3,6 +3,7 @@ ghost use Rattle.std.specs.Prelude.{◌≡◌, false, true, OnOk, OnErr};
 ghost use Rattle.std.specs.Io.KnownBytes.{Appends};
 ghost use Rattle.dmr_record.specs.Devices.{Tears};
 ghost use Rattle.dmr_report.specs.Line.{error_octets, line_octets};
+ghost use Rattle.dmr_report.specs.Status.{failure};
 
 use crate::status::FAILURE;
 use arrayvec::ArrayString;
@@ -45,7 +46,7 @@ fn put_error<K: Sink>(sink: &mut K, message: &str) -> Result<(), RecordFault>
 /// The status, where what was to be printed was.
 fn status_after(printed: Result<(), RecordFault>, status: u8) -> u8
     ensures ok { OnOk printed (result ≡ status) }
-    ensures err { OnErr printed (result ≡ FAILURE) }
+    ensures err { OnErr printed (result ≡ failure) }
 {
     match printed {
         Ok(()) => status,
@@ -58,7 +59,7 @@ pub(crate) fn print_line<K: Sink>(sink: &mut K, text: &str, status: u8) -> u8
     requires well { K.has_failed sink.old ≡ false }
     ensures octets { K.has_failed sink.new ≡ false → Appends (K.held sink.old) (K.held sink.new) (line_octets text.now) }
     ensures status { K.has_failed sink.new ≡ false → result ≡ status }
-    ensures failed { K.has_failed sink.new ≡ true → result ≡ FAILURE }
+    ensures failed { K.has_failed sink.new ≡ true → result ≡ failure }
 {
     status_after(put_line(sink, text), status)
 }
@@ -68,7 +69,7 @@ pub fn print_error<K: Sink>(sink: &mut K, message: &str, status: u8) -> u8
     requires well { K.has_failed sink.old ≡ false }
     ensures octets { K.has_failed sink.new ≡ false → Appends (K.held sink.old) (K.held sink.new) (error_octets message.now) }
     ensures status { K.has_failed sink.new ≡ false → result ≡ status }
-    ensures failed { K.has_failed sink.new ≡ true → result ≡ FAILURE }
+    ensures failed { K.has_failed sink.new ≡ true → result ≡ failure }
 {
     status_after(put_error(sink, message), status)
 }
@@ -78,7 +79,7 @@ pub fn print_text<K: Sink>(sink: &mut K, text: &str, status: u8) -> u8
     requires well { K.has_failed sink.old ≡ false }
     ensures octets { K.has_failed sink.new ≡ false → Appends (K.held sink.old) (K.held sink.new) text.now }
     ensures status { K.has_failed sink.new ≡ false → result ≡ status }
-    ensures failed { K.has_failed sink.new ≡ true → result ≡ FAILURE }
+    ensures failed { K.has_failed sink.new ≡ true → result ≡ failure }
 {
     status_after(put(sink, text.as_bytes()), status)
 }

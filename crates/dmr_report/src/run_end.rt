@@ -2,6 +2,7 @@
 ghost use Rattle.std.specs.Prelude.{◌≡◌, false, true};
 ghost use Rattle.dmr_report.specs.Line.{PutsError, PutsLine};
 ghost use Rattle.dmr_report.specs.RunEnd.{IsDone, status_of};
+ghost use Rattle.dmr_report.specs.Status.{failure};
 
 use crate::line::{print_error, print_line, text_of};
 use crate::status::{FAILURE, SUCCESS, USAGE};
@@ -66,8 +67,8 @@ pub fn print_end<K: Sink, E: Sink>(end: &RunEnd, out: &mut K, err: &mut E) -> u8
     ensures error_alone { (IsDone end.now → ⊥) → out.new ≡ out.old }
 
     ensures status { K.has_failed out.new ≡ false → E.has_failed err.new ≡ false → result ≡ status_of end.now }
-    ensures out_failed { K.has_failed out.new ≡ true → result ≡ FAILURE }
-    ensures err_failed { E.has_failed err.new ≡ true → result ≡ FAILURE }
+    ensures out_failed { K.has_failed out.new ≡ true → result ≡ failure }
+    ensures err_failed { E.has_failed err.new ≡ true → result ≡ failure }
 {
     let text = text_of(end);
     match end {

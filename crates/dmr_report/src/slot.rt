@@ -4,7 +4,7 @@ ghost use Rattle.std.specs.Io.KnownBytes.{Appends};
 ghost use Rattle.hex.specs.Hex.{decode_of};
 ghost use Rattle.dmr_report.specs.Line.{error_octets, PutsLine};
 ghost use Rattle.dmr_report.specs.Digits.{IsBurstText};
-ghost use Rattle.dmr_report.specs.declared.status.TheConstants.{FAILURE, SUCCESS, USAGE};
+ghost use Rattle.dmr_report.specs.Status.{failure, success, usage};
 
 use crate::line::{print_error, print_line, text_of};
 use crate::reading::read_burst;
@@ -31,13 +31,13 @@ pub fn print_slot<K: Sink, E: Sink>(text: &str, out: &mut K, err: &mut E) -> u8
         → Appends (E.held err.old) (E.held err.new) (error_octets (codes "a burst is 66 hexadecimal digits")) }
     ensures error_alone { (IsBurstText text.now → ⊥) → out.new ≡ out.old }
     ensures alone { (out.new ≡ out.old) ⊎ (err.new ≡ err.old) }
-    ensures success { result ≡ SUCCESS → err.new ≡ err.old }
-    ensures usage { result ≡ USAGE → out.new ≡ out.old }
+    ensures success { result ≡ success → err.new ≡ err.old }
+    ensures usage { result ≡ usage → out.new ≡ out.old }
 
-    ensures burst { IsBurstText text.now → K.has_failed out.new ≡ false → result ≡ SUCCESS }
-    ensures no_burst { (IsBurstText text.now → ⊥) → E.has_failed err.new ≡ false → result ≡ USAGE }
-    ensures out_failed { K.has_failed out.new ≡ true → result ≡ FAILURE }
-    ensures err_failed { E.has_failed err.new ≡ true → result ≡ FAILURE }
+    ensures burst { IsBurstText text.now → K.has_failed out.new ≡ false → result ≡ success }
+    ensures no_burst { (IsBurstText text.now → ⊥) → E.has_failed err.new ≡ false → result ≡ usage }
+    ensures out_failed { K.has_failed out.new ≡ true → result ≡ failure }
+    ensures err_failed { E.has_failed err.new ≡ true → result ≡ failure }
 {
     match burst_of(text) {
         Some(burst) => {

@@ -15,7 +15,7 @@ use Rattle.dmr_record.specs.Received.{Receipt}
 use Rattle.dmr_record.specs.declared.head.FileFormat.{FileFormat}
 use Rattle.dmr_record.specs.declared.head.FileFormat.TheVariants.{Uplink, Downlink, Outgoing, Received}
 use Rattle.dmr_report.specs.Line.{PutsError}
-use Rattle.dmr_report.specs.declared.status.TheConstants.{FAILURE}
+use Rattle.dmr_report.specs.Status.{failure}
 use Rattle.dmr_show.specs.declared.file_listing.FileSummary.{FileSummary}
 use Rattle.dmr_show.specs.declared.file_listing.FileSummary.TheVariants.{OfRecording, OfList}
 
@@ -87,7 +87,7 @@ IsShownWhole left_old left_new = (summary : FileSummary) × IsWhole summary left
 
 -- A fault is told: behind what is listed, a line of error goes to the other sink.
 pub record TellsFault (status : ℕ) (out_failed err_failed : Bool) (held_old held_new : Option (List ℕ)) : Type 0 where
-  pub ends : status ≡ FAILURE
+  pub ends : status ≡ failure
   pub listed : out_failed ≡ false
   pub line : err_failed ≡ false → PutsError held_old held_new
 

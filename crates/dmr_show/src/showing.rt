@@ -2,7 +2,7 @@
 ghost use Rattle.std.specs.Prelude.{◌≡◌, ◌≤◌, ◌⊎◌, false, true, length, IfOk, IfErr, OnOk};
 ghost use Rattle.dmr_listing.specs.Endings.{IfFile, IfNotWritten};
 ghost use Rattle.dmr_report.specs.Line.{PutsError};
-ghost use Rattle.dmr_report.specs.declared.status.TheConstants.{FAILURE, SUCCESS};
+ghost use Rattle.dmr_report.specs.Status.{failure, success};
 ghost use Rattle.dmr_show.specs.Showing.{BeginsWithStrip, IsShownWhole, TellsFault};
 
 use crate::file_listing::{Shown, show_file};
@@ -99,19 +99,19 @@ pub fn show<S: Source, K: Sink, E: Sink>(
     requires out { K.has_failed out.old ≡ false }
     requires err { E.has_failed err.old ≡ false }
     // A file of one of the formats was read whole, head and all, and no error is told.
-    ensures whole { result ≡ SUCCESS → IsShownWhole (S.left source.old) (S.left source.new) }
-    ensures success { result ≡ SUCCESS → err.new ≡ err.old }
+    ensures whole { result ≡ success → IsShownWhole (S.left source.old) (S.left source.new) }
+    ensures success { result ≡ success → err.new ≡ err.old }
     // A strip is of a recording.
-    ensures strip { result ≡ SUCCESS → form ≡ Form.Strip → BeginsWithStrip true (S.left source.old) }
+    ensures strip { result ≡ success → form ≡ Form.Strip → BeginsWithStrip true (S.left source.old) }
     // Or its fault is told, unless what is shown can't be printed.
-    ensures fault { result ≡ FAILURE → K.has_failed out.new ≡ false
+    ensures fault { result ≡ failure → K.has_failed out.new ≡ false
         → TellsFault result (K.has_failed out.new) (E.has_failed err.new) (E.held err.old) (E.held err.new) }
     ensures alone { (err.new ≡ err.old)
         ⊎ TellsFault result (K.has_failed out.new) (E.has_failed err.new) (E.held err.old) (E.held err.new) }
 
     ensures status { result ≤ 1 }
-    ensures out_failed { K.has_failed out.new ≡ true → result ≡ FAILURE }
-    ensures err_failed { E.has_failed err.new ≡ true → result ≡ FAILURE }
+    ensures out_failed { K.has_failed out.new ≡ true → result ≡ failure }
+    ensures err_failed { E.has_failed err.new ≡ true → result ≡ failure }
 {
     let Ok((mut room, mut text)) = room_of(alloc) else {
         print_want_of_memory(err);

@@ -1,7 +1,7 @@
 -- The records so far were listed, and the next one begins at this octet.
 use Rattle.std.proofs.Common.{◌≡◌, ◌+◌, ◌*◌, ◌-◌, ◌≤◌, List, [], length, false}
 use Rattle.dmr_record.specs.Outgoing.{Sending, sending_octets}
-use Rattle.dmr_record.specs.declared.outgoing.TheConstants.{RECORD_LIMIT}
+use Rattle.dmr_record.specs.Limits.{record_limit}
 use Rattle.dmr_listing.specs.Entries.{octet_behind}
 use Rattle.dmr_listing.specs.OutgoingListings.{IsListed, frame_of_last}
 use Rattle.dmr_listing.proofs.outgoing_listing.list_outgoing.Given as goal
@@ -11,7 +11,7 @@ invariant-loop-record g l = record {
   source : g.S.Source.has_failed l.source ≡ false;
   lines : g.L.OutgoingLines.has_failed l.lines ≡ false;
   kept : g.L.OutgoingLines.kept l.lines ≡ g.L.OutgoingLines.kept l.initial.lines;
-  few : l.count ≤ RECORD_LIMIT;
+  few : l.count ≤ record_limit;
   room : l.octet ≤ 8 + 65544 * l.count;
   so_far : (sendings : List Sending) × (length sendings ≡ l.count) × (frame_of_last 0 sendings ≡ l.last)
       × (l.octet ≡ octet_behind sending_octets sendings)
@@ -20,4 +20,4 @@ invariant-loop-record g l = record {
 }
 
 abbrev pub decreases-loop-record : goal.decreases-loop-record
-decreases-loop-record g l = RECORD_LIMIT - l.count
+decreases-loop-record g l = record_limit - l.count

@@ -1,7 +1,7 @@
 -- What is offered so far was due.
 use Rattle.std.proofs.Common.{◌≡◌, ◌+◌, ◌-◌, length, false, true}
 use Rattle.std.specs.Io.KnownBytes.{IsAtEnd}
-use Rattle.dmr_record.specs.declared.outgoing.TheConstants.{RECORD_LIMIT}
+use Rattle.dmr_record.specs.Limits.{record_limit}
 use Rattle.dmr_repeater.specs.Schedule.{OffersDue, waiting}
 use Rattle.dmr_repeater.proofs.schedule.Schedule.offer_each.Given as goal
 
@@ -16,4 +16,4 @@ invariant-loop-self g l = record {
 }
 
 abbrev pub decreases-loop-self : goal.decreases-loop-self
-decreases-loop-self g l = RECORD_LIMIT + length (waiting l.self) - l.self.records
+decreases-loop-self g l = record_limit + length (waiting l.self) - l.self.records
