@@ -14,22 +14,22 @@ use Rattle.dmr_hearing.specs.Damage.{IsDamagedBurst, IsRecordedAs}
 use Rattle.dmr_hearing.specs.DataTypes.{payload_of}
 use Rattle.dmr_hearing.specs.Recorded.{IsSilenceOr33Octets, IsHearing}
 use Rattle.dmr_hearing.specs.Slots.{SentSlot, Silent, Data, VoiceSync, Voice, ForeignVoice, ForeignData, CutOff, silence, IsHeardAs}
-use Rattle.dmr_hearing.specs.declared.heard.Datum.{Datum}
+use Rattle.dmr_hearing.specs.declared.heard.DataBurst.{DataBurst}
 use Rattle.dmr_hearing.specs.declared.heard.Heard.{Heard}
 use Rattle.dmr_hearing.proofs.OneField.{one_sync, one_slot_type, one_emb, one_payload}
 use Rattle.dmr_link.specs.declared.full_lc.FullLc.{FullLc}
 
 -- ---- what the centre shows
--- A datum, a voice sync, or neither.
+-- A data burst, a voice sync, or neither.
 data Centre : Type 0 where
   DataCentre : ℕ → List Bool → Option FullLc → Centre
   VoiceCentre : Centre
   Neither : Centre
 
-datum_at : Centre → Option Datum
-datum_at (DataCentre kind information lc) = Some (record { kind = kind; information = information; link_control = lc })
-datum_at VoiceCentre = None
-datum_at Neither = None
+data_burst_at : Centre → Option DataBurst
+data_burst_at (DataCentre kind information lc) = Some (record { kind = kind; information = information; link_control = lc })
+data_burst_at VoiceCentre = None
+data_burst_at Neither = None
 
 voice_at : Centre → Bool
 voice_at (DataCentre kind information lc) = false
@@ -43,18 +43,19 @@ Shows colour bits (DataCentre kind information lc) =
 Shows colour bits VoiceCentre = HasSync (record { side = Ms; voice = true }) bits
 Shows colour bits Neither = HasNoMobileSync bits ⊎ IsDamagedForeignData colour bits
 
-datum_by : (k k' : ℕ) (i i' : List Bool) (l l' : Option FullLc) → k ≡ k' → i ≡ i' → l ≡ l' → DataCentre k i l ≡ DataCentre k' i' l'
-datum_by k k' i i' l l' e f g = cc
+data_burst_by : (k k' : ℕ) (i i' : List Bool) (l l' : Option FullLc) → k ≡ k' → i ≡ i' → l ≡ l'
+    → DataCentre k i l ≡ DataCentre k' i' l'
+data_burst_by k k' i i' l l' e f g = cc
 
-one_datum : (colour : ℕ) (bits : List Bool) (k k' : ℕ) (i i' : List Bool) (l l' : Option FullLc) → length bits ≡ 264
+one_data_burst : (colour : ℕ) (bits : List Bool) (k k' : ℕ) (i i' : List Bool) (l l' : Option FullLc) → length bits ≡ 264
     → Sends (payload_of k) i l → IsDamagedData colour k i bits → Sends (payload_of k') i' l' → IsDamagedData colour k' i' bits
     → DataCentre k i l ≡ DataCentre k' i' l'
-one_datum colour bits k k' i i' l l' long sends damaged sends' damaged' =
+one_data_burst colour bits k k' i i' l l' long sends damaged sends' damaged' =
     let kind : k ≡ k' = ap (λ (s : SlotType). s.kind) (one_slot_type bits _ _ long damaged.slot_type damaged'.slot_type) in
     let payload = one_payload (payload_of k') (information_field bits) i i' l l'
     (subst (λ n. Sends (payload_of n) i l) kind sends) sends'
     (subst (λ n. IsDamagedPayload (payload_of n) i (information_field bits)) kind damaged.payload) damaged'.payload in
-    datum_by k k' i i' l l' kind payload.0 payload.1
+    data_burst_by k k' i i' l l' kind payload.0 payload.1
 
 not_voice : (bits : List Bool) → length bits ≡ 264 → HasSync (record { side = Ms; voice = false }) bits
     → HasSync (record { side = Ms; voice = true }) bits → ⊥
@@ -74,7 +75,8 @@ voice_or_neither colour bits long p (inr foreign) = not_voice bits long foreign.
 -- It shows one of them.
 one_centre : (colour : ℕ) (bits : List Bool) (a b : Centre) → length bits ≡ 264 → Shows colour bits a → Shows colour bits b → a ≡ b
 unfolding Shows
-one_centre colour bits (DataCentre k i l) (DataCentre k' i' l') long p q = one_datum colour bits k k' i i' l l' long p.0 p.1 q.0 q.1
+one_centre colour bits (DataCentre k i l) (DataCentre k' i' l') long p q = one_data_burst colour bits k k' i i' l l' long p.0 p.1
+    q.0 q.1
 one_centre colour bits (DataCentre k i l) VoiceCentre long p q = absurd (not_voice bits long p.1.sync q)
 one_centre colour bits (DataCentre k i l) Neither long p q = absurd (data_or_neither colour bits k i long p.1 q)
 one_centre colour bits VoiceCentre (DataCentre k i l) long p q = absurd (not_voice bits long q.1.sync p)
@@ -140,9 +142,9 @@ both_given P (Some b) None one p q = (Some b, (λ a e. e), (λ a e. absurd (cc))
 both_given P (Some b) (Some c) one p q = (Some b, (λ a e. e), (λ a e. ap Some (one b c p q) ∙ e))
 
 -- The centre as it is heard.
-heard_datum : Option Centre → Option Datum
-heard_datum None = None
-heard_datum (Some centre) = datum_at centre
+heard_data_burst : Option Centre → Option DataBurst
+heard_data_burst None = None
+heard_data_burst (Some centre) = data_burst_at centre
 
 heard_voice : Option Centre → Bool
 heard_voice None = false
@@ -150,7 +152,7 @@ heard_voice (Some centre) = voice_at centre
 
 heard_with : List Bool → Option Centre → Option Emb → Heard
 heard_with bits centre emb = record {
-  datum = heard_datum centre;
+  data_burst = heard_data_burst centre;
   voice = heard_voice centre;
   emb = emb;
   embedded = number_of (embedded_field bits);
@@ -161,19 +163,19 @@ heard_with bits centre emb = record {
 given_is_heard : (colour : ℕ) (bits : List Bool) (sent : SentSlot) (centre : Option Centre) (emb : Option Emb)
     → IsDamagedBurst colour sent bits → Gives (centre_asked sent) centre → Gives (emb_asked sent) emb
     → IsHeardAs sent (heard_with bits centre emb)
-unfolding centre_asked emb_asked heard_with heard_datum heard_voice datum_at voice_at
+unfolding centre_asked emb_asked heard_with heard_data_burst heard_voice data_burst_at voice_at
 given_is_heard colour bits Silent centre emb damaged f g = absurd damaged
 given_is_heard colour bits (Data kind information lc) centre emb damaged f g =
-    (ap heard_datum (f (DataCentre kind information lc) refl), ap heard_voice (f (DataCentre kind information lc) refl))
+    (ap heard_data_burst (f (DataCentre kind information lc) refl), ap heard_voice (f (DataCentre kind information lc) refl))
 given_is_heard colour bits VoiceSync centre emb damaged f g =
-    (ap heard_datum (f VoiceCentre refl), ap heard_voice (f VoiceCentre refl))
+    (ap heard_data_burst (f VoiceCentre refl), ap heard_voice (f VoiceCentre refl))
 given_is_heard colour bits (Voice e embedded) centre emb damaged f g = (g e refl, damaged.1)
 given_is_heard colour bits (ForeignVoice e) centre emb damaged f g =
-    (ap heard_datum (f Neither refl), ap heard_voice (f Neither refl), g e refl)
+    (ap heard_data_burst (f Neither refl), ap heard_voice (f Neither refl), g e refl)
 given_is_heard colour bits ForeignData centre emb damaged f g =
-    (ap heard_datum (f Neither refl), ap heard_voice (f Neither refl))
+    (ap heard_data_burst (f Neither refl), ap heard_voice (f Neither refl))
 given_is_heard colour bits CutOff centre emb damaged f g =
-    (ap heard_datum (f Neither refl), ap heard_voice (f Neither refl))
+    (ap heard_data_burst (f Neither refl), ap heard_voice (f Neither refl))
 
 -- ---- what is heard
 -- Silence is a recording of silence alone.

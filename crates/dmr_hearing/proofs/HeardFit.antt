@@ -7,11 +7,11 @@ use Rattle.dmr_bits.proofs.Lists.{number_of-lt}
 use Rattle.dmr_burst.specs.SlotType.{HasSlotType}
 use Rattle.dmr_burst.specs.declared.slot_type.SlotType.{SlotType}
 use Rattle.dmr_hearing.specs.DataTypes.{payload_of}
-use Rattle.dmr_hearing.specs.Fit.{IsFitLc, IsFitDatum, IsFitHeard}
-use Rattle.dmr_hearing.specs.Hearing.{Reads, IsDatum, Hears}
+use Rattle.dmr_hearing.specs.Fit.{IsFitLc, IsFitDataBurst, IsFitHeard}
+use Rattle.dmr_hearing.specs.Hearing.{Reads, IsHeardData, Hears}
 use Rattle.dmr_hearing.specs.declared.data_types.Payload.{Payload}
 use Rattle.dmr_hearing.specs.declared.data_types.Payload.TheVariants.{Word, Sealed, LinkControl, Raw, Nothing}
-use Rattle.dmr_hearing.specs.declared.heard.Datum.{Datum}
+use Rattle.dmr_hearing.specs.declared.heard.DataBurst.{DataBurst}
 use Rattle.dmr_hearing.specs.declared.heard.Heard.{Heard}
 use Rattle.dmr_link.specs.declared.full_lc.FullLc.{FullLc}
 
@@ -38,14 +38,15 @@ lc_fit (LinkControl lc_use) received information lc (read, message, is, sealed, 
 lc_fit Raw received information lc (same, plain) = subst IsFitLc (sym plain) tt
 lc_fit Nothing received information lc reads = absurd reads
 
-datum_fit : (colour : ℕ) (bits : List Bool) (datum : Option Datum) → IfSome datum (λ found. IsDatum colour found bits)
-    → IsFitDatum datum
-datum_fit colour bits None within = tt
-datum_fit colour bits (Some datum) within = (
-  kind_fit colour datum.kind bits within.slot_type,
-  lc_fit (payload_of datum.kind) _ datum.information datum.link_control within.reads,
+data_burst_fit : (colour : ℕ) (bits : List Bool) (data_burst : Option DataBurst)
+    → IfSome data_burst (λ found. IsHeardData colour found bits)
+    → IsFitDataBurst data_burst
+data_burst_fit colour bits None within = tt
+data_burst_fit colour bits (Some data_burst) within = (
+  kind_fit colour data_burst.kind bits within.slot_type,
+  lc_fit (payload_of data_burst.kind) _ data_burst.information data_burst.link_control within.reads,
 )
 
 pub heard_fit : (colour : ℕ) (slot : Option (List ℕ)) (heard : Heard) → Hears colour slot heard → IsFitHeard heard
 heard_fit colour None heard silent = subst IsFitHeard (sym silent) tt
-heard_fit colour (Some octets) heard is = datum_fit colour _ heard.datum is.datum_within
+heard_fit colour (Some octets) heard is = data_burst_fit colour _ heard.data_burst is.data_burst_within

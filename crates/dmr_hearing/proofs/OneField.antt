@@ -1,4 +1,4 @@
--- A burst of 264 bits has one sync of a mobile station, one slot type and one EMB, and damaged information is of one datum.
+-- A burst of 264 bits has one sync of a mobile station, one slot type and one EMB, and damaged information is of one data burst.
 use Rattle.std.proofs.Common.{◌≡◌, ◌≢◌, ℕ, ◌+◌, ◌≤◌, ◌<◌, Bool, List, ◌++◌, length, Option, Some, get_or, set, refl, sym, ap}
 use Rattle.std.proofs.Common.{◌∙◌, subst, false, arith, inl, inr, lit<, lit≤}
 use Rattle.std.proofs.lemmas.Bool.{cases_eq, cases_lt}

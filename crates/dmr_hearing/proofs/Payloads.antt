@@ -11,7 +11,7 @@ use Rattle.dmr_hearing.specs.Damage.{HoldsDamaged}
 use Rattle.dmr_hearing.specs.Hearing.{IsEncoded}
 use Rattle.dmr_hearing.specs.Reading.{IsReading}
 use Rattle.dmr_hearing.specs.declared.data_types.Payload.TheVariants.{Word, Sealed, LinkControl}
-use Rattle.dmr_hearing.specs.declared.heard.Datum.{Datum}
+use Rattle.dmr_hearing.specs.declared.heard.DataBurst.{DataBurst}
 use Rattle.dmr_link.specs.Sealed.{IsLc, IsReadLc, IsSealedLc}
 use Rattle.dmr_link.proofs.SealedForms.{same_lc, same_message as same_sealed}
 use Rattle.dmr_link.specs.declared.fault.LcFault.{LcFault}
@@ -25,10 +25,10 @@ same_some a b e = cc
 same_ok : (a b : FullLc) → ◌≡◌ {A = Result FullLc LcFault} (Ok a) (Ok b) → a ≡ b
 same_ok a b e = cc
 
-datum_by : (k k' : ℕ) (i i' : List Bool) (l l' : Option FullLc) → k ≡ k' → i ≡ i' → l ≡ l'
-    → ◌≡◌ {A = Option Datum} (Some (record { kind = k; information = i; link_control = l }))
+data_burst_by : (k k' : ℕ) (i i' : List Bool) (l l' : Option FullLc) → k ≡ k' → i ≡ i' → l ≡ l'
+    → ◌≡◌ {A = Option DataBurst} (Some (record { kind = k; information = i; link_control = l }))
     (Some (record { kind = k'; information = i'; link_control = l' }))
-datum_by k k' i i' l l' e f g = cc
+data_burst_by k k' i i' l l' e f g = cc
 
 one_message : (received a b : List Bool) → IsDecoded received (Some a) → IsDecoded received (Some b) → a ≡ b
 one_message received a b p q = same_some a b (one_decoded received (Some a) (Some b) p q)
@@ -44,27 +44,28 @@ held received information message result decoded encoded (word, product, same, d
     undamaged received word result decoded product damaged ∙ ap Some (same ∙ encoded.written.holds)
 
 -- ---- a message, encoded anew
-pub record IsMade (kind : ℕ) (message : List Bool) (datum : Datum) : Type 0 where
-  pub kind_is : datum.kind ≡ kind
-  pub encoded : IsEncoded message datum.information
-  pub plain : datum.link_control ≡ None
+pub record IsMade (kind : ℕ) (message : List Bool) (data_burst : DataBurst) : Type 0 where
+  pub kind_is : data_burst.kind ≡ kind
+  pub encoded : IsEncoded message data_burst.information
+  pub plain : data_burst.link_control ≡ None
 
-made_is : (kind : ℕ) (message other information : List Bool) (lc : Option FullLc) (datum : Datum) → IsMade kind message datum
+made_is : (kind : ℕ) (message other information : List Bool) (lc : Option FullLc) (data_burst : DataBurst)
+    → IsMade kind message data_burst
     → message ≡ other → IsEncoded other information → lc ≡ None
-    → Some datum ≡ Some (record { kind = kind; information = information; link_control = lc })
-made_is kind message other information lc datum made e encoded plain =
-    datum_by datum.kind kind datum.information information datum.link_control lc made.kind_is
-    (one_encoded message other datum.information information e made.encoded encoded) (made.plain ∙ sym plain)
+    → Some data_burst ≡ Some (record { kind = kind; information = information; link_control = lc })
+made_is kind message other information lc data_burst made e encoded plain =
+    data_burst_by data_burst.kind kind data_burst.information information data_burst.link_control lc made.kind_is
+    (one_encoded message other data_burst.information information e made.encoded encoded) (made.plain ∙ sym plain)
 
 -- ---- words
-pub word_read : (kind : ℕ) (received message : List Bool) (datum : Datum) → IsDecoded received (Some message)
-    → IsMade kind message datum → IsReading Word kind received (Some datum)
-word_read kind received message datum decoded made = record {
+pub word_read : (kind : ℕ) (received message : List Bool) (data_burst : DataBurst) → IsDecoded received (Some message)
+    → IsMade kind message data_burst → IsReading Word kind received (Some data_burst)
+word_read kind received message data_burst decoded made = record {
   within = (made.kind_is, (message, decoded, made.encoded, made.plain));
   only = λ information lc reads. let (other, decoded', encoded, plain) = reads in
-      made_is kind message other information lc datum made (one_message received message other decoded decoded') encoded plain;
+      made_is kind message other information lc data_burst made (one_message received message other decoded decoded') encoded plain;
   undone = λ information lc sends damaged. let (other, encoded, plain) = sends in
-      made_is kind message other information lc datum made (same_some message other
+      made_is kind message other information lc data_burst made (same_some message other
       (held received information other (Some message) decoded encoded damaged)) encoded plain;
 }
 
@@ -81,15 +82,16 @@ word_unread kind received decoded = record {
 }
 
 -- ---- sealed bits
-pub sealed_read : (mask : Mask) (kind : ℕ) (received message : List Bool) (datum : Datum) → IsDecoded received (Some message)
+pub sealed_read : (mask : Mask) (kind : ℕ) (received message : List Bool) (data_burst : DataBurst)
+    → IsDecoded received (Some message)
     → IsSealed mask (octets_of 12 message)
-    → IsMade kind message datum → IsReading (Sealed mask) kind received (Some datum)
-sealed_read mask kind received message datum decoded sealed made = record {
+    → IsMade kind message data_burst → IsReading (Sealed mask) kind received (Some data_burst)
+sealed_read mask kind received message data_burst decoded sealed made = record {
   within = (made.kind_is, (message, decoded, sealed, made.encoded, made.plain));
   only = λ information lc reads. let (other, decoded', sealed', encoded, plain) = reads in
-      made_is kind message other information lc datum made (one_message received message other decoded decoded') encoded plain;
+      made_is kind message other information lc data_burst made (one_message received message other decoded decoded') encoded plain;
   undone = λ information lc sends damaged. let (other, sealed', encoded, plain) = sends in
-      made_is kind message other information lc datum made (same_some message other
+      made_is kind message other information lc data_burst made (same_some message other
       (held received information other (Some message) decoded encoded damaged)) encoded plain;
 }
 
@@ -135,12 +137,12 @@ pub link_control_read : (lc_use : LcUse) (kind : ℕ) (received message informat
 link_control_read lc_use kind received message information lc read only undone is encoded =
     let made : (other : FullLc) (message' information' : List Bool) (control : Option FullLc) → lc ≡ other → IsLc lc_use other
     message' → IsEncoded message' information' → control ≡ Some other
-    → ◌≡◌ {A = Option Datum} (Some (record { kind = kind; information = information; link_control = Some lc }))
+    → ◌≡◌ {A = Option DataBurst} (Some (record { kind = kind; information = information; link_control = Some lc }))
     (Some (record { kind = kind; information = information'; link_control = control })) =
     λ other message' information' control e is' encoded' control_is.
     let sealed : message ≡ message' = same_sealed lc_use other message message'
     (subst (λ (x : FullLc). IsLc lc_use x message) e is) is' in
-    datum_by kind kind information information' (Some lc) control refl
+    data_burst_by kind kind information information' (Some lc) control refl
     (one_encoded message message' information information' sealed encoded encoded') (ap Some e ∙ sym control_is) in record {
       within = (refl, (lc, message, read, is, encoded, refl));
       only = λ information' control reads. let (other, message', read', is', encoded', control_is) = reads in

@@ -4,7 +4,7 @@ use Rattle.dmr_burst.specs.SlotType.{HasSlotType}
 use Rattle.dmr_burst.specs.declared.slot_type.SlotType.{SlotType}
 use Rattle.dmr_hearing.specs.DataTypes.{payload_of}
 use Rattle.dmr_hearing.specs.Reading.{IsReading}
-use Rattle.dmr_hearing.specs.declared.heard.Datum.{Datum}
+use Rattle.dmr_hearing.specs.declared.heard.DataBurst.{DataBurst}
 
 same_slot_type : (a b : SlotType) → Some a ≡ Some b → a ≡ b
 same_slot_type a b e = cc
@@ -28,7 +28,7 @@ found_kind found colour kind bits only has =
     (only (record { colour = colour; kind = kind }) has))
 
 -- what is read for it is read for that type
-pub reading_of : (found : SlotType) (colour kind : ℕ) (bits received field : List Bool) (result : Option Datum)
+pub reading_of : (found : SlotType) (colour kind : ℕ) (bits received field : List Bool) (result : Option DataBurst)
     → ((s : SlotType) → HasSlotType s bits → Some found ≡ Some s)
     → HasSlotType (record { colour = colour; kind = kind }) bits → received ≡ field
     → IsReading (payload_of found.kind) found.kind received result → IsReading (payload_of kind) kind field result

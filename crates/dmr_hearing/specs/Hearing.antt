@@ -14,7 +14,7 @@ use Rattle.dmr_hearing.specs.DataTypes.{payload_of}
 use Rattle.dmr_hearing.specs.Slots.{silence}
 use Rattle.dmr_hearing.specs.declared.data_types.Payload.{Payload}
 use Rattle.dmr_hearing.specs.declared.data_types.Payload.TheVariants.{Word, Sealed, LinkControl, Raw, Nothing}
-use Rattle.dmr_hearing.specs.declared.heard.Datum.{Datum}
+use Rattle.dmr_hearing.specs.declared.heard.DataBurst.{DataBurst}
 use Rattle.dmr_hearing.specs.declared.heard.Heard.{Heard}
 use Rattle.dmr_link.specs.Sealed.{IsLc, IsReadLc}
 use Rattle.dmr_link.specs.declared.full_lc.FullLc.{FullLc}
@@ -42,18 +42,18 @@ Reads Raw received information lc = (information ≡ received) × (lc ≡ None)
 -- any other type is not read
 Reads Nothing received information lc = ⊥
 
--- A burst is heard as a datum: it has the data sync of a mobile station, a slot type of the colour code, and information
+-- A burst is heard as a data burst: it has the data sync of a mobile station, a slot type of the colour code, and information
 -- that its type reads so.
-pub record IsDatum (colour : ℕ) (datum : Datum) (bits : List Bool) : Type 0 where
+pub record IsHeardData (colour : ℕ) (data_burst : DataBurst) (bits : List Bool) : Type 0 where
   pub sync : HasSync (record { side = Ms; voice = false }) bits
-  pub slot_type : HasSlotType (record { colour = colour; kind = datum.kind }) bits
-  pub reads : Reads (payload_of datum.kind) (information_field bits) datum.information datum.link_control
+  pub slot_type : HasSlotType (record { colour = colour; kind = data_burst.kind }) bits
+  pub reads : Reads (payload_of data_burst.kind) (information_field bits) data_burst.information data_burst.link_control
 
 -- What a burst is heard as. Each part is read whatever the others say.
 pub record IsHeardBurst (colour : ℕ) (bits : List Bool) (heard : Heard) : Type 0 where
-  -- a datum that is heard is the burst's, and each datum of the burst is heard
-  pub datum_within : IfSome heard.datum (λ datum. IsDatum colour datum bits)
-  pub datum_only : (datum : Datum) → IsDatum colour datum bits → heard.datum ≡ Some datum
+  -- a data burst that is heard is the burst's, and each data burst of the burst is heard
+  pub data_burst_within : IfSome heard.data_burst (λ data_burst. IsHeardData colour data_burst bits)
+  pub data_burst_only : (data_burst : DataBurst) → IsHeardData colour data_burst bits → heard.data_burst ≡ Some data_burst
   -- voice is the voice sync of a mobile station
   pub voice : IsTrue heard.voice ↔ HasSync (record { side = Ms; voice = true }) bits
   -- an EMB that is heard is the burst's, and each EMB of the burst is heard

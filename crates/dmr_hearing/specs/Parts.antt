@@ -1,13 +1,13 @@
 -- What the parts say of a slot that is heard.
 use Rattle.std.specs.Prelude.{ℕ, ◌==◌, ◌&&◌, not, Bool, true, false, Option, Some, None}
 use Rattle.dmr_burst.specs.declared.emb.Emb.{Emb}
-use Rattle.dmr_hearing.specs.declared.heard.Datum.{Datum}
+use Rattle.dmr_hearing.specs.declared.heard.DataBurst.{DataBurst}
 use Rattle.dmr_hearing.specs.declared.heard.Heard.{Heard}
 
 -- No data burst of the own colour code is heard.
-abbrev pub is_no_datum : Option Datum → Bool
-is_no_datum None = true
-is_no_datum (Some datum) = false
+abbrev pub is_no_data_burst : Option DataBurst → Bool
+is_no_data_burst None = true
+is_no_data_burst (Some data_burst) = false
 
 -- There is an EMB, with this colour code.
 abbrev pub is_own : ℕ → Option Emb → Bool
@@ -26,4 +26,4 @@ has_lcss colour lcss (Some emb) = (emb.colour == colour) && (emb.lcss == lcss)
 
 -- Absent: neither data nor voice, and no EMB of the own colour code.
 abbrev pub is_absent : ℕ → Heard → Bool
-is_absent colour heard = is_no_datum heard.datum && (not heard.voice && not (is_own colour heard.emb))
+is_absent colour heard = is_no_data_burst heard.data_burst && (not heard.voice && not (is_own colour heard.emb))

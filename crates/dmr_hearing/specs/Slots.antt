@@ -24,16 +24,16 @@ pub data SentSlot : Type 0 where
 
 -- What a slot is heard as in which nothing is sent.
 abbrev pub silence : Heard
-silence = record { datum = None; voice = false; emb = None; embedded = 0; vocoder = replicate 216 false }
+silence = record { data_burst = None; voice = false; emb = None; embedded = 0; vocoder = replicate 216 false }
 
 -- What such a slot is heard as. A data burst and a voice sync may have any EMB, and a voice burst of a call may read as data:
 -- a call looks at neither there.
 abbrev pub IsHeardAs : SentSlot → Heard → Type 0
 IsHeardAs Silent heard = heard ≡ silence
 IsHeardAs (Data kind information lc) heard =
-    (heard.datum ≡ Some (record { kind = kind; information = information; link_control = lc })) × (heard.voice ≡ false)
-IsHeardAs VoiceSync heard = (heard.datum ≡ None) × (heard.voice ≡ true)
+    (heard.data_burst ≡ Some (record { kind = kind; information = information; link_control = lc })) × (heard.voice ≡ false)
+IsHeardAs VoiceSync heard = (heard.data_burst ≡ None) × (heard.voice ≡ true)
 IsHeardAs (Voice emb embedded) heard = (heard.emb ≡ Some emb) × (heard.embedded ≡ embedded)
-IsHeardAs (ForeignVoice emb) heard = (heard.datum ≡ None) × (heard.voice ≡ false) × (heard.emb ≡ Some emb)
-IsHeardAs ForeignData heard = (heard.datum ≡ None) × (heard.voice ≡ false)
-IsHeardAs CutOff heard = (heard.datum ≡ None) × (heard.voice ≡ false)
+IsHeardAs (ForeignVoice emb) heard = (heard.data_burst ≡ None) × (heard.voice ≡ false) × (heard.emb ≡ Some emb)
+IsHeardAs ForeignData heard = (heard.data_burst ≡ None) × (heard.voice ≡ false)
+IsHeardAs CutOff heard = (heard.data_burst ≡ None) × (heard.voice ≡ false)

@@ -9,13 +9,13 @@ ghost use Rattle.dmr_hearing.specs.DataTypes.{payload_of as payload};
 ghost use Rattle.dmr_hearing.specs.Damage.{Sends, IsSentSlot, IsRecordedAs};
 ghost use Rattle.dmr_hearing.specs.Damage.{IsDamagedPayload, IsDamagedData, IsDamagedForeignData, IsDamagedBurst};
 ghost use Rattle.dmr_hearing.specs.Fit.{IsFitHeard};
-ghost use Rattle.dmr_hearing.specs.Hearing.{Reads, IsDatum, IsHeardBurst, Hears};
+ghost use Rattle.dmr_hearing.specs.Hearing.{Reads, IsHeardData, IsHeardBurst, Hears};
 ghost use Rattle.dmr_hearing.specs.Slots.{SentSlot, IsHeardAs, silence as silence_heard};
-ghost use Rattle.dmr_hearing.specs.declared.heard.Datum.{Datum};
+ghost use Rattle.dmr_hearing.specs.declared.heard.DataBurst.{DataBurst};
 ghost use Rattle.dmr_link.specs.declared.full_lc.FullLc.{FullLc};
 
-use crate::heard::{Datum, Heard};
-use crate::information::read_datum;
+use crate::heard::{DataBurst, Heard};
+use crate::information::read_data_burst;
 use dmr_bits::Bits;
 use dmr_burst::{
     Side, read_emb, read_embedded, read_information, read_slot_type, read_sync, read_vocoder,
@@ -23,7 +23,7 @@ use dmr_burst::{
 
 /// What a slot of the uplink is heard as by a repeater of a colour code below 16: silence as nothing, and a burst by its
 /// fields, what is wrong within the reach of a code or a sync word undone. Only the sync words of mobile stations count
-/// (this project's own). A data burst of another colour code is no datum; an EMB is heard of any colour code.
+/// (this project's own). A data burst of another colour code is no data burst; an EMB is heard of any colour code.
 pub fn hear(slot: &Option<[u8; 33]>, colour: u8) -> Heard
     // Each part is heard exactly where the burst has it,
     ensures heard { Hears colour slot.now result }
@@ -43,7 +43,7 @@ pub fn silence() -> Heard
     ensures value { result ≡ silence_heard }
 {
     Heard {
-        datum: None,
+        data_burst: None,
         voice: false,
         emb: None,
         embedded: 0,
@@ -59,7 +59,7 @@ fn hear_burst(burst: &[u8; 33], colour: u8) -> Heard
 {
     let sync = read_mobile_sync(burst);
     Heard {
-        datum: hear_datum(burst, sync, colour),
+        data_burst: hear_data_burst(burst, sync, colour),
         voice: hear_voice(burst, sync),
         emb: read_emb(burst),
         embedded: read_embedded(burst),
@@ -82,13 +82,13 @@ fn hear_voice(burst: &[u8; 33], sync: Option<bool>) -> bool
     }
 }
 
-/// The datum of a burst, of which this is the sync, with the data sync of a mobile station.
-fn hear_datum(burst: &[u8; 33], sync: Option<bool>, colour: u8) -> Option<Datum>
+/// The data burst of a burst, of which this is the sync, with the data sync of a mobile station.
+fn hear_data_burst(burst: &[u8; 33], sync: Option<bool>, colour: u8) -> Option<DataBurst>
     requires within { IfSome sync (λ voice. HasSync (record { side = side.Ms; voice = voice }) (bits_of_octets burst.now)) }
     requires only { (voice : Bool) → HasSync (record { side = side.Ms; voice = voice }) (bits_of_octets burst.now)
         → sync ≡ Some voice }
-    ensures within { IfSome result (λ datum. IsDatum colour datum (bits_of_octets burst.now)) }
-    ensures only { (datum : Datum) → IsDatum colour datum (bits_of_octets burst.now) → result ≡ Some datum }
+    ensures within { IfSome result (λ data_burst. IsHeardData colour data_burst (bits_of_octets burst.now)) }
+    ensures only { (data_burst : DataBurst) → IsHeardData colour data_burst (bits_of_octets burst.now) → result ≡ Some data_burst }
     ensures undone { (kind : ℕ) (information : List Bool) (lc : Option FullLc) → Sends (payload kind) information lc
         → IsDamagedData colour kind information (bits_of_octets burst.now)
         → result ≡ Some (record { kind = kind; information = information; link_control = lc }) }
@@ -97,15 +97,17 @@ fn hear_datum(burst: &[u8; 33], sync: Option<bool>, colour: u8) -> Option<Datum>
 {
     match sync {
         Some(true) => None,
-        Some(false) => own_datum(burst, colour),
+        Some(false) => own_data_burst(burst, colour),
         None => None,
     }
 }
 
-/// The datum of a data burst of the colour code.
-fn own_datum(burst: &[u8; 33], colour: u8) -> Option<Datum>
-    ensures within { IfSome result (λ datum. HasSlotType (record { colour = colour; kind = datum.kind }) (bits_of_octets burst.now)
-        × Reads (payload datum.kind) (information_field (bits_of_octets burst.now)) datum.information datum.link_control) }
+/// The data burst of a data burst of the colour code.
+fn own_data_burst(burst: &[u8; 33], colour: u8) -> Option<DataBurst>
+    ensures within { IfSome result (λ data_burst. HasSlotType (record { colour = colour; kind = data_burst.kind }) (bits_of_octets
+        burst.now)
+        × Reads (payload data_burst.kind) (information_field (bits_of_octets burst.now)) data_burst.information
+            data_burst.link_control) }
     ensures only { (kind : ℕ) (information : List Bool) (lc : Option FullLc)
         → HasSlotType (record { colour = colour; kind = kind }) (bits_of_octets burst.now)
         → Reads (payload kind) (information_field (bits_of_octets burst.now)) information lc
@@ -123,7 +125,7 @@ fn own_datum(burst: &[u8; 33], colour: u8) -> Option<Datum>
     if slot_type.colour != colour {
         return None;
     }
-    read_datum(slot_type.kind, &read_information(burst))
+    read_data_burst(slot_type.kind, &read_information(burst))
 }
 
 /// The sync of a mobile station: whether it is voice.

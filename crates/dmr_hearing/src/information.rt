@@ -6,37 +6,37 @@ ghost use Rattle.dmr_hearing.specs.Reading.{IsReading};
 ghost use Rattle.dmr_hearing.specs.declared.data_types.Payload.TheVariants as holds;
 
 use crate::data_types::{Payload, payload_of};
-use crate::heard::Datum;
+use crate::heard::DataBurst;
 use dmr_bits::Bits;
 use dmr_bptc::{bptc_decode, bptc_encode};
 use dmr_checks::{Mask, opens};
 use dmr_link::{LcUse, lc_info, lc_read};
 
-/// The datum that received information of a data type is read as.
-pub(crate) fn read_datum(kind: u8, received: &Bits<196>) -> Option<Datum>
+/// The data burst that received information of a data type is read as.
+pub(crate) fn read_data_burst(kind: u8, received: &Bits<196>) -> Option<DataBurst>
     ensures reading { IsReading (payload kind) kind received.now result }
 {
     match payload_of(kind) {
         Payload::Word => read_word(kind, received),
         Payload::Sealed(mask) => read_sealed(kind, mask, received),
         Payload::LinkControl(lc_use) => read_link_control(kind, lc_use, received),
-        Payload::Raw => Some(raw_datum(kind, received)),
+        Payload::Raw => Some(raw_data_burst(kind, received)),
         Payload::Nothing => None,
     }
 }
 
 /// Any 96 bits in a product word.
-fn read_word(kind: u8, received: &Bits<196>) -> Option<Datum>
+fn read_word(kind: u8, received: &Bits<196>) -> Option<DataBurst>
     ensures reading { IsReading holds.Word kind received.now result }
 {
     let Some(message) = bptc_decode(received) else {
         return None;
     };
-    Some(message_datum(kind, &message))
+    Some(message_data_burst(kind, &message))
 }
 
 /// 96 bits in a product word, where they are sealed under the mask.
-fn read_sealed(kind: u8, mask: Mask, received: &Bits<196>) -> Option<Datum>
+fn read_sealed(kind: u8, mask: Mask, received: &Bits<196>) -> Option<DataBurst>
     ensures reading { IsReading (holds.Sealed mask) kind received.now result }
 {
     let Some(message) = bptc_decode(received) else {
@@ -45,15 +45,15 @@ fn read_sealed(kind: u8, mask: Mask, received: &Bits<196>) -> Option<Datum>
     if !opens(&message.octets(), mask) {
         return None;
     }
-    Some(message_datum(kind, &message))
+    Some(message_data_burst(kind, &message))
 }
 
 /// A link control, sealed anew.
-fn read_link_control(kind: u8, lc_use: LcUse, received: &Bits<196>) -> Option<Datum>
+fn read_link_control(kind: u8, lc_use: LcUse, received: &Bits<196>) -> Option<DataBurst>
     ensures reading { IsReading (holds.LinkControl lc_use) kind received.now result }
 {
     match lc_read(received, lc_use) {
-        Ok(lc) => Some(Datum {
+        Ok(lc) => Some(DataBurst {
             kind,
             information: encode(&lc_info(&lc, lc_use)),
             link_control: Some(lc),
@@ -63,12 +63,12 @@ fn read_link_control(kind: u8, lc_use: LcUse, received: &Bits<196>) -> Option<Da
 }
 
 /// Any 196 bits, as they are received.
-fn raw_datum(kind: u8, received: &Bits<196>) -> Datum
+fn raw_data_burst(kind: u8, received: &Bits<196>) -> DataBurst
     ensures kind { result.kind ≡ kind }
     ensures information { result.information ≡ received.now }
     ensures link_control { result.link_control ≡ None }
 {
-    Datum {
+    DataBurst {
         kind,
         information: *received,
         link_control: None,
@@ -76,12 +76,12 @@ fn raw_datum(kind: u8, received: &Bits<196>) -> Datum
 }
 
 /// A message, encoded anew.
-fn message_datum(kind: u8, message: &Bits<96>) -> Datum
+fn message_data_burst(kind: u8, message: &Bits<96>) -> DataBurst
     ensures kind { result.kind ≡ kind }
     ensures information { IsEncoded message.now result.information }
     ensures link_control { result.link_control ≡ None }
 {
-    Datum {
+    DataBurst {
         kind,
         information: encode(message),
         link_control: None,

@@ -21,5 +21,5 @@ pub mod laws;
 
 pub use data_types::Payload;
 pub use fields::read_fields;
-pub use heard::{Datum, Heard};
+pub use heard::{DataBurst, Heard};
 pub use hearing::{hear, silence};

@@ -103,7 +103,7 @@ pub(crate) fn contents_of(kind: u8, burst: &[u8; 33], information: Information) 
     match information {
         Information::Coded(Some(message)) => coded_contents(kind, &received, &message),
         Information::Coded(None) => Contents::Unreadable,
-        Information::Uncoded => Contents::AsReceived,
+        Information::AsReceived => Contents::AsReceived,
     }
 }
 

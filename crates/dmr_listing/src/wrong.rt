@@ -129,7 +129,7 @@ fn wrong_of_information(information: Information, burst: &[u8; 33]) -> usize
 {
     match information {
         Information::Coded(Some(message)) => wrong_of_message(&message, burst),
-        Information::Coded(None) | Information::Uncoded => 0,
+        Information::Coded(None) | Information::AsReceived => 0,
     }
 }
 

@@ -10,7 +10,7 @@ use Rattle.dmr_burst.specs.declared.emb.Emb.{Emb}
 use Rattle.dmr_burst.specs.declared.slot_type.SlotType.{SlotType}
 use Rattle.dmr_burst.specs.declared.sync.Sync.{Sync}
 use Rattle.dmr_report.specs.declared.reading.Information.{Information}
-use Rattle.dmr_report.specs.declared.reading.Information.TheVariants.{Coded, Uncoded}
+use Rattle.dmr_report.specs.declared.reading.Information.TheVariants.{Coded, AsReceived}
 use Rattle.dmr_report.specs.declared.reading.Reading.{Reading}
 use Rattle.dmr_report.specs.declared.reading.Reading.TheVariants.{Data, Untyped, VoiceSync, Voice, Unreadable}
 
@@ -33,7 +33,7 @@ is_coded kind = not (kind == data_type.rate_three_quarters_data || kind == data_
 -- what the information of a data burst of this type is
 abbrev pub IsInformation : ℕ → List Bool → Information → Type 0
 IsInformation kind bits (Coded message) = (is_coded kind ≡ true) × IsDecoded (information_field bits) message
-IsInformation kind bits Uncoded = is_coded kind ≡ false
+IsInformation kind bits AsReceived = is_coded kind ≡ false
 
 -- What a burst is read as: by its sync, and where it has none, by its EMB.
 abbrev pub IsReadAs : List Bool → Reading → Type 0

@@ -17,7 +17,7 @@ pub enum Information {
     /// A word of the block product turbo code: the 96 bits that it holds, or none where it is too damaged.
     Coded(Option<Bits<96>>),
     /// In another code, or in none.
-    Uncoded,
+    AsReceived,
 }
 
 /// What a burst is read as.
@@ -40,7 +40,7 @@ fn information_of(kind: u8, burst: &[u8; 33]) -> Information
     ensures read { IsInformation kind (bits_of_octets burst.now) result }
 {
     match kind {
-        data_type::RATE_THREE_QUARTERS_DATA | data_type::RATE_ONE_DATA => Information::Uncoded,
+        data_type::RATE_THREE_QUARTERS_DATA | data_type::RATE_ONE_DATA => Information::AsReceived,
         _ => Information::Coded(bptc_decode(&read_information(burst))),
     }
 }
@@ -125,7 +125,7 @@ impl fmt::Display for Information {
                 Ok(())
             }
             Information::Coded(None) => write!(f, "unreadable"),
-            Information::Uncoded => write!(f, "as received"),
+            Information::AsReceived => write!(f, "as received"),
         }
     }
 }

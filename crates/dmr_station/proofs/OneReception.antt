@@ -4,7 +4,7 @@ use Rattle.dmr_gateway.specs.Heard.{Tells, IsReadByGateway}
 use Rattle.dmr_gateway.specs.Records.{received_now}
 use Rattle.dmr_gateway.specs.declared.heard.Heard.{Heard}
 use Rattle.dmr_gateway.specs.declared.received.Received.{Received}
-use Rattle.dmr_voice.specs.declared.said.Content.TheVariants.{Data, First, Middle, Last}
+use Rattle.dmr_voice.specs.declared.said.Content.TheVariants.{Data, VoiceA, VoiceBToE, VoiceF}
 use Rattle.dmr_voice.specs.declared.said.Said.{Said}
 use Rattle.dmr_voice.specs.declared.said.Said.TheVariants.{Nothing, Repeat}
 use Rattle.dmr_station.specs.Meaning.{IsHeardOf, AreRecordsOf, IsSameMeaning}
@@ -27,9 +27,9 @@ read_alike kind information a b u v =
 heard_alike : (said : Said) (a b : Heard) → IsHeardOf said a → IsHeardOf said b → a ≡ b
 heard_alike Nothing a b u v = u ∙ sym v
 heard_alike (Repeat (Data kind information) role) a b u v = read_alike kind information a b u v
-heard_alike (Repeat (First vocoder) role) a b u v = u ∙ sym v
-heard_alike (Repeat (Middle pi place lc vocoder) role) a b u v = u ∙ sym v
-heard_alike (Repeat (Last pi embedded vocoder) role) a b u v = u ∙ sym v
+heard_alike (Repeat (VoiceA vocoder) role) a b u v = u ∙ sym v
+heard_alike (Repeat (VoiceBToE pi place lc vocoder) role) a b u v = u ∙ sym v
+heard_alike (Repeat (VoiceF pi embedded vocoder) role) a b u v = u ∙ sym v
 
 pub one_reception : (saids : List Said) (llid slot : ℕ) (back : List Heard) (x y : List (List Received))
     → AreRecordsOf llid slot back saids x → AreRecordsOf llid slot back saids y → x ≡ y

@@ -1,7 +1,7 @@
 //! Bursts from outside, heard by a repeater of colour code 1.
 use dmr_bits::Bits;
 use dmr_burst::{Emb, data_type, lcss};
-use dmr_hearing::{Datum, Heard, hear, read_fields};
+use dmr_hearing::{DataBurst, Heard, hear, read_fields};
 use dmr_link::FullLc;
 use dmr_test_values::{
     CALL_FIELDS, CALL_HEADER, CALL_TERMINATOR, ONE_CSBK, PRINTED_VOICE_BURST, REPEATED_CSBK,
@@ -74,68 +74,68 @@ fn information(burst: &[u8; 33]) -> Bits<196> {
 
 #[test]
 fn voice_lc_header(rt: HostRuntime) {
-    let datum = Some(Datum {
+    let data_burst = Some(DataBurst {
         kind: data_type::VOICE_LC_HEADER,
         information: information(&CALL_HEADER),
         link_control: Some(GROUP_CALL),
     });
     let heard = hear(&Some(CALL_HEADER), 1);
-    assert!(rt; heard.datum == datum);
+    assert!(rt; heard.data_burst == data_burst);
     assert!(rt; !heard.voice);
     let heard = hear(&Some(damaged(&CALL_HEADER)), 1);
-    assert!(rt; heard.datum == datum);
+    assert!(rt; heard.data_burst == data_burst);
     assert!(rt; !heard.voice);
 }
 
 #[test]
 fn terminator_with_lc(rt: HostRuntime) {
-    let datum = Some(Datum {
+    let data_burst = Some(DataBurst {
         kind: data_type::TERMINATOR_WITH_LC,
         information: information(&CALL_TERMINATOR),
         link_control: Some(GROUP_CALL),
     });
-    assert!(rt; hear(&Some(CALL_TERMINATOR), 1).datum == datum);
-    assert!(rt; hear(&Some(damaged(&CALL_TERMINATOR)), 1).datum == datum);
+    assert!(rt; hear(&Some(CALL_TERMINATOR), 1).data_burst == data_burst);
+    assert!(rt; hear(&Some(damaged(&CALL_TERMINATOR)), 1).data_burst == data_burst);
 }
 
 #[test]
 fn one_csbk(rt: HostRuntime) {
-    let datum = Some(Datum {
+    let data_burst = Some(DataBurst {
         kind: data_type::CSBK,
         information: information(&ONE_CSBK),
         link_control: None,
     });
-    assert!(rt; hear(&Some(ONE_CSBK), 1).datum == datum);
-    assert!(rt; hear(&Some(damaged(&ONE_CSBK)), 1).datum == datum);
+    assert!(rt; hear(&Some(ONE_CSBK), 1).data_burst == data_burst);
+    assert!(rt; hear(&Some(damaged(&ONE_CSBK)), 1).data_burst == data_burst);
 }
 
 #[test]
 fn data_header_by_its_check(rt: HostRuntime) {
-    let datum = Some(Datum {
+    let data_burst = Some(DataBurst {
         kind: data_type::DATA_HEADER,
         information: information(&DATA_HEADER),
         link_control: None,
     });
-    assert!(rt; hear(&Some(DATA_HEADER), 1).datum == datum);
-    assert!(rt; hear(&Some(UNSEALED_DATA_HEADER), 1).datum == None);
+    assert!(rt; hear(&Some(DATA_HEADER), 1).data_burst == data_burst);
+    assert!(rt; hear(&Some(UNSEALED_DATA_HEADER), 1).data_burst == None);
 }
 
 #[test]
 fn bursts_that_are_no_data(rt: HostRuntime) {
     // Of another colour code, idle, and from a base station.
-    assert!(rt; hear(&Some(CALL_HEADER), 2).datum == None);
-    assert!(rt; hear(&Some(ONE_CSBK), 2).datum == None);
-    assert!(rt; hear(&Some(IDLE_BURST), 1).datum == None);
-    assert!(rt; hear(&Some(REPEATED_CSBK), 1).datum == None);
+    assert!(rt; hear(&Some(CALL_HEADER), 2).data_burst == None);
+    assert!(rt; hear(&Some(ONE_CSBK), 2).data_burst == None);
+    assert!(rt; hear(&Some(IDLE_BURST), 1).data_burst == None);
+    assert!(rt; hear(&Some(REPEATED_CSBK), 1).data_burst == None);
     // A fourth wrong bit in the sync, and one in the slot type.
-    assert!(rt; hear(&Some(turned(&ONE_CSBK, &[108, 109, 110, 111])), 1).datum == None);
-    assert!(rt; hear(&Some(turned(&ONE_CSBK, &[98, 99, 100, 101])), 1).datum == None);
+    assert!(rt; hear(&Some(turned(&ONE_CSBK, &[108, 109, 110, 111])), 1).data_burst == None);
+    assert!(rt; hear(&Some(turned(&ONE_CSBK, &[98, 99, 100, 101])), 1).data_burst == None);
 }
 
 #[test]
 fn silence(rt: HostRuntime) {
     let nothing = Heard {
-        datum: None,
+        data_burst: None,
         voice: false,
         emb: None,
         embedded: 0,
@@ -148,7 +148,7 @@ fn silence(rt: HostRuntime) {
 #[test]
 fn printed_voice_burst(rt: HostRuntime) {
     let frame = Heard {
-        datum: None,
+        data_burst: None,
         voice: false,
         emb: Some(Emb {
             colour: 1,
@@ -182,7 +182,7 @@ fn voice_sync(rt: HostRuntime) {
         .octets();
     let heard = hear(&Some(burst), 1);
     assert!(rt; heard.voice);
-    assert!(rt; heard.datum == None);
+    assert!(rt; heard.data_burst == None);
     assert!(rt; heard.embedded == 0x7D5D_D57D);
     assert!(rt; hear(&Some(turned(&burst, &[108, 120, 155])), 1).voice);
     assert!(rt; !hear(&Some(turned(&burst, &[108, 120, 130, 155])), 1).voice);

@@ -6,10 +6,10 @@ pub returns-clause-damaged : goal.returns-clause-damaged
 returns-clause-damaged c = λ sent is damaged.
     undone sent c.args.colour (bits_of_octets c.args.burst.now) _
     (record {
-      within = c.hear_datum.ensures.within;
-      undone = c.hear_datum.ensures.undone;
-      foreign = c.hear_datum.ensures.foreign;
-      voice_datum = c.hear_datum.ensures.voice;
+      within = c.hear_data_burst.ensures.within;
+      undone = c.hear_data_burst.ensures.undone;
+      foreign = c.hear_data_burst.ensures.foreign;
+      voice_data_burst = c.hear_data_burst.ensures.voice;
       voice_within = c.hear_voice.ensures.voice.0;
       voice_only = c.hear_voice.ensures.voice.1;
       data_voice = c.hear_voice.ensures.data;

@@ -1,8 +1,9 @@
-use Rattle.dmr_hearing.proofs.hearing.hear_datum.Goals as goal
+use Rattle.dmr_hearing.proofs.hearing.hear_data_burst.Goals as goal
 
 pub returns-in-Some-false-clause-only : goal.returns-in-Some-false-clause-only
-returns-in-Some-false-clause-only c = λ datum is.
-    c.own_datum.ensures.only datum.kind datum.information datum.link_control is.slot_type is.reads
+returns-in-Some-false-clause-only c = λ data_burst is.
+    c.own_data_burst.ensures.only data_burst.kind data_burst.information data_burst.link_control is.slot_type is.reads
 
 pub returns-in-Some-false-clause-foreign : goal.returns-in-Some-false-clause-foreign
-returns-in-Some-false-clause-foreign c = λ burst. c.own_datum.ensures.foreign burst.other burst.kind burst.foreign burst.slot_type
+returns-in-Some-false-clause-foreign c = λ burst. c.own_data_burst.ensures.foreign burst.other burst.kind burst.foreign
+    burst.slot_type

@@ -2,7 +2,7 @@ use Rattle.std.proofs.Common.{sym, ◌∙◌}
 use Rattle.dmr_bits.specs.Bits.{bits_of_octets}
 use Rattle.dmr_burst.specs.Layout.{information_field}
 use Rattle.dmr_hearing.proofs.SlotTypes.{no_slot_type, found_colour, reading_of}
-use Rattle.dmr_hearing.proofs.hearing.own_datum.Goals as goal
+use Rattle.dmr_hearing.proofs.hearing.own_data_burst.Goals as goal
 
 pub returns-in_default-clause-only : goal.returns-in_default-clause-only
 returns-in_default-clause-only c = λ kind information lc has reads.
@@ -28,15 +28,15 @@ pub returns-clause-only : goal.returns-clause-only
 returns-clause-only c = λ kind information lc has.
     let bits = bits_of_octets c.args.burst.now in
     (reading_of c.in-Some.slot_type c.args.colour kind bits c.read_information.result (information_field bits)
-    c.read_datum.result c.in-Some.ensures.only has
-    c.read_information.ensures.value c.read_datum.ensures.reading).only information lc
+    c.read_data_burst.result c.in-Some.ensures.only has
+    c.read_information.ensures.value c.read_data_burst.ensures.reading).only information lc
 
 pub returns-clause-undone : goal.returns-clause-undone
 returns-clause-undone c = λ kind information lc has.
     let bits = bits_of_octets c.args.burst.now in
     (reading_of c.in-Some.slot_type c.args.colour kind bits c.read_information.result (information_field bits)
-    c.read_datum.result c.in-Some.ensures.only has
-    c.read_information.ensures.value c.read_datum.ensures.reading).undone information lc
+    c.read_data_burst.result c.in-Some.ensures.only has
+    c.read_information.ensures.value c.read_data_burst.ensures.reading).undone information lc
 
 pub returns-clause-foreign : goal.returns-clause-foreign
 returns-clause-foreign c = λ other kind foreign has.

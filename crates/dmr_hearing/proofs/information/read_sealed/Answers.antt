@@ -18,13 +18,13 @@ returns-then-not-opens c = record {
 
 pub returns : goal.returns
 returns c = record {
-  reading = sealed_read c.args.mask c.args.kind c.args.received.now c.in-Some.message c.message_datum.result
+  reading = sealed_read c.args.mask c.args.kind c.args.received.now c.in-Some.message c.message_data_burst.result
       c.in-Some.ensures.decoded
       (subst (IsSealed c.args.mask) c.octets.ensures.value (c.opens.ensures.sealed.0 c.if-not-opens.false))
       (record {
-        kind_is = c.message_datum.ensures.kind;
-        encoded = c.message_datum.ensures.information;
+        kind_is = c.message_data_burst.ensures.kind;
+        encoded = c.message_data_burst.ensures.information;
         plain =
-            c.message_datum.ensures.link_control;
+            c.message_data_burst.ensures.link_control;
       });
 }

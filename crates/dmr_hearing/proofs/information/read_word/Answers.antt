@@ -6,11 +6,11 @@ returns-in_default c = record { reading = word_unread c.args.kind c.args.receive
 
 pub returns : goal.returns
 returns c = record {
-  reading = word_read c.args.kind c.args.received.now c.in-Some.message c.message_datum.result c.in-Some.ensures.decoded
+  reading = word_read c.args.kind c.args.received.now c.in-Some.message c.message_data_burst.result c.in-Some.ensures.decoded
       (record {
-        kind_is = c.message_datum.ensures.kind;
-        encoded = c.message_datum.ensures.information;
+        kind_is = c.message_data_burst.ensures.kind;
+        encoded = c.message_data_burst.ensures.information;
         plain =
-            c.message_datum.ensures.link_control;
+            c.message_data_burst.ensures.link_control;
       });
 }
