@@ -10,7 +10,7 @@ use Rattle.dmr_data.specs.declared.header.Header.{Header}
 use Rattle.dmr_data.specs.declared.header.Header.TheVariants as header
 use Rattle.dmr_arq.specs.Cells.{whole, flags_of}
 use Rattle.dmr_arq.specs.Fit.{IsFitKind, IsFitReceiver, IsFitReceiverOut, IsFitAnswer}
-use Rattle.dmr_arq.specs.Receiver as receiver
+use Rattle.dmr_arq.specs.ReceiverRules as receiver
 use Rattle.dmr_arq.specs.Table.{holds}
 use Rattle.dmr_arq.specs.declared.answer.Answer.{Answer}
 use Rattle.dmr_arq.specs.declared.answer.Verdict.{Verdict}

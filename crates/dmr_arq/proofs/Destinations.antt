@@ -10,13 +10,13 @@ use Rattle.dmr_arq.specs.declared.sender.Held.{Held}
 use Rattle.dmr_arq.specs.declared.sender.Phase.{Phase}
 use Rattle.dmr_arq.specs.declared.sender.Phase.TheVariants.{Due, Sending, Waiting}
 use Rattle.dmr_arq.specs.declared.sender.Route.{Route}
-use Rattle.dmr_arq.specs.Sender.{SenderState}
+use Rattle.dmr_arq.specs.SenderRules.{SenderState}
 use Rattle.dmr_arq.specs.declared.serials.Selection.{Selection}
 use Rattle.dmr_arq.specs.declared.table.Entry.{Entry}
-use Rattle.dmr_arq.specs.Completed.{sources, last}
-use Rattle.dmr_arq.specs.Destinations.{SenderEvent, Offers, Sends, Hears, Ticks, Cuts, Tells, seen, sender_after, number_in_hand}
-use Rattle.dmr_arq.specs.Destinations.{offer_calls, with_call, calls_of, IsNextNumber, SequenceNumbers}
-use Rattle.dmr_arq.specs.Sender as sender
+use Rattle.dmr_arq.specs.ReceiverMeaning.{sources, last}
+use Rattle.dmr_arq.specs.SenderMeaning.{SenderEvent, Offers, Sends, Hears, Ticks, Cuts, Tells, seen, sender_after, number_in_hand}
+use Rattle.dmr_arq.specs.SenderMeaning.{offer_calls, with_call, calls_of, IsNextNumber, SequenceNumbers}
+use Rattle.dmr_arq.specs.SenderRules as sender
 use Rattle.dmr_arq.specs.Table.{holds, next_number, remembered}
 use Rattle.dmr_arq.proofs.HeardLast.{newest_of, heard_kept, kept_heard}
 use Rattle.dmr_arq.proofs.Sound.{by_cond}

@@ -13,7 +13,7 @@ use Rattle.dmr_data.specs.declared.packet.Packet.{Packet}
 use Rattle.dmr_data.specs.declared.rate.Rate.{Rate}
 use Rattle.dmr_data.specs.declared.rate.Rate.TheVariants.{Half, Full}
 use Rattle.dmr_arq.specs.Fit.{IsFitRoute, IsFitGateBurst, IsOfferedPacket, IsFitHeld, IsFitSender}
-use Rattle.dmr_arq.specs.Sender as sender
+use Rattle.dmr_arq.specs.SenderRules as sender
 use Rattle.dmr_arq.specs.Table.{number_after}
 use Rattle.dmr_arq.specs.declared.answer.Answer.{Answer}
 use Rattle.dmr_arq.specs.declared.answer.Verdict.{Verdict}
@@ -22,7 +22,7 @@ use Rattle.dmr_arq.specs.declared.sender.Held.{Held}
 use Rattle.dmr_arq.specs.declared.sender.Phase.{Phase}
 use Rattle.dmr_arq.specs.declared.sender.Phase.TheVariants as phase
 use Rattle.dmr_arq.specs.declared.sender.Route.{Route}
-use Rattle.dmr_arq.specs.Sender.{SenderState}
+use Rattle.dmr_arq.specs.SenderRules.{SenderState}
 use Rattle.dmr_arq.specs.declared.serials.Selection.{Selection}
 use Rattle.dmr_arq.specs.declared.table.Entry.{Entry}
 use Rattle.dmr_arq.proofs.Counting.{length_serials}

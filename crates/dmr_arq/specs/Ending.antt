@@ -4,7 +4,7 @@ use Rattle.dmr_data.specs.Join.{joined}
 use Rattle.dmr_arq.specs.declared.receiver.Ending.{Ending}
 use Rattle.dmr_arq.specs.declared.receiver.Ending.TheVariants.{Partial, Single, Confirmed}
 use Rattle.dmr_arq.specs.declared.receiver.ReceiverState.{ReceiverState}
-use Rattle.dmr_arq.specs.Receiver.{Placed, single_joined, confirmed_joined, pad_of}
+use Rattle.dmr_arq.specs.ReceiverRules.{Placed, single_joined, confirmed_joined, pad_of}
 
 -- What a receiver keeps and gives where a place comes to this. The octets are those of the packet that is there whole, if one is.
 abbrev pub comes_to : Ending → List ℕ → ReceiverState → Placed

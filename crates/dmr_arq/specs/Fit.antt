@@ -14,7 +14,7 @@ use Rattle.dmr_arq.specs.declared.sender.GateBurst.{GateBurst}
 use Rattle.dmr_arq.specs.declared.sender.GateBurst.TheVariants as burst
 use Rattle.dmr_arq.specs.declared.sender.Held.{Held}
 use Rattle.dmr_arq.specs.declared.sender.Route.{Route}
-use Rattle.dmr_arq.specs.Sender.{SenderState}
+use Rattle.dmr_arq.specs.SenderRules.{SenderState}
 
 -- 1. What goes out.
 

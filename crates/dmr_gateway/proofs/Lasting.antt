@@ -7,9 +7,10 @@ use Rattle.std.specs.List.{AllByRecursion}
 use Rattle.std.specs.Prelude.{is_some}
 use Rattle.dmr_gateway.specs.declared.answers.Due.{Due}
 use Rattle.dmr_gateway.specs.Answers.{flag_count}
-use Rattle.dmr_gateway.specs.Attempts.{AnswerOrTry, Answers, Tries, Attempt, Ledger, Brings, burst_at_place, bursts_of, attempts}
-use Rattle.dmr_gateway.specs.Attempts.{ledger_owes}
-use Rattle.dmr_gateway.specs.Attempts.{told}
+use Rattle.dmr_gateway.specs.AttemptMeaning.{AnswerOrTry, Answers, Tries, Attempt, Ledger, Brings, burst_at_place, bursts_of}
+use Rattle.dmr_gateway.specs.AttemptMeaning.{attempts}
+use Rattle.dmr_gateway.specs.AttemptMeaning.{ledger_owes}
+use Rattle.dmr_gateway.specs.AttemptMeaning.{told}
 use Rattle.dmr_gateway.specs.Courses.{up_to, StandsInFrame, is_answer, IsBrokenOff, HasEnded, HasCourse, joined_by}
 use Rattle.dmr_gateway.specs.Courses.{all_attempts, AttemptsStand}
 use Rattle.dmr_gateway.proofs.Standing.{length_bursts, length_answers}

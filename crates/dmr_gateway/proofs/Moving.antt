@@ -6,16 +6,17 @@ use Rattle.dmr_arq.specs.declared.answer.Verdict.{Verdict}
 use Rattle.dmr_arq.specs.declared.answer.Verdict.TheVariants.{Ack, Failed, Selective}
 use Rattle.dmr_arq.specs.declared.sender.Outcome.TheVariants.{Sent}
 use Rattle.dmr_arq.specs.declared.serials.Selection.{Selection}
-use Rattle.dmr_arq.specs.Sender as sender
+use Rattle.dmr_arq.specs.SenderRules as sender
 use Rattle.dmr_gateway.specs.declared.answers.Due.{Due}
 use Rattle.dmr_gateway.specs.declared.answers.HeardAnswer.{HeardAnswer}
 use Rattle.dmr_gateway.specs.declared.outbox.SlotBurst.{SlotBurst}
 use Rattle.dmr_gateway.specs.declared.queue.Queued.{Queued}
-use Rattle.dmr_gateway.specs.Attempts.{Answers, Tries, Attempt, Stage, Ready, Begun, Awaits, Hand, Owing, Ledger, Goes}
-use Rattle.dmr_gateway.specs.Attempts.{burst_at_place, bursts_of, goes, goes_on, hand_bursts, try_stands, answer_stands}
-use Rattle.dmr_gateway.specs.Attempts.{first_frame, cut_answer, cut_in_stage, due_try, over, rests, answer_bursts, waiting_goes}
-use Rattle.dmr_gateway.specs.Attempts.{told, answered_in_stage, is_fitting, judged, waits, ledger_owes, ledger_takes_head}
-use Rattle.dmr_gateway.specs.Attempts.{ledger_takes}
+use Rattle.dmr_gateway.specs.AttemptMeaning.{Answers, Tries, Attempt, Stage, Ready, Begun, Awaits, Hand, Owing, Ledger, Goes}
+use Rattle.dmr_gateway.specs.AttemptMeaning.{burst_at_place, bursts_of, goes, goes_on, hand_bursts, try_stands, answer_stands}
+use Rattle.dmr_gateway.specs.AttemptMeaning.{first_frame, cut_answer, cut_in_stage, due_try, over, rests, answer_bursts}
+use Rattle.dmr_gateway.specs.AttemptMeaning.{waiting_goes}
+use Rattle.dmr_gateway.specs.AttemptMeaning.{told, answered_in_stage, is_fitting, judged, waits, ledger_owes, ledger_takes_head}
+use Rattle.dmr_gateway.specs.AttemptMeaning.{ledger_takes}
 use Rattle.dmr_gateway.specs.Courses.{is_answer, HasNothingDue}
 use Rattle.dmr_gateway.proofs.Attempting.{NotBegun, FitsBoth, BothHand}
 

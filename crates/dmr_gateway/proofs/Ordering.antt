@@ -3,8 +3,8 @@ use Rattle.std.proofs.Common.{◌≡◌, Bool, Option, refl, ◌∙◌, ap, subs
 use Rattle.dmr_burst.specs.declared.burst.Burst.{Burst}
 use Rattle.dmr_gateway.specs.declared.heard.Heard.{Heard}
 use Rattle.dmr_gateway.specs.BothSlots.{SlotTurn, AreAskedInTurn, InEitherOrder}
-use Rattle.dmr_gateway.specs.Gateway.{Gate, IsAskedFor, IsNext, after_next}
-use Rattle.dmr_gateway.specs.Side.{side_hears}
+use Rattle.dmr_gateway.specs.GatewayRules.{Gate, IsAskedFor, IsNext, after_next}
+use Rattle.dmr_gateway.specs.SideRules.{side_hears}
 
 -- What is left where a slot has heard.
 abbrev hearing_1 : Heard → Gate → Gate

@@ -5,13 +5,13 @@ use Rattle.dmr_burst.specs.declared.burst.Burst.{Burst}
 use Rattle.dmr_arq.specs.declared.sender.Outcome.{Outcome}
 use Rattle.dmr_record.specs.declared.outgoing.Outgoing.{Outgoing}
 use Rattle.dmr_gateway.specs.declared.received.Received.{Received}
-use Rattle.dmr_gateway.specs.Attempts.{attempts, refused_now}
+use Rattle.dmr_gateway.specs.AttemptMeaning.{attempts, refused_now}
 use Rattle.dmr_gateway.specs.Bursts.{IsGatewayOut}
-use Rattle.dmr_gateway.specs.Gateway.{Gate, new_gate, IsSlot, AreOffered, IsAskedFor, Offers, faults_in}
+use Rattle.dmr_gateway.specs.GatewayRules.{Gate, new_gate, IsSlot, AreOffered, IsAskedFor, Offers, faults_in}
 use Rattle.dmr_gateway.specs.Heard.{IsHeardByGateway}
-use Rattle.dmr_gateway.specs.Records.{received_now}
+use Rattle.dmr_gateway.specs.RecordMeaning.{received_now}
 use Rattle.dmr_gateway.specs.Runs.{Happening, all_heard, brings, side_after}
-use Rattle.dmr_gateway.specs.Side.{all_taken, all_received, side_outcome}
+use Rattle.dmr_gateway.specs.SideRules.{all_taken, all_received, side_outcome}
 
 -- 1. By the calls.
 

@@ -4,9 +4,10 @@ use Rattle.std.specs.Prelude.{is_some}
 use Rattle.std.specs.Prelude.{if◌then◌else◌}
 use Rattle.std.specs.List.{AllByRecursion}
 use Rattle.dmr_gateway.specs.declared.outbox.SlotBurst.{SlotBurst}
-use Rattle.dmr_gateway.specs.Attempts.{AnswerOrTry, Answers, Tries, Attempt, Stage, Ready, Begun, Awaits, Hand, Ledger, Brings}
-use Rattle.dmr_gateway.specs.Attempts.{attempts}
-use Rattle.dmr_gateway.specs.Attempts.{burst_at_place, bursts_of}
+use Rattle.dmr_gateway.specs.AttemptMeaning.{AnswerOrTry, Answers, Tries, Attempt, Stage, Ready, Begun, Awaits, Hand, Ledger}
+use Rattle.dmr_gateway.specs.AttemptMeaning.{Brings}
+use Rattle.dmr_gateway.specs.AttemptMeaning.{attempts}
+use Rattle.dmr_gateway.specs.AttemptMeaning.{burst_at_place, bursts_of}
 
 -- 1. The frames of a run, by their numbers.
 

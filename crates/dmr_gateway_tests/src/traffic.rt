@@ -1,7 +1,7 @@
 //! Bursts that tests send to a gateway, and what they read of its own. The gateway's LLID is 1.
 ghost use Rattle.std.specs.Prelude.{◌<◌, ◌^◌};
 ghost use Rattle.dmr_data.specs.Header.{IsFitHeader};
-ghost use Rattle.dmr_gateway.specs.Gateway.{IsSlot};
+ghost use Rattle.dmr_gateway.specs.GatewayRules.{IsSlot};
 
 use dmr_bits::Bits;
 use dmr_bptc::{bptc_decode, bptc_encode};

@@ -5,8 +5,8 @@ use Rattle.std.proofs.Common.{append_assoc, eq-or-lt_of_le, ne_eqb}
 use Rattle.std.proofs.lemmas.List.{drop-append-le, drop_all, length-append, length-drop, length-map, length_push, map-append}
 use Rattle.std.proofs.lemmas.List.{take-append-le}
 use Rattle.std.specs.Io.KnownBytes.{Consumes}
-use Rattle.dmr_listing.specs.Entries.{place_by_number}
-use Rattle.dmr_listing.specs.Listings.{Gains, IsListed, Lists, ListingTurn, begun, turn_after, turn_passed}
+use Rattle.dmr_listing.specs.ListingMeaning.{place_by_number}
+use Rattle.dmr_listing.specs.ListingRules.{Gains, IsListed, Lists, ListingTurn, begun, turn_after, turn_passed}
 use Rattle.dmr_listing.specs.Marks.{mark_of}
 use Rattle.dmr_listing.specs.Recordings.{IsSlotOf, RecordedSlot, spelling}
 use Rattle.dmr_listing.specs.Strips.{AreStrips, IsDrawn, IsGivenWhereFull, IsMarkAt, IsStripOf, IsStripped, Picture}

@@ -7,8 +7,8 @@ use Rattle.std.proofs.lemmas.List.Concat.{flat_map-append}
 use Rattle.std.specs.List.{flat_map}
 use Rattle.std.specs.Io.KnownBytes.{Consumes}
 use Rattle.std.proofs.KnownBytes.{Consumes-trans, Consumes-nil}
-use Rattle.dmr_listing.specs.Listings.{Gains, IsLineAt, IsListed, Lists, ListingTurn, begun, turn_after, turn_passed}
-use Rattle.dmr_listing.specs.Entries.{entries, octet_behind}
+use Rattle.dmr_listing.specs.ListingRules.{Gains, IsLineAt, IsListed, Lists, ListingTurn, begun, turn_after, turn_passed}
+use Rattle.dmr_listing.specs.ListingMeaning.{entries, octet_behind}
 use Rattle.dmr_listing.specs.declared.place.Place.{Place}
 use Rattle.dmr_listing.specs.Recordings.{IsBurstOf, IsSlotOf, RecordedSlot, most_slots_of, spelling}
 use Rattle.dmr_listing.specs.declared.burst_line.BurstLine.{BurstLine}

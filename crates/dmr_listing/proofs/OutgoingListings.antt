@@ -8,8 +8,8 @@ use Rattle.std.specs.Io.KnownBytes.{Consumes}
 use Rattle.std.proofs.KnownBytes.{Consumes-trans, Consumes-nil}
 use Rattle.dmr_record.specs.Outgoing.{AreInFrameOrder, IsSending, Keeps, Sending, sending_octets, sending_of, sendings_octets}
 use Rattle.dmr_record.specs.declared.outgoing.Outgoing.{Outgoing}
-use Rattle.dmr_listing.specs.Entries.{octet_behind}
-use Rattle.dmr_listing.specs.Listings.{Gains}
+use Rattle.dmr_listing.specs.ListingMeaning.{octet_behind}
+use Rattle.dmr_listing.specs.ListingRules.{Gains}
 use Rattle.dmr_listing.specs.OutgoingListings.{AreReadOf, IsListed, IsReadOf, frame_of_last}
 use Rattle.dmr_listing.proofs.Listings.{Gains-none, Gains-trans}
 

@@ -8,8 +8,8 @@ use Rattle.std.specs.Io.KnownBytes.{Consumes}
 use Rattle.std.proofs.KnownBytes.{Consumes-trans, Consumes-nil}
 use Rattle.dmr_record.specs.Received.{FollowEachOther, ReceivedFields, Follows, IsReadable, Receipt, received_fields}
 use Rattle.dmr_record.specs.Received.{receipt_octets, receipts_octets}
-use Rattle.dmr_listing.specs.Entries.{octet_behind}
-use Rattle.dmr_listing.specs.Listings.{Gains}
+use Rattle.dmr_listing.specs.ListingMeaning.{octet_behind}
+use Rattle.dmr_listing.specs.ListingRules.{Gains}
 use Rattle.dmr_listing.specs.ReceivedListings.{IsListed, last_fields}
 use Rattle.dmr_listing.proofs.Listings.{Gains-none, Gains-trans}
 

@@ -1,10 +1,10 @@
 pub mod Activity
 pub mod Contents
 pub mod Endings
-pub mod Entries
 pub mod Fragments
 pub mod Lines
-pub mod Listings
+pub mod ListingMeaning
+pub mod ListingRules
 pub mod Marks
 pub mod OutgoingListings
 pub mod ReceivedListings

@@ -6,8 +6,8 @@ use Rattle.dmr_record.specs.Outgoing.{AreInFrameOrder, IsSending, Keeps, Sending
 use Rattle.dmr_record.specs.Outgoing.{sendings_octets}
 use Rattle.dmr_record.specs.declared.outgoing.Outgoing.{Outgoing}
 use Rattle.dmr_record.specs.Limits.{record_limit}
-use Rattle.dmr_listing.specs.Entries.{octet_behind}
-use Rattle.dmr_listing.specs.Listings.{Gains}
+use Rattle.dmr_listing.specs.ListingMeaning.{octet_behind}
+use Rattle.dmr_listing.specs.ListingRules.{Gains}
 use Rattle.dmr_listing.specs.declared.fault_line.FaultLine.{FaultLine}
 
 -- A record that was read is this one: all of it but the octets that aren't kept.

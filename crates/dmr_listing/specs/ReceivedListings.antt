@@ -5,8 +5,8 @@ use Rattle.std.specs.List.{AllByRecursion}
 use Rattle.dmr_record.specs.Received.{FollowEachOther, ReceivedFields, IsReadable, Receipt, ShowsReceivedFault, received_fields}
 use Rattle.dmr_record.specs.Received.{most_receipts}
 use Rattle.dmr_record.specs.Received.{receipt_octets, receipts_octets}
-use Rattle.dmr_listing.specs.Entries.{octet_behind}
-use Rattle.dmr_listing.specs.Listings.{Gains}
+use Rattle.dmr_listing.specs.ListingMeaning.{octet_behind}
+use Rattle.dmr_listing.specs.ListingRules.{Gains}
 use Rattle.dmr_listing.specs.declared.fault_line.FaultLine.{FaultLine}
 
 -- the fields of the last record, or these of none

@@ -1,8 +1,8 @@
 -- What strips show of a recording: what stands in each slot, frame by frame, and each once.
 use Rattle.std.specs.Prelude.{◌≡◌, ◌==◌, ℕ, ◌+◌, ◌*◌, ◌/◌, ◌≤◌, ◌<◌, ◌&&◌, Bool, List, [], ◌∷◌, ◌++◌, Option, Some, None, take}
 use Rattle.std.specs.Prelude.{length, map, drop, nat_le, if◌then◌else◌}
-use Rattle.dmr_listing.specs.Entries.{octet_behind, place_by_number}
-use Rattle.dmr_listing.specs.Listings.{Gains, IsLineAt, IsListed, ListingTurn, turn_after, turn_passed}
+use Rattle.dmr_listing.specs.ListingMeaning.{octet_behind, place_by_number}
+use Rattle.dmr_listing.specs.ListingRules.{Gains, IsLineAt, IsListed, ListingTurn, turn_after, turn_passed}
 use Rattle.dmr_listing.specs.Marks.{mark_of}
 use Rattle.dmr_listing.specs.Recordings.{ShowsSlotFaultOf, RecordedSlot, spelling}
 use Rattle.dmr_listing.specs.declared.burst_line.BurstLine.{BurstLine}

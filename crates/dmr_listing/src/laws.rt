@@ -1,7 +1,7 @@
 //! Laws of what a listing shows, as the contracts of functions that do nothing.
 ghost use Rattle.std.specs.Prelude.{◌≡◌, ◌↔◌, List, Option, Some, map};
-ghost use Rattle.dmr_listing.specs.Entries.{entries};
-ghost use Rattle.dmr_listing.specs.Listings.{Lists, ListingTurn, begun};
+ghost use Rattle.dmr_listing.specs.ListingMeaning.{entries};
+ghost use Rattle.dmr_listing.specs.ListingRules.{Lists, ListingTurn, begun};
 ghost use Rattle.dmr_listing.specs.Recordings.{RecordedSlot};
 ghost use Rattle.dmr_listing.specs.VoicePlace.{voice_place_of, StandsIn};
 ghost use Rattle.dmr_listing.specs.declared.burst_line.BurstLine.{BurstLine};

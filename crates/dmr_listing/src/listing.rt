@@ -4,7 +4,7 @@ ghost use Rattle.std.specs.Io.KnownBytes.{IsAtEnd};
 ghost use Rattle.dmr_record.specs.Devices.{failed_after};
 ghost use Rattle.dmr_record.specs.Faults.{is_of_end, is_device_fault};
 ghost use Rattle.dmr_listing.specs.Endings.{IfFile, IfNotWritten};
-ghost use Rattle.dmr_listing.specs.Listings.{Gains, IsListed, IsListedUpToFault, IsListedUpToLine, ListingTurn};
+ghost use Rattle.dmr_listing.specs.ListingRules.{Gains, IsListed, IsListedUpToFault, IsListedUpToLine, ListingTurn};
 ghost use Rattle.dmr_listing.specs.Recordings.{RecordedSlot};
 ghost use Rattle.dmr_listing.specs.declared.burst_line.BurstLine.{BurstLine as Line};
 

@@ -6,7 +6,7 @@ ghost use Rattle.dmr_record.specs.Faults.{is_of_end, is_device_fault};
 ghost use Rattle.dmr_record.specs.Outgoing.{Sending};
 ghost use Rattle.dmr_record.specs.declared.outgoing.Outgoing.{Outgoing as OutgoingRecord};
 ghost use Rattle.dmr_listing.specs.Endings.{IfFile, IfNotWritten};
-ghost use Rattle.dmr_listing.specs.Listings.{Gains};
+ghost use Rattle.dmr_listing.specs.ListingRules.{Gains};
 ghost use Rattle.dmr_listing.specs.OutgoingListings.{IsListed, IsListedUpToFault, IsListedUpToLine};
 
 use crate::fault_line::FaultLine;

@@ -1,6 +1,6 @@
 //! Where a burst or a record stands in time.
 ghost use Rattle.std.specs.Prelude.{◌≡◌};
-ghost use Rattle.dmr_listing.specs.Entries.{milliseconds, place_by_number};
+ghost use Rattle.dmr_listing.specs.ListingMeaning.{milliseconds, place_by_number};
 
 use arrayvec::ArrayString;
 use std::fmt;

@@ -5,7 +5,7 @@ ghost use Rattle.dmr_record.specs.Devices.{failed_after};
 ghost use Rattle.dmr_record.specs.Faults.{is_of_end, is_device_fault};
 ghost use Rattle.dmr_record.specs.Received.{Receipt, receipt_of};
 ghost use Rattle.dmr_listing.specs.Endings.{IfFile, IfNotWritten};
-ghost use Rattle.dmr_listing.specs.Listings.{Gains};
+ghost use Rattle.dmr_listing.specs.ListingRules.{Gains};
 ghost use Rattle.dmr_listing.specs.ReceivedListings.{IsListed, IsListedUpToFault, IsListedUpToLine};
 
 use crate::fault_line::FaultLine;

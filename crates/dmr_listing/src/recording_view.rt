@@ -1,6 +1,6 @@
 //! The lines of a recording, slot by slot.
 ghost use Rattle.std.specs.Prelude.{◌≡◌, ◌+◌, ◌-◌, ◌^◌, ◌<◌};
-ghost use Rattle.dmr_listing.specs.Listings.{IsLineAt, begun, turn_after, turn_passed};
+ghost use Rattle.dmr_listing.specs.ListingRules.{IsLineAt, begun, turn_after, turn_passed};
 ghost use Rattle.dmr_listing.specs.Strips.{IsMarkAt};
 
 use crate::burst_line::BurstLine;
@@ -24,7 +24,7 @@ pub(crate) struct RecordingView {
 
 // Clauses see all four.
 impl Model for RecordingView {
-    ghost use Rattle.dmr_listing.specs.Listings.{ListingTurn};
+    ghost use Rattle.dmr_listing.specs.ListingRules.{ListingTurn};
 
     ghost Value = { ListingTurn };
 

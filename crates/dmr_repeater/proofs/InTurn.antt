@@ -8,14 +8,14 @@ use Rattle.std.proofs.lemmas.Bool.{cases_lt}
 use Rattle.std.proofs.lemmas.List.Elements.{filter-append}
 use Rattle.dmr_record.specs.Head.{outgoing_magic}
 use Rattle.dmr_record.specs.Head.{head_octets}
-use Rattle.dmr_gateway.specs.Gateway.{IsSlot}
+use Rattle.dmr_gateway.specs.GatewayRules.{IsSlot}
 use Rattle.dmr_station.proofs.Exchanges.{offer_count}
 use Rattle.dmr_repeater.specs.Runs.{ReadsRecords, from_frame}
 use Rattle.dmr_repeater.proofs.Records.{All-append, AreDue-later, Gives-same, Gives-trans}
 use Rattle.std.specs.Io.KnownBytes.{Consumes}
 use Rattle.dmr_record.specs.declared.outgoing.Outgoing.{Outgoing}
 use Rattle.dmr_record.specs.Outgoing.{Sending, IsSending, AreInFrameOrder, sendings_octets}
-use Rattle.dmr_station.specs.GatewayFrames.{IsReadOutgoing, AreReadFrom, AreForSlots, by_frame}
+use Rattle.dmr_station.specs.GatewayMeaning.{IsReadOutgoing, AreReadFrom, AreForSlots, by_frame}
 use Rattle.dmr_station.specs.Pairs.{Pairwise}
 use Rattle.dmr_repeater.specs.Schedule.{ReadingProgress, unread, waiting, last_frame, Gives, AreDue, GivesDue, IsPast}
 use Rattle.dmr_repeater.specs.Schedule.{AreOfferedInTurn}

@@ -4,11 +4,11 @@ use Rattle.std.specs.List.{AllByRecursion}
 use Rattle.std.proofs.lemmas.List.Elements.{All-from_recursion}
 use Rattle.dmr_hearing.specs.Recorded.{IsSilenceOr33Octets}
 use Rattle.dmr_record.specs.Uplink.{IsFrame}
-use Rattle.dmr_station.specs.Downlink.{slots_in}
+use Rattle.dmr_station.specs.DownlinkRules.{slots_in}
 use Rattle.dmr_voice.proofs.Law.{repeats_what_is_meant}
 use Rattle.dmr_voice.proofs.OneMeaning.{one_meaning as one_meaning_of_slots}
 use Rattle.dmr_voice.specs.DamagedRecordings.{meant}
-use Rattle.dmr_voice.specs.Transmissions.{sent_list}
+use Rattle.dmr_voice.specs.CallMeaning.{sent_list}
 use Rattle.dmr_station.proofs.OneReception.{same_meaning}
 use Rattle.dmr_repeater.specs.Headline.{HasOneMeaning}
 

@@ -5,12 +5,12 @@ use Rattle.std.specs.List.{flat_map}
 use Rattle.std.specs.Io.KnownBytes.{Appends}
 use Rattle.std.proofs.KnownBytes.{Appends-trans, Appends-nil}
 use Rattle.std.proofs.lemmas.List.{length-append}
-use Rattle.dmr_gateway.specs.Gateway.{Gate, next_received, after_received}
+use Rattle.dmr_gateway.specs.GatewayRules.{Gate, next_received, after_received}
 use Rattle.dmr_gateway.specs.declared.received.Received.{Received}
 use Rattle.dmr_record.specs.Devices.{Tears}
 use Rattle.dmr_record.specs.Received.{receipt_octets}
-use Rattle.dmr_station.specs.Frames.{received_of, received_taken}
-use Rattle.dmr_station.specs.GatewayFrames.{receipt_in}
+use Rattle.dmr_station.specs.StationRules.{received_of, received_taken}
+use Rattle.dmr_station.specs.GatewayMeaning.{receipt_in}
 use Rattle.dmr_station.specs.Station.{State, taken_once, all_received_taken}
 use Rattle.dmr_station.proofs.Taking.{received_step, taken_step, nothing_waits}
 use Rattle.dmr_repeater.specs.Runs.{FrontOf}

@@ -1,5 +1,5 @@
 -- What the numbers of a run count.
-use Rattle.dmr_station.specs.Frames.{Counts}
+use Rattle.dmr_station.specs.StationRules.{Counts}
 use Rattle.dmr_repeater.specs.declared.summary.Summary.{Summary}
 
 -- what the gateway did

@@ -1,6 +1,6 @@
 -- What was read of a recording whose strips were given.
 use Rattle.std.specs.Prelude.{◌≡◌, ◌*◌, ℕ, List, [], Option, None, length}
-use Rattle.dmr_listing.specs.Listings.{IsListedUpToFault, ListingTurn}
+use Rattle.dmr_listing.specs.ListingRules.{IsListedUpToFault, ListingTurn}
 use Rattle.dmr_listing.specs.Recordings.{RecordedSlot}
 use Rattle.dmr_listing.specs.Strips.{IsStripped, IsStrippedUpToFault}
 use Rattle.dmr_listing.specs.declared.fault_line.FaultLine.{FaultLine}

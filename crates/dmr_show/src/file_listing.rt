@@ -3,7 +3,7 @@ ghost use Rattle.std.specs.Prelude.{◌≡◌, ◌≤◌, ◌⊎◌, true, false
 ghost use Rattle.std.specs.Io.KnownBytes.{IsAtEnd};
 ghost use Rattle.dmr_record.specs.Faults.{is_of_end, is_device_fault};
 ghost use Rattle.dmr_listing.specs.Endings.{IfFile, IfNotWritten};
-ghost use Rattle.dmr_listing.specs.Listings.{IsListedUpToFault};
+ghost use Rattle.dmr_listing.specs.ListingRules.{IsListedUpToFault};
 ghost use Rattle.dmr_show.specs.Showing.{BeginsWithStrip, IsHeadFault, IsFileRead, IsReadUpToFault, IsReadWhole, IsRecordFault};
 ghost use Rattle.dmr_show.specs.Showing.{IsRecordingRead, IsShownWhole, has_strip};
 

@@ -8,12 +8,12 @@ use Rattle.dmr_hearing.specs.Slots.{silence}
 use Rattle.dmr_hearing.specs.declared.heard.Heard.{Heard}
 use Rattle.dmr_hearing.proofs.HeardAsBoth.{silent as quiet_sent}
 use Rattle.dmr_link.specs.declared.full_lc.FullLc.{FullLc}
-use Rattle.dmr_voice.specs.Rules.{step_of, nothing_repeated}
+use Rattle.dmr_voice.specs.CallRules.{step_of, nothing_repeated}
 use Rattle.dmr_voice.specs.declared.place.Place.TheVariants.{A, B, C, D, E, F}
 use Rattle.dmr_voice.specs.declared.said.Said.{Said}
 use Rattle.dmr_voice.specs.declared.track.Track.{Track}
 use Rattle.dmr_voice.specs.declared.track.Track.TheVariants.{Idle, AfterHeader, Gap, InCall}
-use Rattle.dmr_slot.specs.Push.{LineMemory, EndsSilent, IsPush, moved}
+use Rattle.dmr_slot.specs.LineRules.{LineMemory, EndsSilent, IsPush, moved}
 use Rattle.dmr_slot.specs.declared.line.SlotOut.{SlotOut}
 
 silent_front : (front window : List Heard) → window ≡ front ++ replicate 6 silence → length front + 6 ≡ 6

@@ -3,10 +3,10 @@ use Rattle.std.proofs.Common.{◌≡◌, ℕ, suc, ◌+◌, ◌%◌, ◌==◌, B
 use Rattle.std.proofs.Common.{refl, sym, ap, ◌∙◌, subst, arith}
 use Rattle.std.proofs.lemmas.List.{length-map}
 use Rattle.dmr_burst.specs.declared.burst.Burst.{Burst}
-use Rattle.dmr_slot.specs.Channel.{Claim, ChannelOut, claims_of, frame_of, channel_frames, has_traffic_within}
+use Rattle.dmr_slot.specs.ChannelMeaning.{Claim, ChannelOut, claims_of, frame_of, channel_frames, has_traffic_within}
 use Rattle.dmr_slot.specs.Clean.{AreCleanBursts, line_burst}
-use Rattle.dmr_slot.specs.Frames.{AreSent}
-use Rattle.dmr_slot.specs.Push.{LineMemory as Line, ArePushed}
+use Rattle.dmr_slot.specs.ChannelRules.{AreSent}
+use Rattle.dmr_slot.specs.LineRules.{LineMemory as Line, ArePushed}
 use Rattle.dmr_slot.specs.declared.line.SlotOut.{SlotOut}
 use Rattle.dmr_slot.proofs.CleanLines.{pushed_lines_are_clean}
 use Rattle.dmr_slot.proofs.Cleaning.{ArePairs, AllFramesSent, both_clean, firsts, frame_claims, seconds}
@@ -15,12 +15,12 @@ use Rattle.dmr_station.specs.declared.announcing.Message.{Message}
 use Rattle.dmr_station.specs.declared.sending.DownlinkBurst.{DownlinkBurst}
 use Rattle.dmr_station.specs.Clean.{AreCleanSlots, IsCleanCach, IsCleanDownlink, IsEncodedAs, burst_sent, bursts_in, first_slots}
 use Rattle.dmr_station.specs.Clean.{second_slots}
-use Rattle.dmr_station.specs.Downlink.{Makes, slots_of, slots_in, frames_in, claims_in, marked_frames}
+use Rattle.dmr_station.specs.DownlinkRules.{Makes, slots_of, slots_in, frames_in, claims_in, marked_frames}
 use Rattle.dmr_record.specs.Outgoing.{Sending}
 use Rattle.dmr_record.specs.Received.{Receipt}
 use Rattle.dmr_gateway.specs.Runs.{Happening}
-use Rattle.dmr_station.specs.GatewayFrames.{Given, AreGiven, gates_of}
-use Rattle.dmr_station.specs.Frames.{Settings, Counts, slot_in, marked}
+use Rattle.dmr_station.specs.GatewayMeaning.{Given, AreGiven, gates_of}
+use Rattle.dmr_station.specs.StationRules.{Settings, Counts, slot_in, marked}
 use Rattle.dmr_station.proofs.CleanGate.{clean_givens, gate_pairs, first_gates, second_gates}
 use Rattle.dmr_station.proofs.Made.{given_length}
 use Rattle.dmr_station.specs.Pairs.{Pairwise}

@@ -5,16 +5,16 @@ use Rattle.dmr_burst.specs.declared.burst.Burst.{Burst}
 use Rattle.dmr_slot.specs.declared.line.SlotOut.{SlotOut}
 use Rattle.dmr_station.specs.declared.announcing.Message.{Message}
 use Rattle.dmr_station.specs.declared.sending.DownlinkBurst.{DownlinkBurst}
-use Rattle.dmr_station.specs.Downlink.{is_repeated, repeated_count, slots_of}
-use Rattle.dmr_gateway.specs.Gateway.{Gate, refusal}
-use Rattle.dmr_gateway.specs.Gateway as gateway
+use Rattle.dmr_station.specs.DownlinkRules.{is_repeated, repeated_count, slots_of}
+use Rattle.dmr_gateway.specs.GatewayRules.{Gate, refusal}
+use Rattle.dmr_gateway.specs.GatewayRules as gateway
 use Rattle.dmr_gateway.specs.declared.received.Received.{Received}
 use Rattle.dmr_record.specs.declared.outgoing.Outgoing.{Outgoing}
-use Rattle.dmr_station.specs.Downlink.{Makes}
-use Rattle.dmr_station.specs.Frames.{StationMemory, Counts, FrameGiven, marked_slots, IsAsked, IsPassed, ArePassed, given_of}
-use Rattle.dmr_station.specs.Frames.{received_of}
-use Rattle.dmr_station.specs.Frames.{outcomes_to_tell, received_taken, outcomes_told, added, all_counted, counted_frame}
-use Rattle.dmr_station.specs.Frames.{nothing_counted}
+use Rattle.dmr_station.specs.DownlinkRules.{Makes}
+use Rattle.dmr_station.specs.StationRules.{StationMemory, Counts, FrameGiven, marked_slots, IsAsked, IsPassed, ArePassed, given_of}
+use Rattle.dmr_station.specs.StationRules.{received_of}
+use Rattle.dmr_station.specs.StationRules.{outcomes_to_tell, received_taken, outcomes_told, added, all_counted, counted_frame}
+use Rattle.dmr_station.specs.StationRules.{nothing_counted}
 use Rattle.dmr_station.specs.Sent.{AreSentAs}
 use Rattle.dmr_station.specs.Station.{State, fresh, IsOffered, AreOfferedOneByOne, after_offer, IsExchanged, AreExchanged}
 use Rattle.dmr_station.specs.Station.{records_of, receipts_from}

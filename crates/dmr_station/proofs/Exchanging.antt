@@ -7,20 +7,20 @@ use Rattle.std.proofs.lemmas.List.Sums.{sum_by-cons}
 use Rattle.dmr_burst.specs.declared.burst.Burst.{Burst}
 use Rattle.dmr_record.specs.Outgoing.{Sending}
 use Rattle.dmr_record.specs.declared.outgoing.Outgoing.{Outgoing}
-use Rattle.dmr_slot.specs.Channel.{claims_of}
-use Rattle.dmr_slot.specs.Frames.{OnAir, frame_out, frames_out, after_frame, AreSent}
-use Rattle.dmr_slot.specs.Push.{LineMemory as Line, ArePushed}
+use Rattle.dmr_slot.specs.ChannelMeaning.{claims_of}
+use Rattle.dmr_slot.specs.ChannelRules.{OnAir, frame_out, frames_out, after_frame, AreSent}
+use Rattle.dmr_slot.specs.LineRules.{LineMemory as Line, ArePushed}
 use Rattle.dmr_slot.specs.declared.line.SlotOut.{SlotOut}
-use Rattle.dmr_gateway.specs.Gateway.{Gate, IsSlot}
-use Rattle.dmr_gateway.specs.Attempts.{refused_now}
+use Rattle.dmr_gateway.specs.GatewayRules.{Gate, IsSlot}
+use Rattle.dmr_gateway.specs.AttemptMeaning.{refused_now}
 use Rattle.dmr_gateway.specs.Runs.{Happening, brings}
-use Rattle.dmr_gateway.specs.Side.{all_received, side_outcome}
+use Rattle.dmr_gateway.specs.SideRules.{all_received, side_outcome}
 use Rattle.dmr_gateway.specs.BothSlots.{SlotTurn, Stands, FrameAsMeant, IsFrameOfBothSlots}
 use Rattle.dmr_gateway.proofs.BothSlots.{frames_as_meant}
-use Rattle.dmr_station.specs.Downlink.{slots_in, frames_in, claims_in, marked_frames}
-use Rattle.dmr_station.specs.GatewayFrames.{AreReadFrom, AreForSlots}
-use Rattle.dmr_station.specs.GatewayFrames.{of_slot, record_fault, record_faults, Given, AreGiven, Happens, IsGiven, gates_of}
-use Rattle.dmr_station.specs.Frames.{Settings, StationMemory, FrameGiven, IsAsked, IsPassed, ArePassed, taken_of, is_free}
+use Rattle.dmr_station.specs.DownlinkRules.{slots_in, frames_in, claims_in, marked_frames}
+use Rattle.dmr_station.specs.GatewayMeaning.{AreReadFrom, AreForSlots}
+use Rattle.dmr_station.specs.GatewayMeaning.{of_slot, record_fault, record_faults, Given, AreGiven, Happens, IsGiven, gates_of}
+use Rattle.dmr_station.specs.StationRules.{Settings, StationMemory, FrameGiven, IsAsked, IsPassed, ArePassed, taken_of, is_free}
 use Rattle.dmr_station.specs.Pairs.{Pairwise}
 use Rattle.dmr_station.specs.declared.announcing.Message.{Message}
 use Rattle.dmr_station.specs.declared.sending.DownlinkBurst.{DownlinkBurst}

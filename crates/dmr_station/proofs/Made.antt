@@ -2,9 +2,9 @@
 use Rattle.std.proofs.Common.{◌≡◌, ℕ, List, [], ◌∷◌, ◌++◌, length, map, replicate, Option, None, refl, sym, ap, ◌∙◌, subst, arith}
 use Rattle.std.proofs.lemmas.List.{map-append, length-map}
 use Rattle.dmr_burst.specs.declared.burst.Burst.{Burst}
-use Rattle.dmr_slot.specs.Channel.{ChannelOut, channel_frames}
-use Rattle.dmr_slot.specs.Frames.{AreSent}
-use Rattle.dmr_slot.specs.Push.{LineMemory as Line, silent_line, ArePushed}
+use Rattle.dmr_slot.specs.ChannelMeaning.{ChannelOut, channel_frames}
+use Rattle.dmr_slot.specs.ChannelRules.{AreSent}
+use Rattle.dmr_slot.specs.LineRules.{LineMemory as Line, silent_line, ArePushed}
 use Rattle.dmr_slot.specs.Recordings.{handed_slots}
 use Rattle.dmr_slot.specs.declared.line.SlotOut.{SlotOut}
 use Rattle.dmr_slot.proofs.Channels.{looks_back}
@@ -13,25 +13,25 @@ use Rattle.dmr_slot.proofs.Fronts.{front_of_any_line, front_of_what_is_meant}
 use Rattle.dmr_slot.proofs.Unique.{one_sent}
 use Rattle.dmr_voice.proofs.Law.{repeats_what_is_meant}
 use Rattle.dmr_voice.specs.DamagedRecordings.{IsDamagedRecordingOf}
-use Rattle.dmr_voice.specs.Transmissions.{Transmission, sent_list}
+use Rattle.dmr_voice.specs.CallMeaning.{Transmission, sent_list}
 use Rattle.dmr_voice.specs.WellFormed.{IsWellFormed}
 use Rattle.dmr_station.specs.declared.announcing.Message.{Message}
 use Rattle.dmr_station.specs.declared.sending.DownlinkBurst.{DownlinkBurst}
-use Rattle.dmr_station.specs.Downlink.{slots_in, frames_in, claims_in, marked_frames, IsDownlinkOf, IsPushedLine, Makes}
-use Rattle.dmr_station.specs.Downlink.{silent_frame}
-use Rattle.dmr_station.specs.Downlink.{handed_frames}
+use Rattle.dmr_station.specs.DownlinkRules.{slots_in, frames_in, claims_in, marked_frames, IsDownlinkOf, IsPushedLine, Makes}
+use Rattle.dmr_station.specs.DownlinkRules.{silent_frame}
+use Rattle.dmr_station.specs.DownlinkRules.{handed_frames}
 use Rattle.std.specs.List.{AllByRecursion}
 use Rattle.dmr_gateway.specs.Runs.{Happening}
 use Rattle.dmr_gateway.specs.BothSlots.{Stands}
 use Rattle.dmr_gateway.proofs.BothSlots.{starts as starts_there}
 use Rattle.dmr_record.specs.Outgoing.{Sending}
 use Rattle.dmr_record.specs.declared.outgoing.Outgoing.{Outgoing}
-use Rattle.dmr_station.specs.GatewayFrames.{AreReadFrom, AreForSlots, Given, AreGiven, gates_of}
-use Rattle.dmr_station.specs.Frames.{Settings, StationMemory, FrameGiven, start, slot_in, ArePassed, all_counted}
+use Rattle.dmr_station.specs.GatewayMeaning.{AreReadFrom, AreForSlots, Given, AreGiven, gates_of}
+use Rattle.dmr_station.specs.StationRules.{Settings, StationMemory, FrameGiven, start, slot_in, ArePassed, all_counted}
 use Rattle.dmr_station.specs.Station.{receipts_from}
 use Rattle.dmr_station.proofs.Counting.{receipts_of_both, counted_of_both}
 use Rattle.dmr_station.proofs.Exchanging.{exchanged}
-use Rattle.dmr_station.specs.Meaning.{IsFrontOfWhatIsMeant, IsLineOfWhatIsMeant, SendsFrontOfWhatIsMeant, SendsWhatIsMeant}
+use Rattle.dmr_station.specs.DownlinkMeaning.{IsFrontOfWhatIsMeant, IsLineOfWhatIsMeant, SendsFrontOfWhatIsMeant, SendsWhatIsMeant}
 use Rattle.dmr_station.specs.Pairs.{Pairwise}
 use Rattle.dmr_station.proofs.LookingBack.{looks_back as messages_look_back, one_announced}
 

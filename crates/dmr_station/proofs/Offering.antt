@@ -4,13 +4,13 @@ use Rattle.std.proofs.Common.{is_some, refl, sym, ◌∙◌, ap, subst}
 use Rattle.std.proofs.lemmas.List.Sums.{sum_by-cons}
 use Rattle.dmr_record.specs.Outgoing.{Sending}
 use Rattle.dmr_record.specs.declared.outgoing.Outgoing.{Outgoing}
-use Rattle.dmr_gateway.specs.Gateway as gateway
+use Rattle.dmr_gateway.specs.GatewayRules as gateway
 use Rattle.dmr_gateway.specs.Packets.{IsPacketFor, IsOutgoingPacket, offer_fault}
 use Rattle.dmr_gateway.specs.Packets as asked
 use Rattle.dmr_gateway.specs.declared.fault.GatewayFault.{GatewayFault}
 use Rattle.dmr_gateway.specs.declared.queue.Queued.{Queued}
 use Rattle.dmr_gateway.proofs.Kept.{kept}
-use Rattle.dmr_station.specs.GatewayFrames.{IsReadOutgoing, of_slot, OffersOfRecords, OffersOne, record_fault, record_faults}
+use Rattle.dmr_station.specs.GatewayMeaning.{IsReadOutgoing, of_slot, OffersOfRecords, OffersOne, record_fault, record_faults}
 use Rattle.dmr_station.specs.Pairs.{Pairwise}
 
 -- a record and its datagram

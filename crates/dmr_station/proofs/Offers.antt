@@ -1,10 +1,10 @@
 -- A datagram that is offered is counted, and again where it is refused.
 use Rattle.std.proofs.Common.{◌≡◌, ℕ, ◌+◌, Result, ap, ◌∙◌, subst}
-use Rattle.dmr_gateway.specs.Gateway.{IsOffer, refusal}
+use Rattle.dmr_gateway.specs.GatewayRules.{IsOffer, refusal}
 use Rattle.dmr_gateway.specs.Packets.{fault_of}
 use Rattle.dmr_gateway.specs.declared.fault.GatewayFault.{GatewayFault}
 use Rattle.dmr_record.specs.declared.outgoing.Outgoing.{Outgoing}
-use Rattle.dmr_station.specs.Frames.{StationMemory}
+use Rattle.dmr_station.specs.StationRules.{StationMemory}
 use Rattle.dmr_station.specs.Station.{State, IsOffered, state_of}
 use Rattle.dmr_station.specs.declared.station.Counts.{Counts}
 

@@ -1,13 +1,13 @@
 -- What a slot means is heard in one way, and so a gateway receives one thing of it.
 use Rattle.std.proofs.Common.{◌≡◌, ℕ, Bool, List, [], ◌∷◌, Option, Some, None, refl, sym, ◌∙◌, ap, subst}
 use Rattle.dmr_gateway.specs.Heard.{Tells, IsReadByGateway}
-use Rattle.dmr_gateway.specs.Records.{received_now}
+use Rattle.dmr_gateway.specs.RecordMeaning.{received_now}
 use Rattle.dmr_gateway.specs.declared.heard.Heard.{Heard}
 use Rattle.dmr_gateway.specs.declared.received.Received.{Received}
 use Rattle.dmr_voice.specs.declared.said.Content.TheVariants.{Data, VoiceA, VoiceBToE, VoiceF}
 use Rattle.dmr_voice.specs.declared.said.Said.{Said}
 use Rattle.dmr_voice.specs.declared.said.Said.TheVariants.{Nothing, Repeat}
-use Rattle.dmr_station.specs.Meaning.{IsHeardOf, AreRecordsOf, IsSameMeaning}
+use Rattle.dmr_station.specs.DownlinkMeaning.{IsHeardOf, AreRecordsOf, IsSameMeaning}
 
 -- what is told is one thing
 pub told_alike : {X : Type 0} (a b : Option X) (P : X → Type 0) → Tells a P → Tells b P → a ≡ b

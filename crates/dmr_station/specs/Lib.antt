@@ -1,9 +1,9 @@
 pub mod Announced
 pub mod Clean
-pub mod Downlink
-pub mod Frames
-pub mod GatewayFrames
-pub mod Meaning
+pub mod DownlinkMeaning
+pub mod DownlinkRules
+pub mod GatewayMeaning
 pub mod Pairs
 pub mod Sent
 pub mod Station
+pub mod StationRules

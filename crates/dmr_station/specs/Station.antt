@@ -3,7 +3,7 @@ use Rattle.std.specs.Prelude.{ℕ, ◌≡◌, ◌+◌, ◌*◌, ◌^◌, ◌≤�
 use Rattle.std.specs.List.{AllByRecursion, flat_map}
 use Rattle.dmr_arq.specs.declared.sender.Outcome.{Outcome}
 use Rattle.dmr_arq.specs.declared.sender.Outcome.TheVariants.{Delivered, Sent, GivenUp}
-use Rattle.dmr_gateway.specs.Gateway.{Gate, IsOffer, refusal, next_received, after_received}
+use Rattle.dmr_gateway.specs.GatewayRules.{Gate, IsOffer, refusal, next_received, after_received}
 use Rattle.dmr_gateway.specs.Packets.{fault_of}
 use Rattle.dmr_gateway.specs.declared.fault.GatewayFault.{GatewayFault}
 use Rattle.dmr_gateway.specs.declared.received.Received.{Received}
@@ -13,11 +13,12 @@ use Rattle.dmr_record.specs.declared.outgoing.Outgoing.{Outgoing}
 use Rattle.dmr_station.specs.declared.sending.DownlinkBurst.{DownlinkBurst}
 use Rattle.dmr_station.specs.declared.station.Counts.{Counts as StationCounts}
 use Rattle.dmr_station.specs.Clean.{IsCleanDownlink}
-use Rattle.dmr_station.specs.Downlink.{repeated_count, slots_of, Makes}
-use Rattle.dmr_station.specs.Frames.{Settings, StationMemory, Counts, start, settings_in as settings_remembered, nothing_counted}
-use Rattle.dmr_station.specs.Frames.{outcome_count}
-use Rattle.dmr_station.specs.Frames.{IsAsked, received_of, outcomes_to_tell, received_taken, outcomes_told}
-use Rattle.dmr_station.specs.GatewayFrames.{AreReadFrom, AreForSlots, receipt_in}
+use Rattle.dmr_station.specs.DownlinkRules.{repeated_count, slots_of, Makes}
+use Rattle.dmr_station.specs.StationRules.{Settings, StationMemory, Counts, start, settings_in as settings_remembered}
+use Rattle.dmr_station.specs.StationRules.{nothing_counted}
+use Rattle.dmr_station.specs.StationRules.{outcome_count}
+use Rattle.dmr_station.specs.StationRules.{IsAsked, received_of, outcomes_to_tell, received_taken, outcomes_told}
+use Rattle.dmr_station.specs.GatewayMeaning.{AreReadFrom, AreForSlots, receipt_in}
 use Rattle.dmr_station.specs.Pairs.{Pairwise}
 use Rattle.dmr_station.specs.Sent.{AreSentAs}
 

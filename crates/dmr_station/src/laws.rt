@@ -4,9 +4,9 @@ ghost use Rattle.dmr_burst.specs.declared.burst.Burst.{Burst};
 ghost use Rattle.dmr_slot.specs.declared.line.SlotOut.{SlotOut};
 ghost use Rattle.dmr_station.specs.declared.sending.DownlinkBurst.{DownlinkBurst};
 ghost use Rattle.dmr_station.specs.Clean.{AreCleanSlots, IsCleanDownlink, IsEncodedAs, bursts_in};
-ghost use Rattle.dmr_station.specs.Downlink.{IsDownlinkOf};
-ghost use Rattle.dmr_station.specs.Frames.{Settings};
-ghost use Rattle.dmr_station.specs.Meaning.{SendsFrontOfWhatIsMeant, SendsWhatIsMeant};
+ghost use Rattle.dmr_station.specs.DownlinkRules.{IsDownlinkOf};
+ghost use Rattle.dmr_station.specs.StationRules.{Settings};
+ghost use Rattle.dmr_station.specs.DownlinkMeaning.{SendsFrontOfWhatIsMeant, SendsWhatIsMeant};
 ghost use Rattle.dmr_station.specs.Sent.{AreSentAs};
 ghost use Rattle.dmr_station.specs.Station.{SendsByTheRules};
 

@@ -1,9 +1,9 @@
 //! The lines of both slots, the channel that they share, and the gateway.
 ghost use Rattle.std.specs.Prelude.{◌≡◌, All, IfOk, IfSome};
 ghost use Rattle.dmr_burst.specs.Burst.{IsBurst};
-ghost use Rattle.dmr_gateway.specs.Gateway.{IsSlot};
+ghost use Rattle.dmr_gateway.specs.GatewayRules.{IsSlot};
 ghost use Rattle.dmr_station.specs.Announced.{IsFitMessage};
-ghost use Rattle.dmr_station.specs.Frames.{marked as marked_burst, marked_slots as marked_bursts, IsSlotAsked};
+ghost use Rattle.dmr_station.specs.StationRules.{marked as marked_burst, marked_slots as marked_bursts, IsSlotAsked};
 ghost use Rattle.dmr_station.specs.Sent.{FitsItsFields};
 
 use crate::announcing::{Announcer, Message};
@@ -29,7 +29,7 @@ pub struct Lines {
 impl Model for Lines {
     ghost use Rattle.std.specs.Prelude.{IfSome};
     ghost use Rattle.dmr_station.specs.Announced.{IsFitMessage};
-    ghost use Rattle.dmr_station.specs.Frames.{StationMemory};
+    ghost use Rattle.dmr_station.specs.StationRules.{StationMemory};
 
     ghost Value = { StationMemory };
 
@@ -45,13 +45,13 @@ impl Model for Lines {
 }
 
 impl Lines {
-    ghost use Rattle.dmr_gateway.specs.Gateway.{IsOffer, IsSlot};
+    ghost use Rattle.dmr_gateway.specs.GatewayRules.{IsOffer, IsSlot};
     ghost use Rattle.dmr_gateway.specs.Packets.{fault_of};
     ghost use Rattle.std.specs.Prelude.{◌↔◌, IsTrue, option_to_list};
     ghost use Rattle.std.specs.List.{flat_map};
-    ghost use Rattle.dmr_gateway.specs.Gateway.{HasNothingReceived, next_received, after_received};
+    ghost use Rattle.dmr_gateway.specs.GatewayRules.{HasNothingReceived, next_received, after_received};
     ghost use Rattle.dmr_gateway.specs.Received.{IsFitReceived};
-    ghost use Rattle.dmr_station.specs.Frames.{settings_of, start, IsAsked, outcomes_to_tell, outcomes_told};
+    ghost use Rattle.dmr_station.specs.StationRules.{settings_of, start, IsAsked, outcomes_to_tell, outcomes_told};
 
     /// Lines and a gateway that have heard nothing. They take memory here alone, for each slot, and then for the
     /// gateway.

@@ -1,8 +1,8 @@
 //! The base station, frame after frame.
 ghost use Rattle.std.specs.Prelude.{◌≡◌, ◌+◌, ◌*◌, ◌^◌, ◌<◌, ◌≤◌, IfOk, IfSome, option_to_list, if◌then◌else◌};
 ghost use Rattle.std.specs.List.{flat_map};
-ghost use Rattle.dmr_station.specs.Downlink.{is_repeated as slot_is_repeated, repeated_count};
-ghost use Rattle.dmr_station.specs.Frames.{outcome_count};
+ghost use Rattle.dmr_station.specs.DownlinkRules.{is_repeated as slot_is_repeated, repeated_count};
+ghost use Rattle.dmr_station.specs.StationRules.{outcome_count};
 
 use crate::fragments::Fragments;
 use crate::lines::Lines;
@@ -64,8 +64,8 @@ impl Model for Station {
 impl Station {
     ghost use Rattle.dmr_gateway.specs.Received.{IsFitReceived};
     ghost use Rattle.std.specs.Prelude.{◌↔◌, IsTrue};
-    ghost use Rattle.dmr_gateway.specs.Gateway.{IsSlot, HasNothingReceived, next_received};
-    ghost use Rattle.dmr_station.specs.Frames.{settings_of};
+    ghost use Rattle.dmr_gateway.specs.GatewayRules.{IsSlot, HasNothingReceived, next_received};
+    ghost use Rattle.dmr_station.specs.StationRules.{settings_of};
     ghost use Rattle.dmr_station.specs.Station.{fresh, IsOffered, IsExchanged, taken_once, counts_of_gateway};
 
     /// A station that has heard and sent nothing. It takes memory here alone, for each slot's line, and for each slot of

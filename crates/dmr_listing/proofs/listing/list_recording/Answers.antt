@@ -1,6 +1,6 @@
 use Rattle.std.proofs.Common.{rules, ◌+◌, [], ◌∷◌, ◌++◌, None, Some, sym, ap, ◌∙◌, subst, arith}
 use Rattle.std.proofs.lemmas.List.{length_push}
-use Rattle.dmr_listing.specs.Listings.{IsListed, ListingTurn}
+use Rattle.dmr_listing.specs.ListingRules.{IsListed, ListingTurn}
 use Rattle.dmr_listing.proofs.Listings.{listed_burst, listed_part, listed_silence, octets_more}
 use Rattle.dmr_listing.proofs.listing.list_recording.Goals as goal
 

@@ -1,7 +1,7 @@
 -- The slots so far were listed, and the next record begins at this octet.
 use Rattle.std.proofs.Common.{◌≡◌, ◌+◌, ◌*◌, ◌-◌, ◌≤◌, List, [], length, false}
-use Rattle.dmr_listing.specs.Entries.{octet_behind}
-use Rattle.dmr_listing.specs.Listings.{IsListed}
+use Rattle.dmr_listing.specs.ListingMeaning.{octet_behind}
+use Rattle.dmr_listing.specs.ListingRules.{IsListed}
 use Rattle.dmr_listing.specs.Recordings.{RecordedSlot, most_slots_of, spelling}
 use Rattle.dmr_listing.proofs.listing.list_recording.Given as goal
 

@@ -1,7 +1,7 @@
 -- The records so far were listed, and the next one begins at this octet.
 use Rattle.std.proofs.Common.{◌≡◌, ◌+◌, ◌*◌, ◌-◌, ◌≤◌, List, [], None, length, false}
 use Rattle.dmr_record.specs.Received.{Receipt, last_read, most_receipts, receipt_octets}
-use Rattle.dmr_listing.specs.Entries.{octet_behind}
+use Rattle.dmr_listing.specs.ListingMeaning.{octet_behind}
 use Rattle.dmr_listing.specs.ReceivedListings.{IsListed, last_fields}
 use Rattle.dmr_listing.proofs.received_listing.list_received.Given as goal
 

@@ -1,6 +1,6 @@
 -- The slots so far were drawn, and the next record begins at this octet.
 use Rattle.std.proofs.Common.{◌≡◌, ◌+◌, ◌*◌, ◌-◌, ◌≤◌, ◌<◌, List, [], length, false}
-use Rattle.dmr_listing.specs.Entries.{octet_behind}
+use Rattle.dmr_listing.specs.ListingMeaning.{octet_behind}
 use Rattle.dmr_listing.specs.Recordings.{RecordedSlot, most_slots_of, spelling}
 use Rattle.dmr_listing.specs.Strips.{IsDrawn, most_marks}
 use Rattle.dmr_listing.proofs.strips.strip_recording.Given as goal

@@ -1,6 +1,6 @@
 -- What is taken so far is written.
 use Rattle.std.proofs.Common.{◌≡◌, false, length}
-use Rattle.dmr_station.specs.Frames.{received_of}
+use Rattle.dmr_station.specs.StationRules.{received_of}
 use Rattle.dmr_repeater.proofs.Received.{Written}
 use Rattle.dmr_repeater.proofs.writing.write_each_received.Given as goal
 

@@ -1,6 +1,6 @@
 use Rattle.std.proofs.Common.{◌+◌, subst, sym}
 use Rattle.dmr_hearing.specs.declared.heard.Heard.{Heard}
-use Rattle.dmr_slot.specs.Push.{EndsSilent, moved}
+use Rattle.dmr_slot.specs.LineRules.{EndsSilent, moved}
 use Rattle.dmr_slot.proofs.Quiet.{ends_none, ends_more}
 use Rattle.dmr_slot.proofs.line.silent_after.Goals as goal
 

@@ -1,7 +1,7 @@
 use Rattle.std.proofs.Common.{◌≡◌, ℕ, zero, suc, Option, Some, subst, ◌∙◌, sym}
 use Rattle.dmr_hearing.specs.Fit.{IsFitLc}
 use Rattle.dmr_link.specs.declared.full_lc.FullLc.{FullLc}
-use Rattle.dmr_slot.specs.Push.{still_left}
+use Rattle.dmr_slot.specs.LineRules.{still_left}
 use Rattle.dmr_slot.proofs.line.slot_out.Goals as goal
 
 -- the link control of the call that still holds the slot is the one that is known

@@ -1,5 +1,5 @@
 use Rattle.std.proofs.Common.{◌∙◌, ap, List, Bool, false}
-use Rattle.dmr_voice.specs.Rules.{at_place}
+use Rattle.dmr_voice.specs.CallRules.{at_place}
 use Rattle.dmr_voice.proofs.track.filled_place.Goals as goal
 
 pub returns : goal.returns

@@ -2,7 +2,7 @@ use Rattle.std.proofs.Common.{◌≡◌, ◌∙◌, ap, refl, subst, sym, All}
 use Rattle.dmr_hearing.specs.Fit.{IsFitHeard}
 use Rattle.dmr_voice.specs.Tracking.{Tracking}
 use Rattle.dmr_slot.proofs.Pushing.{fit_after, push_is, sound_after, window_after}
-use Rattle.dmr_slot.specs.Push.{EndsSilent, known_after, call_left_after}
+use Rattle.dmr_slot.specs.LineRules.{EndsSilent, known_after, call_left_after}
 use Rattle.dmr_slot.proofs.Quiet.{heard_silent, state_silent}
 use Rattle.dmr_slot.proofs.line.SlotLine.take.Goals as goal
 

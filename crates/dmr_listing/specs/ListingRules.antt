@@ -3,7 +3,7 @@ use Rattle.std.specs.Prelude.{◌≡◌, ℕ, ◌+◌, List, [], ◌∷◌, ◌+
 use Rattle.std.specs.Io.KnownBytes.{Consumes}
 use Rattle.std.specs.List.{AllByRecursion, flat_map}
 use Rattle.dmr_bits.specs.Bits.{bits_of_octets}
-use Rattle.dmr_listing.specs.Entries.{octet_behind, place_by_number}
+use Rattle.dmr_listing.specs.ListingMeaning.{octet_behind, place_by_number}
 use Rattle.dmr_listing.specs.Lines.{IsCachActivity, IsLine, SlotPast, after_burst, no_past, passed}
 use Rattle.dmr_listing.specs.Recordings.{IsSlotOf, ShowsSlotFaultOf, RecordedSlot, spelling}
 use Rattle.dmr_listing.specs.Summaries.{counted_line, none_counted}

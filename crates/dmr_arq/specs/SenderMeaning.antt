@@ -4,9 +4,9 @@ use Rattle.dmr_data.specs.declared.packet.Packet.{Packet}
 use Rattle.dmr_arq.specs.declared.answer.Answer.{Answer}
 use Rattle.dmr_arq.specs.declared.sender.Held.{Held}
 use Rattle.dmr_arq.specs.declared.sender.Route.{Route}
-use Rattle.dmr_arq.specs.Sender.{SenderState}
+use Rattle.dmr_arq.specs.SenderRules.{SenderState}
 use Rattle.dmr_arq.specs.declared.table.Entry.{Entry}
-use Rattle.dmr_arq.specs.Sender.{offered, takes, sent, answered, ticked, cut_of, outcome_taken}
+use Rattle.dmr_arq.specs.SenderRules.{offered, takes, sent, answered, ticked, cut_of, outcome_taken}
 use Rattle.dmr_arq.specs.Sources.{IsHeardLast}
 
 -- What a sender sees: a packet is offered; its next burst is asked for; an answer comes; a frame is over; a try can't go

@@ -10,18 +10,18 @@ use Rattle.dmr_record.specs.Outgoing.{Sending, Keeps, sending_of}
 use Rattle.dmr_record.specs.declared.outgoing.Outgoing.{Outgoing}
 use Rattle.dmr_record.specs.Received.{Receipt}
 use Rattle.dmr_slot.specs.declared.line.SlotOut.{SlotOut}
-use Rattle.dmr_gateway.specs.Attempts.{attempts, refused_now}
+use Rattle.dmr_gateway.specs.AttemptMeaning.{attempts, refused_now}
 use Rattle.dmr_gateway.specs.Bursts.{IsGatewayOut}
-use Rattle.dmr_gateway.specs.Gateway.{IsSlot}
+use Rattle.dmr_gateway.specs.GatewayRules.{IsSlot}
 use Rattle.dmr_gateway.specs.Heard.{IsHeardByGateway}
 use Rattle.dmr_gateway.specs.Packets.{offer_fault, IsPacketFor}
-use Rattle.dmr_gateway.specs.Records.{received_now}
+use Rattle.dmr_gateway.specs.RecordMeaning.{received_now}
 use Rattle.dmr_gateway.specs.Runs.{Happening, all_heard, brings}
 use Rattle.dmr_gateway.specs.declared.fault.GatewayFault.{GatewayFault}
 use Rattle.dmr_gateway.specs.declared.queue.Queued.{Queued}
 use Rattle.dmr_gateway.specs.declared.received.Received.{Received}
 use Rattle.dmr_station.specs.Pairs.{Pairwise}
-use Rattle.dmr_station.specs.Frames.{Settings, Counts, is_free, outcome_count}
+use Rattle.dmr_station.specs.StationRules.{Settings, Counts, is_free, outcome_count}
 
 -- 1. OffersOfRecords.
 

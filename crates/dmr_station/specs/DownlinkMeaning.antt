@@ -2,24 +2,24 @@
 use Rattle.std.specs.Prelude.{ℕ, ◌≡◌, List, [], ◌∷◌, ◌++◌, length, replicate, take, Option}
 use Rattle.dmr_burst.specs.declared.burst.Burst.{Burst}
 use Rattle.dmr_gateway.specs.Heard.{IsReadByGateway, nothing_said}
-use Rattle.dmr_gateway.specs.Records.{received_now}
+use Rattle.dmr_gateway.specs.RecordMeaning.{received_now}
 use Rattle.dmr_gateway.specs.declared.heard.Heard.{Heard}
 use Rattle.dmr_gateway.specs.declared.received.Received.{Received}
 use Rattle.dmr_record.specs.Outgoing.{Sending}
 use Rattle.dmr_record.specs.Received.{Receipt}
 use Rattle.dmr_slot.specs.Bursts.{AreSlotOuts}
-use Rattle.dmr_slot.specs.Line.{LineOut, lines}
+use Rattle.dmr_slot.specs.LineMeaning.{LineOut, lines}
 use Rattle.dmr_slot.specs.declared.line.SlotOut.{SlotOut}
 use Rattle.dmr_voice.specs.DamagedRecordings.{IsDamagedRecordingOf, meant}
-use Rattle.dmr_voice.specs.Transmissions.{Transmission, Cell, sent_list}
+use Rattle.dmr_voice.specs.CallMeaning.{Transmission, Cell, sent_list}
 use Rattle.dmr_voice.specs.WellFormed.{IsWellFormed}
 use Rattle.dmr_voice.specs.declared.said.Content.TheVariants.{Data}
 use Rattle.dmr_voice.specs.declared.said.Said.{Said}
 use Rattle.dmr_voice.specs.declared.said.Said.TheVariants.{Nothing, Repeat}
 use Rattle.dmr_station.specs.declared.sending.DownlinkBurst.{DownlinkBurst}
-use Rattle.dmr_station.specs.Downlink.{slots_in, handed_frames, IsDownlinkOf, Makes}
-use Rattle.dmr_station.specs.Frames.{Settings, Counts}
-use Rattle.dmr_station.specs.GatewayFrames.{IsGatewayOf}
+use Rattle.dmr_station.specs.DownlinkRules.{slots_in, handed_frames, IsDownlinkOf, Makes}
+use Rattle.dmr_station.specs.StationRules.{Settings, Counts}
+use Rattle.dmr_station.specs.GatewayMeaning.{IsGatewayOf}
 
 -- 1. What both slots mean.
 

@@ -5,14 +5,14 @@ use Rattle.std.specs.Prelude.{option_to_list, slice_index_or}
 use Rattle.dmr_burst.specs.declared.burst.Burst.{Burst}
 use Rattle.dmr_arq.specs.declared.sender.Outcome.{Outcome}
 use Rattle.dmr_arq.specs.declared.sender.Outcome.TheVariants.{Delivered, Sent, GivenUp}
-use Rattle.dmr_gateway.specs.Gateway.{Gate, new_gate as silent_gateway, AreOffered, IsAskedFor}
-use Rattle.dmr_gateway.specs.Side.{all_received, side_told, side_outcome}
+use Rattle.dmr_gateway.specs.GatewayRules.{Gate, new_gate as silent_gateway, AreOffered, IsAskedFor}
+use Rattle.dmr_gateway.specs.SideRules.{all_received, side_told, side_outcome}
 use Rattle.dmr_gateway.specs.declared.config.Config.{Config}
 use Rattle.dmr_gateway.specs.declared.received.Received.{Received}
 use Rattle.dmr_record.specs.declared.outgoing.Outgoing.{Outgoing}
-use Rattle.dmr_slot.specs.Channel.{claims_of}
-use Rattle.dmr_slot.specs.Frames.{OnAir, off_air, frame_out, after_frame, AreSent}
-use Rattle.dmr_slot.specs.Push.{LineMemory as Line, silent_line, IsPush}
+use Rattle.dmr_slot.specs.ChannelMeaning.{claims_of}
+use Rattle.dmr_slot.specs.ChannelRules.{OnAir, off_air, frame_out, after_frame, AreSent}
+use Rattle.dmr_slot.specs.LineRules.{LineMemory as Line, silent_line, IsPush}
 use Rattle.dmr_slot.specs.declared.line.SlotOut.{SlotOut}
 use Rattle.dmr_station.specs.Announced.{IsAnnounced}
 use Rattle.dmr_station.specs.declared.announcing.Message.{Message}

@@ -2,18 +2,18 @@
 use Rattle.std.specs.Prelude.{ℕ, ◌≡◌, Bool, false, List, [], ◌∷◌, ◌++◌, map, replicate, count_by, Option, Some, None}
 use Rattle.std.specs.List.{flat_map}
 use Rattle.dmr_burst.specs.declared.burst.Burst.{Burst}
-use Rattle.dmr_slot.specs.Channel.{Claim, claims_of, channel_frames}
-use Rattle.dmr_slot.specs.Frames.{AreSent}
+use Rattle.dmr_slot.specs.ChannelMeaning.{Claim, claims_of, channel_frames}
+use Rattle.dmr_slot.specs.ChannelRules.{AreSent}
 use Rattle.dmr_slot.specs.Fronts.{IsFrontOfLine}
-use Rattle.dmr_slot.specs.Push.{LineMemory as Line, silent_line, ArePushed}
+use Rattle.dmr_slot.specs.LineRules.{LineMemory as Line, silent_line, ArePushed}
 use Rattle.dmr_slot.specs.declared.line.SlotOut.{SlotOut}
 use Rattle.dmr_station.specs.Announced.{AreAnnounced}
 use Rattle.dmr_station.specs.declared.announcing.Message.{Message}
 use Rattle.dmr_station.specs.declared.sending.DownlinkBurst.{DownlinkBurst}
 use Rattle.dmr_record.specs.Outgoing.{Sending}
 use Rattle.dmr_record.specs.Received.{Receipt}
-use Rattle.dmr_station.specs.GatewayFrames.{IsGatewayOf}
-use Rattle.dmr_station.specs.Frames.{Settings, Counts, slot_in, marked_slots}
+use Rattle.dmr_station.specs.GatewayMeaning.{IsGatewayOf}
+use Rattle.dmr_station.specs.StationRules.{Settings, Counts, slot_in, marked_slots}
 use Rattle.dmr_station.specs.Pairs.{Pairwise}
 
 -- 1. Frames of both slots.
