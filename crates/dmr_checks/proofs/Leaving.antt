@@ -149,7 +149,7 @@ few d w low n narrow h =
     bits_of_append (8 - w) w 8 0 n whole h ∙ ap (bits_of 8) same in
     let none : register_after binary_field L Z (bits_of (8 - w) 0) ≡ Z =
     ap (register_after binary_field L Z) (zeros_of (8 - w))
-        ∙ ap (λ z. register_after binary_field L z (replicate (8 - w) false)) (zeros_of d)
+    ∙ ap (λ z. register_after binary_field L z (replicate (8 - w) false)) (zeros_of d)
     ∙ run_zeros L d (8 - w)
     ∙ sym (zeros_of d) in
     ap (λ z. register_after binary_field L z (bits_of w n)) (sym none)
@@ -212,7 +212,7 @@ shifted_in d w low register number rest table wide narrow small h are is =
 pub next_bits : (low : List Bool) (part number : ℕ) (state next : List Bool) → part < 4
     → next ≡ register_after binary_field low state (bits_of 7 (number / 2 ^ (21 - 7 * part) % 128))
     → register_after binary_field low next (bits_of (28 - 7 * (part + 1)) number)
-        ≡ register_after binary_field low state (bits_of (28 - 7 * part) number)
+    ≡ register_after binary_field low state (bits_of (28 - 7 * part) number)
 next_bits low part number state next h e =
     let left : 28 - 7 * part - 7 ≡ 21 - 7 * part = omega arith in
     let more : 28 - 7 * (part + 1) ≡ 21 - 7 * part = omega arith in
@@ -228,7 +228,7 @@ next_bits low part number state next h e =
 pub whole_message : (low empty state bits : List Bool) (number part : ℕ) → length bits ≡ 28
     → number ≡ number_of (take 28 (drop 0 bits)) → 4 ≤ part
     → register_after binary_field low state (bits_of (28 - 7 * part) number)
-        ≡ register_after binary_field low empty (bits_of 28 number)
+    ≡ register_after binary_field low empty (bits_of 28 number)
     → state ≡ register_after binary_field low empty bits
 whole_message low empty state bits number part long is done rest =
     ap (register_after binary_field low state) (sym (bits_of_none (28 - 7 * part) number (omega arith)))

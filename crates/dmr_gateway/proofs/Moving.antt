@@ -221,8 +221,9 @@ judged_begun Selective flags h l owing =
     due_begun (sender.selection_of h.packet (sender.unset 0 (length h.packet.blocks) flags)) h l owing
 
 told_stage : (llid : ℕ) (a : HeardAnswer) (stage : Stage) (h : Hand) (l : Ledger) (owing : Option Owing) →
-    begun_by (answered_in_stage stage llid a (record h { stage = stage }) (record l { hand = Some (record h { stage = stage })
-        })).hand
+    begun_by (answered_in_stage stage llid a (record h { stage = stage }) (record l {
+      hand = Some (record h { stage = stage });
+    })).hand
     owing
     ≡ begun_at stage h owing
 told_stage llid a Ready h l owing = refl

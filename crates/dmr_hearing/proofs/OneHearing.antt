@@ -29,7 +29,7 @@ one_burst : (colour : ℕ) (bits : List Bool) (a b : Heard) → IsHeardBurst col
 one_burst colour bits a b p q =
     heard_by a.data_burst b.data_burst a.voice b.voice a.emb b.emb a.embedded b.embedded a.vocoder b.vocoder
     (one_answer (λ (data_burst : DataBurst). IsHeardData colour data_burst bits) a.data_burst b.data_burst p.data_burst_within
-        p.data_burst_only q.data_burst_within
+    p.data_burst_only q.data_burst_within
     q.data_burst_only)
     (one_truth _ a.voice b.voice p.voice.0 p.voice.1 q.voice.0 q.voice.1)
     (one_answer (λ (emb : Emb). HasEmb emb bits) a.emb b.emb p.emb_within p.emb_only q.emb_within q.emb_only)

@@ -107,7 +107,7 @@ fn own_data_burst(burst: &[u8; 33], colour: u8) -> Option<DataBurst>
     ensures within { IfSome result (λ data_burst. HasSlotType (record { colour = colour; kind = data_burst.kind }) (bits_of_octets
         burst.now)
         × Reads (payload data_burst.kind) (information_field (bits_of_octets burst.now)) data_burst.information
-            data_burst.link_control) }
+        data_burst.link_control) }
     ensures only { (kind : ℕ) (information : List Bool) (lc : Option FullLc)
         → HasSlotType (record { colour = colour; kind = kind }) (bits_of_octets burst.now)
         → Reads (payload kind) (information_field (bits_of_octets burst.now)) information lc

@@ -35,7 +35,7 @@ front_of message long =
 pub sealed_word : (lc_use : LcUse) (lc : FullLc) (word : List ℕ) (message : List Bool) → FitsFullLc lc → length word ≡ 12 → All
     (λ octet. octet < 256) word
     → IsRsWord word → bits_of_octets (take 9 word) ≡ full_lc_bits lc → message ≡ bits_of_octets (masked lc_use word)
-        → IsLc lc_use lc
+    → IsLc lc_use lc
     message
 sealed_word lc_use lc word message fit long small is spelled written =
     let veil : List ℕ = masked lc_use word in

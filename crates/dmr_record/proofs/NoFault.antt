@@ -14,11 +14,11 @@ pub frames_no_fault : (limit before : ℕ) (frames : List (List (Option (List �
     → before + length frames ≤ limit → HasFault (ShowsUplinkFault limit before) (frames_octets frames) e → e ≡ Read
 frames_no_fault limit before [] e p few has =
     no_fault_read (ShowsUplinkFault limit before) (frame_at limit before) (frame_at-shown limit before) [] None e (frame_at-end
-        limit
+    limit
     before) has
 frames_no_fault limit before (f ∷ fs) e p few has =
     no_fault_read (ShowsUplinkFault limit before) (frame_at limit before) (frame_at-shown limit before) (frames_octets (f
-        ∷ fs)) (Some
+    ∷ fs)) (Some
     (f, frames_octets fs)) e
     (frame_at-spelled limit before f (frames_octets fs) (omega arith) p.0) has
 
@@ -51,7 +51,7 @@ no_fault limit before e taken rest frames p few shows end same =
 pub no_outgoing_fault : (limit before last : ℕ) (e : RecordFault) (taken rest : List ℕ) (sendings : List Sending) → AllByRecursion
     IsSending sendings
     → AreInFrameOrder last sendings → before + length sendings ≤ limit → ShowsOutgoingFault limit before last e taken
-        → (is_of_end e ≡
+    → (is_of_end e ≡
     true → rest ≡ [])
     → taken ++ rest ≡ sendings_octets sendings → is_device_fault e ≡ true
 no_outgoing_fault limit before last e taken rest sendings p order few shows end same =

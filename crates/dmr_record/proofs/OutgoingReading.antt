@@ -102,7 +102,7 @@ sending_at-fields : (limit before last : ℕ) (f : OutgoingFields) (text : List 
 unfolding sending_at fields_behind
 sending_at-fields limit before last f text below fit =
     let long : leb 8 (length (outgoing_field_octets f ++ text))
-        ≡ true = le-leb 8 (length (outgoing_field_octets f ++ text)) (omega (
+    ≡ true = le-leb 8 (length (outgoing_field_octets f ++ text)) (omega (
       arith,
       length-append (outgoing_field_octets f) text,
     )) in
@@ -160,7 +160,7 @@ sending_at-shown limit before last CutRecord taken rest (below, some, inr (inr (
           [],
     )) in
     ap (λ l. sending_at limit before last (l ++ rest)) s
-        ∙ ap (λ r. sending_at limit before last (2 ∷ (outgoing_field_octets f ++ (part ++
+    ∙ ap (λ r. sending_at limit before last (2 ∷ (outgoing_field_octets f ++ (part ++
     r)))) (end refl)
     ∙ sending_at-fields limit before last f (part ++ []) below fit
     ∙ rw (is_place-true f.slot f.mode place, le-ltb f.frame last order, short) refl

@@ -157,7 +157,7 @@ receipt_at-fields : (limit before : ℕ) (last : Option ReceivedFields) (f : Rec
 unfolding receipt_at fields_behind
 receipt_at-fields limit before last f text below fit =
     let long : leb 11 (length (received_field_octets f ++ text))
-        ≡ true = le-leb 11 (length (received_field_octets f ++ text)) (omega (
+    ≡ true = le-leb 11 (length (received_field_octets f ++ text)) (omega (
       arith,
       length-append (received_field_octets f) text,
     )) in
@@ -212,7 +212,7 @@ receipt_at-shown limit before last CutRecord taken rest (below, some, inr (inr (
           [],
     )) in
     ap (λ l. receipt_at limit before last (l ++ rest)) s
-        ∙ ap (λ r. receipt_at limit before last (3 ∷ (received_field_octets f ++ (part ++
+    ∙ ap (λ r. receipt_at limit before last (3 ∷ (received_field_octets f ++ (part ++
     r)))) (end refl)
     ∙ receipt_at-fields limit before last f (part ++ []) below fit
     ∙ rw (told-yes (is_place f.slot f.kind) place, told-yes (follows last f) order, short) refl

@@ -89,7 +89,7 @@ abbrev pub IsPartOfSending : ℕ → List ℕ → Type 0
 IsPartOfSending last octets = (octets ≡ [])
     ⊎ ((part : List ℕ) × (length part < 8) × (octets ≡ 2 ∷ part))
     ⊎ ((f : OutgoingFields) × (part : List ℕ) × FitsOutgoing f × IsSlotAndMode f.slot f.mode × (last ≤ f.frame)
-        × (length part < f.count)
+    × (length part < f.count)
     × (octets ≡ 2 ∷ (outgoing_field_octets f ++ part)))
 
 -- These octets, taken as the front of a record with so many records before it, the last of which has this
@@ -101,7 +101,7 @@ ShowsOutgoingFault limit before last BadTag octets = (before < limit)
     ⊎ ((f : OutgoingFields) × FitsOutgoing f × (¬ IsSlotAndMode f.slot f.mode) × (octets ≡ 2 ∷ outgoing_field_octets f)))
 ShowsOutgoingFault limit before last FrameOrder octets = (before < limit)
     × (f : OutgoingFields) × FitsOutgoing f × IsSlotAndMode f.slot f.mode × (f.frame < last)
-        × (octets ≡ 2 ∷ outgoing_field_octets f)
+    × (octets ≡ 2 ∷ outgoing_field_octets f)
 ShowsOutgoingFault limit before last CutRecord octets = (before < limit)
     × (octets ≢ []) × IsPartOfSending last octets
 ShowsOutgoingFault limit before last Read octets = (limit ≤ before → octets ≡ [])

@@ -122,7 +122,7 @@ abbrev pub IsPartOfReceipt : Option ReceivedFields → List ℕ → Type 0
 IsPartOfReceipt last octets = (octets ≡ [])
     ⊎ ((part : List ℕ) × (length part < 11) × (octets ≡ 3 ∷ part))
     ⊎ ((f : ReceivedFields) × (part : List ℕ) × FitsReceived f × IsSlotAndKind f.slot f.kind × Follows last f
-        × (length part < f.count)
+    × (length part < f.count)
     × (octets ≡ 3 ∷ (received_field_octets f ++ part)))
 
 -- These octets, taken as the front of a record with so many records before it, the last of which has these
@@ -134,7 +134,7 @@ ShowsReceivedFault limit before last BadTag octets = (before < limit)
     ⊎ ((f : ReceivedFields) × FitsReceived f × (¬ IsSlotAndKind f.slot f.kind) × (octets ≡ 3 ∷ received_field_octets f)))
 ShowsReceivedFault limit before last FrameOrder octets = (before < limit)
     × (f : ReceivedFields) × FitsReceived f × IsSlotAndKind f.slot f.kind × (¬ Follows last f)
-        × (octets ≡ 3 ∷ received_field_octets f)
+    × (octets ≡ 3 ∷ received_field_octets f)
 ShowsReceivedFault limit before last CutRecord octets = (before < limit)
     × (octets ≢ []) × IsPartOfReceipt last octets
 ShowsReceivedFault limit before last Read octets = (limit ≤ before → octets ≡ [])

@@ -44,7 +44,7 @@ one_ahead : (frame : ℕ) (now : ReadingProgress) (back : List Sending) (left : 
     × (IsSomeAnd ahead (λ s. frame < s.frame) ⊎ ((ahead ≡ None) × IsAtEnd left))
 one_ahead frame now back left (inl (o, is, last, late, small)) read met =
     let (s, same, frames) = one_read o back (subst (λ (x : Option Outgoing). Pairwise IsReadOutgoing (option_to_list x) back) is
-        read)
+    read)
     in
     let later : frame < s.frame = omega (arith, frames, late) in
     (Some s, same, inl later)

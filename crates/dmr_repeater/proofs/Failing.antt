@@ -150,7 +150,7 @@ module _ (s : Settings) (output : Stream) (a z : Files) (b p h t : Option (List 
       let by_receipts = subst (λ (l : List Receipt). IsSentWith s ss (take (length given + 1) (handed_frames frames)) after.repeated
       after.counts l (records_of (u.sends.records ++ u.torn.records ∷ []))) receipts of_file in
       subst (λ (l : List (Option (List ℕ
-          × List ℕ))). IsSentWith s ss (take (length given + 1) (handed_frames frames)) after.repeated
+      × List ℕ))). IsSentWith s ss (take (length given + 1) (handed_frames frames)) after.repeated
       after.counts (receipts_from 0 u.sends.received ++ map (receipt_in (length given)) now) l)
       (records_push u.sends.records u.torn.records) by_receipts
 
@@ -210,14 +210,14 @@ module _ (s : Settings) (m : State) (new : m ≡ fresh s) (output : Stream) (a z
       let told = subst (λ (l : State). Tears output (moment l unread p h t) u.given u.frame z.outgoing z.downlink z.received) new
       u.tears in
       fails s output a z b p h t uplink head downlink received u.frames u.given (replicate 5 silent_frame) u.frame split told
-          u.reads
+      u.reads
       (inl (omega arith))
 
   -- past its end
   pub fails_past_uplink : (frames : List (List (Option (List ℕ)))) (count : ℕ) → count < 5 → Reads frames [] b z.uplink
       → IsAtEnd z.uplink
       → Tears output (moment m unread p h t) ((silent_frame
-          ∷ frames) ++ replicate count silent_frame) silent_frame z.outgoing z.downlink
+      ∷ frames) ++ replicate count silent_frame) silent_frame z.outgoing z.downlink
       z.received
       → FailsInFrame output s a z
   fails_past_uplink frames count few reads end u =
@@ -227,7 +227,7 @@ module _ (s : Settings) (m : State) (new : m ≡ fresh s) (output : Stream) (a z
       handed_split frames count (omega arith) ∙ ap (λ n. xs ++ replicate n silent_frame) left in
       let long : length xs ≡ length frames + 1 + count = simp (length-append, length-replicate) (omega arith) in
       let told = subst (λ (l : State). Tears output (moment l unread p h t) xs silent_frame z.outgoing z.downlink z.received) new u
-          in
+      in
       fails s output a z b p h t uplink head downlink received frames xs (replicate (4 - count) silent_frame) silent_frame split
-          told reads
+      told reads
       (inr (end, omega arith, omega arith))

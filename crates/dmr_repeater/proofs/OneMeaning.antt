@@ -29,10 +29,10 @@ pub one_meaning : HasOneMeaning
 one_meaning colour lead_a lead_b lead_c lead_d a b c d frames left well_a well_b well_c well_d u v = (
   same_meaning (meant (sent_list colour lead_a a) (slots_in 0 frames)) (meant (sent_list colour lead_c c) (slots_in 0 frames))
       (one_meaning_of_slots repeats_what_is_meant colour lead_a lead_c a c (slots_in 0 frames) (All-from_recursion
-          IsSilenceOr33Octets
+      IsSilenceOr33Octets
       (slots_in 0 frames) (first_slots_are frames u.each)) well_a well_c u.recording.first_slot v.recording.first_slot),
   same_meaning (meant (sent_list colour lead_b b) (slots_in 1 frames)) (meant (sent_list colour lead_d d) (slots_in 1 frames))
       (one_meaning_of_slots repeats_what_is_meant colour lead_b lead_d b d (slots_in 1 frames) (All-from_recursion
-          IsSilenceOr33Octets
+      IsSilenceOr33Octets
       (slots_in 1 frames) (second_slots_are frames u.each)) well_b well_d u.recording.second_slot v.recording.second_slot),
 )

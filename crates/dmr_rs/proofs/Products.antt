@@ -133,7 +133,7 @@ product_is a b =
 remainder_is : (p c : List Bool) → length p ≡ 15 → length c ≡ 8 → IsMultiple binary_field (true ∷ bits_of 8 0x1D) (xor_bits p
     (replicate 7 false ++ c))
     → xor_bits (drop 7 p) c ≡ register_after binary_field (bits_of 8 0x1D) (replicate 8 false) (xor_bits (take 7 p) (replicate 7
-        false))
+    false))
 remainder_is p c long eight multiple =
     let front : length (take 7 p) ≡ 7 = length-take-le 7 p (omega arith) in
     let back : length (drop 7 p) ≡ 8 = length-drop 7 p ∙ omega arith in

@@ -122,7 +122,7 @@ step_value f R h a b new small little =
 run_value : (f : ℕ → ℕ) → IsRoot f → (message : List ℕ) (h a b s : ℕ) → h < 256 → a < 256 → b < 256 → All (λ octet. octet < 256)
     message
     → three f h a b ≡ f (f (f s)) → horner f 0 (register_after octet_field generator_low (h ∷ a ∷ b ∷ []) message)
-        ≡ f (f (f (horner f s
+    ≡ f (f (f (horner f s
     message)))
 run_value f R [] h a b s small little least all e = three_is f R.linear h a b ∙ e
 run_value f R (new ∷ message) h a b s small little least all e =

@@ -35,6 +35,6 @@ module _ (busy : Bool) (fragments : List (List Bool)) (a b c d : List ℕ)
       let same : place % 4 % 4 ≡ place % 4 = omega arith in
       let parity : place % 4 % 2 ≡ place % 2 = omega arith in
       subst (λ odd. cach_of busy fragments (a ∷ b ∷ c ∷ d
-          ∷ []) (place % 4) odd (fragment_lcss place)) (ap (λ rest. rest == 1) parity)
+      ∷ []) (place % 4) odd (fragment_lcss place)) (ap (λ rest. rest == 1) parity)
       (subst (λ lcss. cach_of busy fragments (a ∷ b ∷ c ∷ d ∷ []) (place % 4) (place % 4 % 2 == 1) lcss)
       (ap (λ rest. if rest == 0 then 1 else (if rest == 3 then 2 else 3)) same) (cach_at (place % 4) few))

@@ -115,7 +115,7 @@ counted_on c refused asked rest all now is e =
     e ∙ ap (λ (n : Counts). added (record n { received = n.received + length (received_of asked) }) rest) is
     ∙ same_counts (added (record own { received = own.received + length (received_of asked) }) rest)
     (added c (added (counted_frame (given_of refused asked)) rest)) (omega arith) (omega arith) (omega arith) (omega arith) (omega
-        arith)
+    arith)
 
 cons_by : {X : Type 0} (a b : X) (more others : List X) → a ≡ b → more ≡ others → a ∷ more ≡ b ∷ others
 cons_by a b more others e f = cc

@@ -88,7 +88,7 @@ abbrev pub SendsFrontOfWhatIsMeant : Type 0
 SendsFrontOfWhatIsMeant = (s : Settings) → ForWhatWasRecorded s.colour (λ first second frames.
     (front rest : List (List (Option (List ℕ)))) (offers : List (List Sending)) (sending : List (List (Option DownlinkBurst)))
     (receipts : List Receipt) (counts : Counts) → handed_frames frames ≡ front ++ rest
-        → Makes s offers front sending receipts counts
+    → Makes s offers front sending receipts counts
     → IsFrontOfTheDownlink s first second frames (length front) offers sending receipts counts)
 
 -- 3. What a gateway receives of what is meant.

@@ -9,7 +9,7 @@ pub returns : goal.returns
 returns c = record {
   none = λ limit before frame rest e is below has.
       no_fault_read (ShowsUplinkFault limit before) (frame_at limit before) (frame_at-shown limit before) (frame_octets frame
-          ++ rest)
+      ++ rest)
       (Some (frame, rest)) e
       (frame_at-spelled limit before frame rest below is) has;
   one = λ limit before. one_fault_read (ShowsUplinkFault limit before) (frame_at limit before) (frame_at-shown limit before);

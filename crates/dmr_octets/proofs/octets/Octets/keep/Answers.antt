@@ -19,9 +19,9 @@ returns g c =
     record {
       value = put ∙ kept_front g.row.CAP c.min-count.result old c.args.more.now (omega (arith, c.remaining_capacity-room.ensures))
           (omega (
-        arith,
-        c.remaining_capacity-room.ensures,
-        c.min-count.ensures,
-      ))
+            arith,
+            c.remaining_capacity-room.ensures,
+            c.min-count.ensures,
+          ))
           ∙ ap (λ (l : List ℕ). take g.row.CAP (l ++ c.args.more.now)) c.self.view_is;
     }
