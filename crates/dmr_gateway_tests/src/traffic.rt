@@ -86,7 +86,7 @@ pub fn letter(burst: &Option<Burst>) -> u8 {
                 information,
                 ..
             },
-        ) => match kind {
+        ) => match *kind {
             data_type::CSBK => b'P',
             data_type::DATA_HEADER => match header_read(information) {
                 Ok(Header::Response(_)) => b'A',

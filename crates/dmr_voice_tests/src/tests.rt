@@ -333,7 +333,7 @@ fn letter_of(out: &VoiceOut) -> u8 {
     match out {
         VoiceOut::Nothing => b'.',
         VoiceOut::Repeat { burst, .. } => match burst {
-            Burst::Data { kind, .. } => match kind {
+            Burst::Data { kind, .. } => match *kind {
                 data_type::VOICE_LC_HEADER => b'H',
                 data_type::TERMINATOR_WITH_LC => b'T',
                 _ => b'D',
