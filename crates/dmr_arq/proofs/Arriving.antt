@@ -15,11 +15,11 @@ use Rattle.dmr_arq.specs.Table.{holds}
 use Rattle.dmr_arq.specs.declared.answer.Answer.{Answer}
 use Rattle.dmr_arq.specs.declared.answer.Verdict.{Verdict}
 use Rattle.dmr_arq.specs.declared.answer.Verdict.TheVariants.{Ack, Failed, Selective}
-use Rattle.dmr_arq.specs.declared.receiver.Attempt.{Attempt}
-use Rattle.dmr_arq.specs.declared.receiver.Kind.{Kind}
-use Rattle.dmr_arq.specs.declared.receiver.Kind.TheVariants.{Single, InProgress, Repeat}
+use Rattle.dmr_arq.specs.declared.receiver_state.Attempt.{Attempt}
+use Rattle.dmr_arq.specs.declared.receiver_state.Kind.{Kind}
+use Rattle.dmr_arq.specs.declared.receiver_state.Kind.TheVariants.{Single, InProgress, Repeat}
 use Rattle.dmr_arq.specs.Progress.{Progress}
-use Rattle.dmr_arq.specs.declared.receiver.ReceiverState.{ReceiverState}
+use Rattle.dmr_arq.specs.declared.receiver_state.ReceiverState.{ReceiverState}
 use Rattle.dmr_arq.proofs.Sound.{by_cond}
 
 -- the packet in progress

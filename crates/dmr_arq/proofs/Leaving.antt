@@ -18,10 +18,10 @@ use Rattle.dmr_arq.specs.Table.{number_after}
 use Rattle.dmr_arq.specs.declared.answer.Answer.{Answer}
 use Rattle.dmr_arq.specs.declared.answer.Verdict.{Verdict}
 use Rattle.dmr_arq.specs.declared.answer.Verdict.TheVariants.{Ack, Failed, Selective}
-use Rattle.dmr_arq.specs.declared.sender.Held.{Held}
-use Rattle.dmr_arq.specs.declared.sender.Phase.{Phase}
-use Rattle.dmr_arq.specs.declared.sender.Phase.TheVariants as phase
-use Rattle.dmr_arq.specs.declared.sender.Route.{Route}
+use Rattle.dmr_arq.specs.declared.sender_state.Held.{Held}
+use Rattle.dmr_arq.specs.declared.sender_state.Phase.{Phase}
+use Rattle.dmr_arq.specs.declared.sender_state.Phase.TheVariants as phase
+use Rattle.dmr_arq.specs.declared.sender_state.Route.{Route}
 use Rattle.dmr_arq.specs.SenderRules.{SenderState}
 use Rattle.dmr_arq.specs.declared.serials.Selection.{Selection}
 use Rattle.dmr_arq.specs.declared.table.Entry.{Entry}

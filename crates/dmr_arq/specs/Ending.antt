@@ -3,7 +3,7 @@ use Rattle.std.specs.Prelude.{ℕ, List, None}
 use Rattle.dmr_data.specs.Join.{joined}
 use Rattle.dmr_arq.specs.declared.receiver.Ending.{Ending}
 use Rattle.dmr_arq.specs.declared.receiver.Ending.TheVariants.{Partial, Single, Confirmed}
-use Rattle.dmr_arq.specs.declared.receiver.ReceiverState.{ReceiverState}
+use Rattle.dmr_arq.specs.declared.receiver_state.ReceiverState.{ReceiverState}
 use Rattle.dmr_arq.specs.ReceiverRules.{Placed, single_joined, confirmed_joined, pad_of}
 
 -- What a receiver keeps and gives where a place comes to this. The octets are those of the packet that is there whole, if one is.

@@ -7,13 +7,13 @@ use Rattle.dmr_data.specs.declared.header.Header.TheVariants as header
 use Rattle.dmr_data.specs.declared.packet.Packet.{Packet}
 use Rattle.dmr_arq.specs.declared.answer.Answer.{Answer}
 use Rattle.dmr_arq.specs.declared.received.ReceiverOut.{ReceiverOut}
-use Rattle.dmr_arq.specs.declared.receiver.Kind.{Kind}
-use Rattle.dmr_arq.specs.declared.receiver.Kind.TheVariants.{Single, InProgress, Repeat}
-use Rattle.dmr_arq.specs.declared.receiver.ReceiverState.{ReceiverState}
+use Rattle.dmr_arq.specs.declared.receiver_state.Kind.{Kind}
+use Rattle.dmr_arq.specs.declared.receiver_state.Kind.TheVariants.{Single, InProgress, Repeat}
+use Rattle.dmr_arq.specs.declared.receiver_state.ReceiverState.{ReceiverState}
 use Rattle.dmr_arq.specs.declared.sender.GateBurst.{GateBurst}
 use Rattle.dmr_arq.specs.declared.sender.GateBurst.TheVariants as burst
-use Rattle.dmr_arq.specs.declared.sender.Held.{Held}
-use Rattle.dmr_arq.specs.declared.sender.Route.{Route}
+use Rattle.dmr_arq.specs.declared.sender_state.Held.{Held}
+use Rattle.dmr_arq.specs.declared.sender_state.Route.{Route}
 use Rattle.dmr_arq.specs.SenderRules.{SenderState}
 
 -- 1. What goes out.

@@ -2,8 +2,8 @@
 use Rattle.std.specs.Prelude.{◌≡◌, ℕ, ◌+◌, ◌%◌, ◌⊎◌, true, List, [], ◌∷◌, Option, Some, None, if◌then◌else◌}
 use Rattle.dmr_data.specs.declared.packet.Packet.{Packet}
 use Rattle.dmr_arq.specs.declared.answer.Answer.{Answer}
-use Rattle.dmr_arq.specs.declared.sender.Held.{Held}
-use Rattle.dmr_arq.specs.declared.sender.Route.{Route}
+use Rattle.dmr_arq.specs.declared.sender_state.Held.{Held}
+use Rattle.dmr_arq.specs.declared.sender_state.Route.{Route}
 use Rattle.dmr_arq.specs.SenderRules.{SenderState}
 use Rattle.dmr_arq.specs.declared.table.Entry.{Entry}
 use Rattle.dmr_arq.specs.SenderRules.{offered, takes, sent, answered, ticked, cut_of, outcome_taken}

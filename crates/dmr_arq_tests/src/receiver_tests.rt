@@ -9,7 +9,6 @@ use dmr_data::{
 };
 use dmr_test_values::DATAGRAM_BLOCK;
 use std::process::Abort;
-use std::test::Fail;
 
 /// The header of a full try of a packet of one block from 2 to 1, of packet 0.
 const FIRST: Confirmed = Confirmed {
@@ -214,43 +213,41 @@ fn headers_that_open(rt: HostRuntime) {
     assert!(rt; receiver.open() == Some(Some(1)));
 }
 
+/// The block that makes a packet of one block without confirmation.
+fn datagram_block() -> Block {
+    Block {
+        serial: None,
+        octets: Octets::from_slice(&DATAGRAM_BLOCK),
+    }
+}
+
+/// The header of a packet of one try opens it, and its one block makes the packet, which nothing answers.
+fn expect_received(rt: &impl Abort, receiver: &mut Receiver, header: &Header)
+    requires fit { IsFitHeader header.now }
+{
+    receiver.header(header);
+    assert!(rt; receiver.open() == Some(None));
+    let out = receiver.place(Some(&datagram_block()));
+    let received = Joined {
+        header: *header,
+        body: Octets::from_slice(&DATAGRAM_BLOCK[..7]),
+    };
+    assert!(rt; out.delivered == Some(received) && out.answer.is_none());
+}
+
 // Fifteen bits of padding are one octet and a part of the body.
 #[test]
 fn short_data_with_bit_padding(rt: HostRuntime) {
     let mut receiver = Receiver::new(1);
-    receiver.header(&Header::ShortData(SHORT));
-    assert!(rt; receiver.open() == Some(None));
-    let block = Block {
-        serial: None,
-        octets: Octets::from_slice(&DATAGRAM_BLOCK),
-    };
-    let out = receiver.place(Some(&block));
-    assert!(rt; out.answer.is_none());
-    let received = Joined {
-        header: Header::ShortData(SHORT),
-        body: Octets::from_slice(&DATAGRAM_BLOCK[..7]),
-    };
-    assert!(rt; out.delivered == Some(received));
+    expect_received(&rt, &mut receiver, &Header::ShortData(SHORT));
 }
 
-// The block of its one place makes the packet, which nothing answers; a place without one loses it.
+// The block of its one place makes the packet; a place without one loses it.
 #[test]
 fn unconfirmed_packet_received(rt: HostRuntime) {
     let header = Header::Unconfirmed(ALONE);
-    let block = Block {
-        serial: None,
-        octets: Octets::from_slice(&DATAGRAM_BLOCK),
-    };
     let mut receiver = Receiver::new(1);
-    receiver.header(&header);
-    assert!(rt; receiver.open() == Some(None));
-    let out = receiver.place(Some(&block));
-    let received = Joined {
-        header,
-        body: Octets::from_slice(&DATAGRAM_BLOCK[..7]),
-    };
-    assert!(rt; out.delivered == Some(received));
-    assert!(rt; out.answer.is_none());
+    expect_received(&rt, &mut receiver, &header);
     assert!(rt; receiver.open().is_none());
     receiver.header(&header);
     assert!(rt; receiver.open() == Some(None));

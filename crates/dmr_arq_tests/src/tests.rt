@@ -1,10 +1,9 @@
 //! Worked histories of a sender and a receiver together.
 ghost use Rattle.dmr_arq.specs.Fit.{IsOfferedPacket};
 
-use dmr_arq::{Answer, GateBurst, Outcome, Receiver, Route, Sender, Verdict};
-use dmr_data::{Confirmed, Header, Octets, Packet, Rate, split_packet};
+use dmr_arq::{Answer, GateBurst, Outcome, Receiver, ReceiverOut, Route, Sender, Verdict};
+use dmr_data::{Block, Confirmed, Header, Packet, Rate, split_packet};
 use std::process::Abort;
-use std::test::Fail;
 
 /// To radio 2, as an IP datagram.
 pub(crate) const ROUTE: Route = Route {
@@ -30,6 +29,54 @@ pub(crate) fn one_block(octet: u8) -> Packet
     split_packet(&[octet], Rate::Half, true)
 }
 
+/// A sender of radio 1 with this packet in hand.
+pub(crate) fn sender_of(rt: &impl Abort, packet: &Packet) -> Sender
+    requires offered { IsOfferedPacket packet.now }
+{
+    let mut sender = Sender::new(1);
+    offer(rt, &mut sender, packet);
+    sender
+}
+
+/// A packet is taken in hand.
+pub(crate) fn offer(rt: &impl Abort, sender: &mut Sender, packet: &Packet)
+    requires offered { IsOfferedPacket packet.now }
+{
+    let offered = sender.offer(packet, ROUTE);
+    assert!(rt; offered.is_ok());
+}
+
+/// This is the sender's next burst.
+pub(crate) fn expect_burst(rt: &impl Abort, sender: &mut Sender, burst: GateBurst) {
+    let sent = sender.next_burst();
+    assert!(rt; sent == Some(burst));
+}
+
+/// The sender's next bursts are the two preambles of a try of so many blocks.
+pub(crate) fn expect_preambles(rt: &impl Abort, sender: &mut Sender, route: Route, blocks: u8) {
+    let next = blocks.saturating_add(1);
+    for left in [next.saturating_add(1), next] {
+        expect_burst(rt, sender, GateBurst::Preamble { left, route });
+    }
+}
+
+/// This became of the sender's packet.
+pub(crate) fn expect_outcome(rt: &impl Abort, sender: &mut Sender, outcome: Outcome) {
+    assert!(rt; sender.outcome() == Some(outcome));
+}
+
+/// What a receiver gives in a place, where a try is open: the number of delivered packets goes up with a packet.
+fn place(receiver: &mut Receiver, block: Option<&Block>, delivered: &mut u32) -> Option<Answer> {
+    if receiver.open().is_none() {
+        return None;
+    }
+    let out = receiver.place(block);
+    if out.delivered.is_some() {
+        *delivered = delivered.saturating_add(1);
+    }
+    out.answer
+}
+
 /// The sender's burst arrives, or is lost.
 fn burst(
     sender: &mut Sender,
@@ -37,24 +84,14 @@ fn burst(
     arrives: bool,
     delivered: &mut u32,
 ) -> Option<Answer> {
-    let sent = sender.next_burst();
-    if let Some(GateBurst::Header(header)) = &sent
-        && arrives
-    {
-        receiver.header(header);
-        return None;
+    match sender.next_burst() {
+        Some(GateBurst::Header(header)) if arrives => {
+            receiver.header(&header);
+            None
+        }
+        Some(GateBurst::Block { block, .. }) if arrives => place(receiver, Some(&block), delivered),
+        _ => place(receiver, None, delivered),
     }
-    if receiver.open().is_none() {
-        return None;
-    }
-    let out = match &sent {
-        Some(GateBurst::Block { block, .. }) if arrives => receiver.place(Some(block)),
-        _ => receiver.place(None),
-    };
-    if out.delivered.is_some() {
-        *delivered = delivered.saturating_add(1);
-    }
-    out.answer
 }
 
 /// The bursts of one try of a packet of one block.
@@ -80,12 +117,40 @@ fn wait(sender: &mut Sender, frames: u32) {
     }
 }
 
+/// A try of a packet of one block arrives, and so does its answer: the packet is delivered.
+fn expect_delivered(
+    rt: &impl Abort,
+    sender: &mut Sender,
+    receiver: &mut Receiver,
+    delivered: &mut u32,
+) {
+    if let Some(answer) = attempt(sender, receiver, true, delivered) {
+        sender.answer(&answer);
+    }
+    expect_outcome(rt, sender, Outcome::Delivered);
+}
+
+/// Four tries of a packet, of which the receiver hears and answers each or none; the sender hears no answer, and gives it up.
+fn expect_given_up(
+    rt: &impl Abort,
+    sender: &mut Sender,
+    receiver: &mut Receiver,
+    arrives: bool,
+    delivered: &mut u32,
+) {
+    for _ in 0..4 {
+        assert!(rt; sender.outcome().is_none());
+        assert!(rt; attempt(sender, receiver, arrives, delivered).is_some() == arrives);
+        wait(sender, 20);
+    }
+    expect_outcome(rt, sender, Outcome::GivenUp);
+}
+
 #[test]
 fn first_ack_lost(rt: HostRuntime) {
-    let mut sender = Sender::new(1);
+    let mut sender = sender_of(&rt, &one_block(7));
     let mut receiver = Receiver::new(2);
     let mut delivered = 0;
-    assert!(rt; sender.offer(&one_block(7), ROUTE).is_ok());
     assert!(rt; attempt(&mut sender, &mut receiver, true, &mut delivered).is_some());
     wait(&mut sender, 19);
     assert!(rt; sender.next_burst().is_none());
@@ -95,117 +160,133 @@ fn first_ack_lost(rt: HostRuntime) {
     if let Some(answer) = answer {
         sender.answer(&answer);
     }
-    assert!(rt; sender.outcome() == Some(Outcome::Delivered));
+    expect_outcome(&rt, &mut sender, Outcome::Delivered);
     assert!(rt; sender.outcome().is_none());
-    assert_eq!(rt; delivered, 1);
+    assert!(rt; delivered == 1);
 }
 
 #[test]
 fn all_answers_lost(rt: HostRuntime) {
-    let mut sender = Sender::new(1);
+    let mut sender = sender_of(&rt, &one_block(7));
     let mut receiver = Receiver::new(2);
     let mut delivered = 0;
-    assert!(rt; sender.offer(&one_block(7), ROUTE).is_ok());
-    for _ in 0..4 {
-        assert!(rt; attempt(&mut sender, &mut receiver, true, &mut delivered).is_some());
-        assert!(rt; sender.outcome().is_none());
-        wait(&mut sender, 20);
-    }
-    assert!(rt; sender.outcome() == Some(Outcome::GivenUp));
+    expect_given_up(&rt, &mut sender, &mut receiver, true, &mut delivered);
     assert!(rt; sender.next_burst().is_none());
-    assert_eq!(rt; delivered, 1);
+    assert!(rt; delivered == 1);
 }
 
 // Seven packets in a row are given up, and the ninth has the number of the first: beyond the law's premise.
 #[test]
 fn eighth_sequence_number(rt: HostRuntime) {
-    let mut sender = Sender::new(1);
+    let mut sender = sender_of(&rt, &one_block(0));
     let mut receiver = Receiver::new(2);
     let mut delivered = 0;
-    assert!(rt; sender.offer(&one_block(0), ROUTE).is_ok());
-    if let Some(answer) = attempt(&mut sender, &mut receiver, true, &mut delivered) {
-        sender.answer(&answer);
-    }
-    assert!(rt; sender.outcome() == Some(Outcome::Delivered));
+    expect_delivered(&rt, &mut sender, &mut receiver, &mut delivered);
     for packet in 1..8 {
-        assert!(rt; sender.offer(&one_block(packet), ROUTE).is_ok());
-        for _ in 0..4 {
-            assert!(rt; attempt(&mut sender, &mut receiver, false, &mut delivered).is_none());
-            wait(&mut sender, 20);
+        offer(&rt, &mut sender, &one_block(packet));
+        expect_given_up(&rt, &mut sender, &mut receiver, false, &mut delivered);
+    }
+    offer(&rt, &mut sender, &one_block(8));
+    expect_delivered(&rt, &mut sender, &mut receiver, &mut delivered);
+    assert!(rt; delivered == 1);
+}
+
+/// The header of the partial try of a packet of 127 blocks that three are missing of.
+const THREE_OF_127: Confirmed = Confirmed {
+    group: false,
+    wanted: true,
+    pad: 0,
+    sap: 4,
+    destination: 2,
+    source: 1,
+    full: false,
+    blocks: 3,
+    resynchronize: false,
+    number: 0,
+    fragment: 8,
+};
+
+/// The answer that asks for these three.
+const THREE_MISSING: Answer = Answer {
+    sap: 4,
+    verdict: Verdict::Selective,
+    flags: 0x3FFF_FFFF_FFFF_FFFE_FFFF_FFFF_FFFF_FFFE,
+    ..ACK
+};
+
+/// The full try of a packet of 127 blocks, of which the first, the last and another are lost: what answers it.
+fn full_try_of_127(
+    rt: &impl Abort,
+    sender: &mut Sender,
+    receiver: &mut Receiver,
+) -> Option<Answer> {
+    let mut delivered = 0;
+    let header = burst(sender, receiver, true, &mut delivered);
+    assert!(rt; header.is_none() && receiver.open() == Some(Some(127)));
+    let mut answer = None;
+    for serial in 0..127u8 {
+        assert!(rt; answer.is_none());
+        let arrives = !matches!(serial, 0 | 64 | 126);
+        answer = burst(sender, receiver, arrives, &mut delivered);
+    }
+    assert!(rt; delivered == 0);
+    answer
+}
+
+/// The sender's next burst is the block with this serial, at rate 1/2. What the receiver gives in its place.
+fn expect_block(
+    rt: &impl Abort,
+    sender: &mut Sender,
+    receiver: &mut Receiver,
+    serial: u8,
+) -> ReceiverOut {
+    assert!(rt; receiver.open() == Some(Some(127)));
+    match sender.next_burst() {
+        Some(GateBurst::Block { block, rate }) => {
+            assert!(rt; block.serial == Some(serial) && rate == Rate::Half);
+            receiver.place(Some(&block))
         }
-        assert!(rt; sender.outcome() == Some(Outcome::GivenUp));
+        _ => {
+            assert!(rt; false);
+            receiver.place(None)
+        }
     }
-    assert!(rt; sender.offer(&one_block(8), ROUTE).is_ok());
-    if let Some(answer) = attempt(&mut sender, &mut receiver, true, &mut delivered) {
-        sender.answer(&answer);
+}
+
+/// Whether this is the packet of 127 blocks and its acknowledgement.
+fn is_whole(out: &ReceiverOut) -> bool {
+    match &out.delivered {
+        Some(joined) => {
+            let body = joined.body.as_slice();
+            body.len() == 1266 && body.iter().all(|octet| *octet == 5)
+        }
+        None => false,
     }
-    assert!(rt; sender.outcome() == Some(Outcome::Delivered));
-    assert_eq!(rt; delivered, 1);
+}
+
+/// A partial try of the three blocks that are missing completes the packet.
+fn partial_try_of_127(rt: &impl Abort, sender: &mut Sender, receiver: &mut Receiver) {
+    expect_preambles(rt, sender, ROUTE, 3);
+    let header = Header::Confirmed(THREE_OF_127);
+    expect_burst(rt, sender, GateBurst::Header(header));
+    receiver.header(&header);
+    for serial in [0, 64] {
+        let out = expect_block(rt, sender, receiver, serial);
+        assert!(rt; out.answer.is_none() && out.delivered.is_none());
+    }
+    let out = expect_block(rt, sender, receiver, 126);
+    assert!(rt; out.answer == Some(Answer { sap: 4, ..ACK }) && is_whole(&out));
 }
 
 // 1,266 octets at rate 1/2. Blocks 0, 64 and 126 are lost, and come in a partial try.
 #[test]
 fn packet_of_127_blocks(rt: HostRuntime) {
-    let mut sender = Sender::new(1);
-    let mut receiver = Receiver::new(2);
-    let mut delivered = 0;
     let packet = split_packet(&[5; 1266], Rate::Half, true);
-    assert!(rt; sender.offer(&packet, ROUTE).is_ok());
-    assert_eq!(rt; sender.blocks(), 127);
-    for left in [129, 128] {
-        let preamble = GateBurst::Preamble { left, route: ROUTE };
-        assert!(rt; sender.next_burst() == Some(preamble));
-    }
-    assert!(rt; burst(&mut sender, &mut receiver, true, &mut delivered).is_none());
-    assert!(rt; receiver.open() == Some(Some(127)));
-    let mut answer = None;
-    for serial in 0..127u8 {
-        let arrives = !matches!(serial, 0 | 64 | 126);
-        answer = burst(&mut sender, &mut receiver, arrives, &mut delivered);
-        assert_eq!(rt; answer.is_some(), serial == 126);
-    }
-    let selective = Answer {
-        sap: 4,
-        verdict: Verdict::Selective,
-        flags: 0x3FFF_FFFF_FFFF_FFFE_FFFF_FFFF_FFFF_FFFE,
-        ..ACK
-    };
-    assert!(rt; answer == Some(selective));
-    sender.answer(&selective);
-    for left in [5, 4] {
-        let preamble = GateBurst::Preamble { left, route: ROUTE };
-        assert!(rt; sender.next_burst() == Some(preamble));
-    }
-    let header = Header::Confirmed(Confirmed {
-        group: false,
-        wanted: true,
-        pad: 0,
-        sap: 4,
-        destination: 2,
-        source: 1,
-        full: false,
-        blocks: 3,
-        resynchronize: false,
-        number: 0,
-        fragment: 8,
-    });
-    assert!(rt; sender.next_burst() == Some(GateBurst::Header(header)));
-    receiver.header(&header);
-    for serial in [0, 64, 126] {
-        let Some(GateBurst::Block { block, rate }) = sender.next_burst() else {
-            assert!(rt; false);
-            return;
-        };
-        assert!(rt; block.serial == Some(serial) && rate == Rate::Half);
-        assert!(rt; receiver.open() == Some(Some(127)));
-        let out = receiver.place(Some(&block));
-        if serial == 126 {
-            assert!(rt; out.answer == Some(Answer { sap: 4, ..ACK }));
-            let body = Octets::from_slice(&[5; 1266]);
-            assert!(rt; matches!(&out.delivered, Some(joined) if joined.body == body));
-        } else {
-            assert!(rt; out.answer.is_none() && out.delivered.is_none());
-        }
-    }
-    assert_eq!(rt; delivered, 0);
+    let mut sender = sender_of(&rt, &packet);
+    let mut receiver = Receiver::new(2);
+    assert!(rt; sender.blocks() == 127);
+    expect_preambles(&rt, &mut sender, ROUTE, 127);
+    assert!(rt; full_try_of_127(&rt, &mut sender, &mut receiver) == Some(THREE_MISSING));
+    sender.answer(&THREE_MISSING);
+    partial_try_of_127(&rt, &mut sender, &mut receiver);
 }

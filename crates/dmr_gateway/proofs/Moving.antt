@@ -4,7 +4,7 @@ use Rattle.std.proofs.Common.{Option, Some, None, option_map, refl, sym, ◌∙�
 use Rattle.dmr_arq.proofs.Sound.{by_cond}
 use Rattle.dmr_arq.specs.declared.answer.Verdict.{Verdict}
 use Rattle.dmr_arq.specs.declared.answer.Verdict.TheVariants.{Ack, Failed, Selective}
-use Rattle.dmr_arq.specs.declared.sender.Outcome.TheVariants.{Sent}
+use Rattle.dmr_arq.specs.declared.sender_state.Outcome.TheVariants.{Sent}
 use Rattle.dmr_arq.specs.declared.serials.Selection.{Selection}
 use Rattle.dmr_arq.specs.SenderRules as sender
 use Rattle.dmr_gateway.specs.declared.answers.Due.{Due}

@@ -2,7 +2,7 @@
 use Rattle.std.specs.Prelude.{◌≡◌, ◌↔◌, ℕ, ◌+◌, Bool, List, [], ◌∷◌, Option}
 use Rattle.std.specs.List.{AllByRecursion}
 use Rattle.dmr_burst.specs.declared.burst.Burst.{Burst}
-use Rattle.dmr_arq.specs.declared.sender.Outcome.{Outcome}
+use Rattle.dmr_arq.specs.declared.sender_state.Outcome.{Outcome}
 use Rattle.dmr_record.specs.declared.outgoing.Outgoing.{Outgoing}
 use Rattle.dmr_gateway.specs.declared.received.Received.{Received}
 use Rattle.dmr_gateway.specs.AttemptMeaning.{attempts, refused_now}

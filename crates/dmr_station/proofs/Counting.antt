@@ -4,8 +4,8 @@ use Rattle.std.proofs.lemmas.List.{length-append, length-map}
 use Rattle.std.proofs.lemmas.List.Sums.{sum_by-append, sum_by-cons}
 use Rattle.std.proofs.lemmas.List.Concat.{flat_map-cons}
 use Rattle.std.specs.Prelude.{option_to_list}
-use Rattle.dmr_arq.specs.declared.sender.Outcome.{Outcome}
-use Rattle.dmr_arq.specs.declared.sender.Outcome.TheVariants.{Delivered, Sent, GivenUp}
+use Rattle.dmr_arq.specs.declared.sender_state.Outcome.{Outcome}
+use Rattle.dmr_arq.specs.declared.sender_state.Outcome.TheVariants.{Delivered, Sent, GivenUp}
 use Rattle.dmr_station.specs.GatewayMeaning.{Given, receipt_in, receipts_of, outcomes_of, outcomes_in, refused_in, counts_of}
 use Rattle.dmr_station.specs.StationRules.{FrameGiven, Counts, added, all_counted, counted_frame, is_outcome, outcome_count}
 use Rattle.dmr_station.specs.Station.{receipts_from}

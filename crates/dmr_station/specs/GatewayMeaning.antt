@@ -4,8 +4,8 @@ use Rattle.std.specs.Prelude.{◌≡◌, ℕ, zero, suc, ◌+◌, ◌==◌, List
 use Rattle.std.specs.Prelude.{Option, Some, None, is_some, option_to_list}
 use Rattle.std.specs.List.{AllByRecursion, flat_map}
 use Rattle.dmr_burst.specs.declared.burst.Burst.{Burst}
-use Rattle.dmr_arq.specs.declared.sender.Outcome.{Outcome}
-use Rattle.dmr_arq.specs.declared.sender.Outcome.TheVariants.{Delivered, Sent, GivenUp}
+use Rattle.dmr_arq.specs.declared.sender_state.Outcome.{Outcome}
+use Rattle.dmr_arq.specs.declared.sender_state.Outcome.TheVariants.{Delivered, Sent, GivenUp}
 use Rattle.dmr_record.specs.Outgoing.{Sending, Keeps, sending_of}
 use Rattle.dmr_record.specs.declared.outgoing.Outgoing.{Outgoing}
 use Rattle.dmr_record.specs.Received.{Receipt}

@@ -1,8 +1,8 @@
 -- A base station: what it gives for the frames of the uplink that it takes and the datagrams that it is offered.
 use Rattle.std.specs.Prelude.{ℕ, ◌≡◌, ◌+◌, ◌*◌, ◌^◌, ◌≤◌, List, [], ◌∷◌, ◌++◌, length, map, Option, option_to_list, Result}
 use Rattle.std.specs.List.{AllByRecursion, flat_map}
-use Rattle.dmr_arq.specs.declared.sender.Outcome.{Outcome}
-use Rattle.dmr_arq.specs.declared.sender.Outcome.TheVariants.{Delivered, Sent, GivenUp}
+use Rattle.dmr_arq.specs.declared.sender_state.Outcome.{Outcome}
+use Rattle.dmr_arq.specs.declared.sender_state.Outcome.TheVariants.{Delivered, Sent, GivenUp}
 use Rattle.dmr_gateway.specs.GatewayRules.{Gate, IsOffer, refusal, next_received, after_received}
 use Rattle.dmr_gateway.specs.Packets.{fault_of}
 use Rattle.dmr_gateway.specs.declared.fault.GatewayFault.{GatewayFault}

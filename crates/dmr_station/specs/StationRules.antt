@@ -3,8 +3,8 @@ use Rattle.std.specs.Prelude.{ℕ, ◌≡◌, ◌+◌, ◌&&◌, Bool, true, fal
 use Rattle.std.specs.Prelude.{Option, Some, None, is_some}
 use Rattle.std.specs.Prelude.{option_to_list, slice_index_or}
 use Rattle.dmr_burst.specs.declared.burst.Burst.{Burst}
-use Rattle.dmr_arq.specs.declared.sender.Outcome.{Outcome}
-use Rattle.dmr_arq.specs.declared.sender.Outcome.TheVariants.{Delivered, Sent, GivenUp}
+use Rattle.dmr_arq.specs.declared.sender_state.Outcome.{Outcome}
+use Rattle.dmr_arq.specs.declared.sender_state.Outcome.TheVariants.{Delivered, Sent, GivenUp}
 use Rattle.dmr_gateway.specs.GatewayRules.{Gate, new_gate as silent_gateway, AreOffered, IsAskedFor}
 use Rattle.dmr_gateway.specs.SideRules.{all_received, side_told, side_outcome}
 use Rattle.dmr_gateway.specs.declared.config.Config.{Config}

@@ -1,13 +1,14 @@
 //! Headers, blocks and packets from outside.
+ghost use Rattle.std.specs.Prelude.{◌≤◌, length};
 ghost use Rattle.dmr_data.specs.Header.{IsFitHeader};
 
 use dmr_bits::Bits;
 use dmr_bptc::{bptc_decode, bptc_encode};
 use dmr_checks::{Mask, seal};
 use dmr_data::{
-    Block, BlockFault, Blocks, Confirmed, Header, HeaderFault, JoinFault, Octets, Rate, Response,
-    ShortData, Status, Unconfirmed, block_info, block_read, header_info, header_read, join_packet,
-    split_packet,
+    Block, BlockFault, Blocks, Confirmed, Header, HeaderFault, JoinFault, Octets, Packet, Rate,
+    Response, ShortData, Status, Unconfirmed, block_info, block_read, header_info, header_read,
+    join_packet, split_packet,
 };
 use dmr_test_values::DATAGRAM_BLOCK;
 
@@ -281,64 +282,83 @@ fn join_refusals(rt: HostRuntime) {
     assert!(rt; join_packet(&wrong, 1) == Err(JoinFault::Crc32));
 }
 
-#[test]
-fn datagram_in_a_block(rt: HostRuntime) {
-    let packet = split_packet(&DATAGRAM_BLOCK[..7], Rate::Half, false);
-    assert_eq!(rt; packet.pad, 1);
-    let blocks = packet.blocks.as_slice();
-    assert_eq!(rt; blocks.len(), 1);
-    let block = Block {
-        serial: None,
-        octets: Octets::from_slice(&DATAGRAM_BLOCK),
-    };
-    assert!(rt; packet.blocks.get(0) == Some(&block));
-    assert!(rt; packet.blocks.get(1) == None);
-}
-
-// The flags that ask a packet of 64 blocks again for its first and its last.
-#[test]
-fn selective_flags(rt: HostRuntime) {
-    let flags = [0xFE, 0xFF, 0xFF, 0xFF, 0xFF, 0xFF, 0xFF, 0x7F];
-    let packet = split_packet(&flags, Rate::Half, false);
-    assert_eq!(rt; packet.pad, 0);
-    let octets = [
-        0xFE, 0xFF, 0xFF, 0xFF, 0xFF, 0xFF, 0xFF, 0x7F, 0xAB, 0xD6, 0xDB, 0x63,
-    ];
+/// A packet of one block without a serial.
+fn one_block(octets: &[u8; 12]) -> Blocks {
     let mut blocks = Blocks::new();
     blocks.push(Block {
         serial: None,
-        octets: Octets::from_slice(&octets),
+        octets: Octets::from_slice(octets),
     });
-    assert!(rt; packet.blocks == blocks);
-    assert!(rt; join_packet(&octets, 0) == Ok(Octets::from_slice(&flags)));
+    blocks
+}
+
+/// Whether an unconfirmed packet of this body at rate 1/2 is this one block with so many pad octets, from which it is joined again.
+fn is_one_block(body: &[u8], pad: u8, octets: &[u8; 12]) -> bool
+    requires fits { length body.now ≤ 8 }
+{
+    let packet = split_packet(body, Rate::Half, false);
+    packet.pad == pad
+        && packet.blocks == one_block(octets)
+        && join_packet(octets, pad) == Ok(Octets::from_slice(body))
+}
+
+#[test]
+fn packets_of_a_block(rt: HostRuntime) {
+    assert!(rt; is_one_block(&DATAGRAM_BLOCK[..7], 1, &DATAGRAM_BLOCK));
+    // The flags that ask a packet of 64 blocks again for its first and its last.
+    let flags = [
+        0xFE, 0xFF, 0xFF, 0xFF, 0xFF, 0xFF, 0xFF, 0x7F, 0xAB, 0xD6, 0xDB, 0x63,
+    ];
+    assert!(rt; is_one_block(&flags[..8], 0, &flags));
+}
+
+/// The octets of all blocks of a packet.
+fn octets_of(packet: &Packet) -> Octets<3072> {
+    let mut octets = Octets::<3072>::new();
+    for block in packet.blocks.as_slice() {
+        if octets.as_slice().len() < 3048 {
+            octets.extend_from_slice(block.octets.as_slice());
+        }
+    }
+    octets
+}
+
+/// Whether the blocks of a packet are joined to this body again.
+fn is_joined(packet: &Packet, body: &[u8]) -> bool
+    requires fits { length body.now ≤ 3044 }
+{
+    let octets = octets_of(packet);
+    let octets = octets.as_slice();
+    octets.len() % 2 == 0
+        && octets.len() <= 3048
+        && join_packet(octets, packet.pad) == Ok(Octets::from_slice(body))
+}
+
+/// Whether the serials of a packet's blocks count up from 0.
+fn has_serials(packet: &Packet) -> bool {
+    let mut serial: u8 = 0;
+    for block in packet.blocks.as_slice() {
+        if block.serial != Some(serial) {
+            return false;
+        }
+        serial = serial.wrapping_add(1);
+    }
+    true
+}
+
+/// Whether a packet has so many blocks, and so many pad octets.
+fn has_room(packet: &Packet, blocks: usize, pad: u8) -> bool {
+    packet.blocks.as_slice().len() == blocks && packet.pad == pad
 }
 
 // A body of 22 octets fills two blocks of 10 but for four, and with the check takes three.
 #[test]
 fn confirmed_packets(rt: HostRuntime) {
-    for rate in [Rate::Half, Rate::Full] {
-        let body = [0x5A; 22];
+    let body = [0x5A; 22];
+    for (rate, blocks, pad) in [(Rate::Half, 3, 4), (Rate::Full, 2, 18)] {
         let packet = split_packet(&body, rate, true);
-        let mut octets = Octets::<72>::new();
-        let mut serial = 0;
-        for block in packet.blocks.as_slice() {
-            assert!(rt; block.serial == Some(serial));
-            serial = serial.wrapping_add(1);
-            let copy = block.copy();
-            if octets.as_slice().len() < 48 {
-                octets.extend_from_slice(copy.octets.as_slice());
-            }
-        }
-        let (blocks, pad) = match rate {
-            Rate::Half => (3, 4),
-            Rate::Full => (2, 18),
-        };
-        assert_eq!(rt; serial, blocks);
-        assert_eq!(rt; packet.pad, pad);
-        assert_eq!(rt; octets.as_slice().len() % 2, 0);
-        if octets.as_slice().len() % 2 == 0 {
-            assert!(rt; join_packet(octets.as_slice(), pad) == Ok(Octets::from_slice(&body)));
-        }
+        assert!(rt; has_room(&packet, blocks, pad) && has_serials(&packet));
+        assert!(rt; is_joined(&packet, &body));
     }
 }
 
@@ -346,19 +366,8 @@ fn confirmed_packets(rt: HostRuntime) {
 #[test]
 fn longest_packets(rt: HostRuntime) {
     let confirmed = split_packet(&[0x5A; 1266], Rate::Half, true);
-    assert_eq!(rt; confirmed.blocks.as_slice().len(), 127);
-    assert_eq!(rt; confirmed.pad, 0);
+    assert!(rt; has_room(&confirmed, 127, 0));
     let body = [0x5A; 3044];
     let packet = split_packet(&body, Rate::Full, false);
-    assert_eq!(rt; packet.blocks.as_slice().len(), 127);
-    assert_eq!(rt; packet.pad, 0);
-    let mut octets = Octets::<3072>::new();
-    for block in packet.blocks.as_slice() {
-        let copy = block.copy();
-        if octets.as_slice().len() < 3048 {
-            octets.extend_from_slice(copy.octets.as_slice());
-        }
-    }
-    assert_eq!(rt; octets.as_slice().len(), 3048);
-    assert!(rt; join_packet(octets.as_slice(), 0) == Ok(Octets::from_slice(&body)));
+    assert!(rt; has_room(&packet, 127, 0) && is_joined(&packet, &body));
 }

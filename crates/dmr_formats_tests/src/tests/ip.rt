@@ -1,10 +1,9 @@
 //! Values from outside, and each public call on its happy path.
-ghost use Rattle.std.specs.Prelude.{◌+◌, ◌≤◌, length};
+ghost use Rattle.std.specs.Prelude.{◌+◌, ◌≤◌, ◌<◌, ◌^◌, length};
 
 use dmr_ip::{Datagram, ExpandFault, IpFault, compress, expand};
 use dmr_test_values::{EMPTY_DATAGRAM, OTHER_TIME_TO_LIVE};
 use std::process::Abort;
-use std::test::Fail;
 
 // The datagrams were computed apart from this crate, by the formulas of RFC 791, RFC 768 and
 // RFC 1071.
@@ -77,17 +76,42 @@ const CUT_UDP: [u8; 24] = [
     0x0c, 0x00, 0x00, 0x02, 0x00, 0x00, 0x00, 0x04,
 ];
 
+/// Whether this is the compressed form of a datagram, or whether it has none.
+fn has_form(
+    datagram: &[u8],
+    source: u32,
+    destination: u32,
+    group: bool,
+    form: Option<&[u8]>,
+) -> bool
+    requires source { source < 2 ^ 24 }
+    requires destination { destination < 2 ^ 24 }
+{
+    match Datagram::parse(datagram) {
+        Ok(parsed) => match (compress(&parsed, source, destination, group), form) {
+            (Some(found), Some(form)) => found.as_slice() == form,
+            (found, form) => found.is_none() && form.is_none(),
+        },
+        Err(_) => false,
+    }
+}
+
+/// Whether this is the datagram of a compressed form.
+fn expands_to(form: &[u8], source: u32, destination: u32, group: bool, datagram: &[u8]) -> bool
+    requires source { source < 2 ^ 24 }
+    requires destination { destination < 2 ^ 24 }
+{
+    match expand(form, source, destination, group) {
+        Ok(found) => found.octets() == datagram,
+        Err(_) => false,
+    }
+}
+
 #[test]
-fn compressed_datagram(rt: HostRuntime) -> Result<(), Fail> {
-    let datagram = Datagram::parse(&EMPTY_DATAGRAM)?;
-    let form = compress(&datagram, 1, 2, false).ok_or("no form")?;
-    assert_eq!(rt;
-        form.as_slice(),
-        [0x12, 0x34, 0x00, 0x01, 0x00, 0x13, 0x9a].as_slice()
-    );
-    let expanded = expand(form.as_slice(), 1, 2, false)?;
-    assert_eq!(rt; expanded.octets(), EMPTY_DATAGRAM.as_slice());
-    Ok(())
+fn compressed_datagram(rt: HostRuntime) {
+    let form = [0x12, 0x34, 0x00, 0x01, 0x00, 0x13, 0x9a];
+    assert!(rt; has_form(&EMPTY_DATAGRAM, 1, 2, false, Some(&form)));
+    assert!(rt; expands_to(&form, 1, 2, false, &EMPTY_DATAGRAM));
 }
 
 /// Compressed forms that have no datagram, and why.
@@ -131,71 +155,83 @@ fn fault(octets: &[u8]) -> Option<ExpandFault> {
 }
 
 #[test]
-fn other_time_to_live(rt: HostRuntime) -> Result<(), Fail> {
-    let datagram = Datagram::parse(&OTHER_TIME_TO_LIVE)?;
-    assert!(rt; compress(&datagram, 1, 2, false).is_none());
-    Ok(())
+fn other_time_to_live(rt: HostRuntime) {
+    assert!(rt; has_form(&OTHER_TIME_TO_LIVE, 1, 2, false, None));
+}
+
+/// Why a datagram is refused with another octet at a place.
+fn refusal(place: usize, octet: u8) -> Option<IpFault> {
+    let mut octets = EMPTY_DATAGRAM;
+    if place < 28 {
+        octets[place] = octet;
+    }
+    Datagram::parse(&octets).err()
 }
 
 #[test]
 fn parse_refusals(rt: HostRuntime) {
-    let refused = |place: usize, octet: u8| {
-        let mut octets = EMPTY_DATAGRAM;
-        if place < 28 {
-            octets[place] = octet;
-        }
-        Datagram::parse(&octets).err()
-    };
-    assert_eq!(rt;
-        Datagram::parse(&EMPTY_DATAGRAM[..27]).err(),
-        Some(IpFault::Length)
-    );
-    assert_eq!(rt; refused(0, 0x55), Some(IpFault::Version));
-    assert_eq!(rt; refused(0, 0x46), Some(IpFault::Options));
-    assert_eq!(rt; refused(8, 0x3f), Some(IpFault::HeaderSum));
-    assert_eq!(rt; refused(27, 0xa8), Some(IpFault::UdpSum));
+    assert!(rt; Datagram::parse(&EMPTY_DATAGRAM[..27]).err() == Some(IpFault::Length));
+    for (place, octet, expected) in [
+        (0, 0x55, IpFault::Version),
+        (0, 0x46, IpFault::Options),
+        (8, 0x3f, IpFault::HeaderSum),
+        (27, 0xa8, IpFault::UdpSum),
+    ] {
+        assert!(rt; refusal(place, octet) == Some(expected), "octet {place}");
+    }
 }
+
+/// Datagrams with one fault, and which.
+const FAULTY: [(&[u8], IpFault); 5] = [
+    (&FIRST_FRAGMENT, IpFault::Fragment),
+    (&LATER_FRAGMENT, IpFault::Fragment),
+    (&TCP, IpFault::Protocol),
+    (&LONG_UDP, IpFault::UdpLength),
+    (&CUT_UDP, IpFault::UdpLength),
+];
 
 #[test]
 fn refusals_in_order(rt: HostRuntime) {
-    let refused = [
-        (FIRST_FRAGMENT, IpFault::Fragment),
-        (LATER_FRAGMENT, IpFault::Fragment),
-        (TCP, IpFault::Protocol),
-        (LONG_UDP, IpFault::UdpLength),
-    ];
-    for (octets, expected) in refused {
-        assert_eq!(rt; Datagram::parse(&octets).err(), Some(expected));
+    for (octets, expected) in FAULTY {
+        assert!(rt;
+            Datagram::parse(octets).err() == Some(expected),
+            "{expected}"
+        );
     }
-    assert_eq!(rt; Datagram::parse(&CUT_UDP).err(), Some(IpFault::UdpLength));
 }
 
 #[test]
-fn either_header_sum(rt: HostRuntime) -> Result<(), Fail> {
-    let computed = Datagram::parse(&HEADER_SUM_OF_ZEROS)?;
-    assert!(rt; compress(&computed, 7, 9, false).is_some());
+fn either_header_sum(rt: HostRuntime) {
+    let form = [
+        0x62, 0xc0, 0x00, 0x00, 0x00, 0x0f, 0xa0, 0x0f, 0xa1, 0x68, 0x69,
+    ];
+    assert!(rt; has_form(&HEADER_SUM_OF_ZEROS, 7, 9, false, Some(&form)));
     let mut octets = HEADER_SUM_OF_ZEROS;
     octets[10] = 0xff;
     octets[11] = 0xff;
-    let other = Datagram::parse(&octets)?;
-    assert!(rt; compress(&other, 7, 9, false).is_none());
-    Ok(())
+    assert!(rt; has_form(&octets, 7, 9, false, None));
 }
 
+/// Ports that have an identifier by it, and spelled out.
+const BY_IDENTIFIER: [u8; 10] = [0xa5, 0x5a, 0x02, 0x02, 0x01, 0x48, 0x65, 0x6c, 0x6c, 0x6f];
+
+const SPELLED_OUT: [u8; 14] = [
+    0xa5, 0x5a, 0x02, 0x00, 0x00, 0x13, 0x99, 0x13, 0x98, 0x48, 0x65, 0x6c, 0x6c, 0x6f,
+];
+
 #[test]
-fn ports_by_identifier(rt: HostRuntime) -> Result<(), Fail> {
-    let written = [0xa5, 0x5a, 0x02, 0x02, 0x01, 0x48, 0x65, 0x6c, 0x6c, 0x6f];
-    let spelled_out = [
-        0xa5, 0x5a, 0x02, 0x00, 0x00, 0x13, 0x99, 0x13, 0x98, 0x48, 0x65, 0x6c, 0x6c, 0x6f,
-    ];
-    let datagram = Datagram::parse(&TO_A_GROUP)?;
-    let form = compress(&datagram, 0x12_3456, 0xab_cdef, true).ok_or("no form")?;
-    assert_eq!(rt; form.as_slice(), written.as_slice());
-    for octets in [written.as_slice(), spelled_out.as_slice()] {
-        let expanded = expand(octets, 0x12_3456, 0xab_cdef, true)?;
-        assert_eq!(rt; expanded.octets(), TO_A_GROUP.as_slice());
-    }
-    Ok(())
+fn ports_by_identifier(rt: HostRuntime) {
+    assert!(rt;
+        has_form(
+            &TO_A_GROUP,
+            0x12_3456,
+            0xab_cdef,
+            true,
+            Some(&BY_IDENTIFIER)
+        )
+    );
+    assert!(rt; expands_to(&BY_IDENTIFIER, 0x12_3456, 0xab_cdef, true, &TO_A_GROUP));
+    assert!(rt; expands_to(&SPELLED_OUT, 0x12_3456, 0xab_cdef, true, &TO_A_GROUP));
 }
 
 #[test]

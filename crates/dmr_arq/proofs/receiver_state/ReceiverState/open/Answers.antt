@@ -1,5 +1,5 @@
 use Rattle.std.proofs.Common.{Some, ap, sym}
-use Rattle.dmr_arq.proofs.receiver.ReceiverState.open.Goals as goal
+use Rattle.dmr_arq.proofs.receiver_state.ReceiverState.open.Goals as goal
 
 pub returns-in-InProgress : goal.returns-in-InProgress
 returns-in-InProgress c = record {
