@@ -1,5 +1,7 @@
-"""Listings: each file of samples/, faults with the place of their records, and what may be left out."""
+"""Listings: each file of samples/, as text and as JSON, faults with the place of their records, and what may be left out."""
 
+import json
+import re
 import subprocess
 
 from checks import recordings as it
@@ -27,6 +29,17 @@ PRIVACY_BEGINS = """downlink recording, version 1
 PRIVACY_ENDS = """     0.75      12 2  BS   1  idle
 frames 14 seconds 0.84 slot-1 7 slot-2 7 unreadable 0
 """
+
+# The kinds of received records, by their numbers.
+KINDS = "datagram", "short data", "status"
+
+# Two bursts of the call as JSON.
+CALL_BURSTS = {
+    0: '{"frame":0,"slot":1,"ms":0,"side":"MS","colour":1,"name":"voice header","lc":{"flco":0,"fid":0,"options":0,"target":1,'
+    '"source":2},"wrong":{"sync":0,"slot_type":0,"information":0},"burst":"BURST"}',
+    5: '{"frame":5,"slot":1,"ms":300,"side":null,"colour":1,"name":"voice E","lcss":2,"pi":0,"lc":{"flco":0,"fid":0,"options":0,'
+    '"target":1,"source":2},"wrong":{"emb":0},"burst":"BURST"}',
+}
 
 CSBK = "     0.00       0 1  MS   1  CSBK          opcode 0, fid 0, 0000000000000000"
 HEAD = "uplink recording, version 1\n"
@@ -108,6 +121,10 @@ def check_faults(report):
             fault = it.outgoing_fault(bent)
             wanted = (1, f"error: cut.dmru: {fault} at octet {0 if at < 8 else 8}\n") if fault else (0, "")
             report.expect(f"octet {at} bent", (ran.status, ran.err.decode()) == wanted, ran)
+        cut.write_bytes(it.ONE_CSBK[:42])
+        ran = report.call("show", "cut.dmru", cwd=room.path, stderr=subprocess.STDOUT)
+        wanted = f"{HEAD}{CSBK}\nerror: cut.dmru: half frame at octet 42, frame 0, slot 2\n"
+        report.expect("a fault behind the lines up to it", (ran.status, ran.out.decode()) == (1, wanted), ran)
         ran = report.call("show", "nowhere.dmru", cwd=room.path)
         report.expect("no file", ran.is_error("nowhere.dmru: cannot open"), ran)
         ran = report.call("show", ".", cwd=room.path)
@@ -195,6 +212,103 @@ def check_strips(report):
         report.expect("a strip, and standard output is full", (ran.status, ran.err) == (1, b""), ran)
 
 
+def records_of(octets):
+    """The records of a file with their fields, read by its format: bursts and CACHs by frame and slot, and those of lists."""
+    at, slots, found = 8, 0, []
+    while at < len(octets):
+        tag, head = octets[at], octets[:4]
+        if tag == 2:
+            frame, slot, mode, size = (int.from_bytes(octets[at + a : at + b]) for a, b in ((1, 5), (5, 6), (6, 7), (7, 9)))
+            sent = {"confirmed": bool(mode & 1), "rate": "1" if mode & 2 else "1/2", "octets": octets[at + 9 : at + 9 + size]}
+            found.append({"frame": frame, "slot": slot} | sent)
+            at += 9 + size
+        elif tag == 3:
+            frame, slot, kind, source, size = (
+                int.from_bytes(octets[at + a : at + b]) for a, b in ((1, 5), (5, 6), (6, 7), (7, 10), (10, 12))
+            )
+            came = {"kind": KINDS[kind], "source": source, "octets": octets[at + 12 : at + 12 + size]}
+            found.append({"frame": frame, "slot": slot} | came)
+            at += 12 + size
+        else:
+            cach = 3 if tag and head == b"DMRD" else 0
+            if tag:
+                cells = {"frame": slots // 2, "slot": slots % 2 + 1, "burst": octets[at + 1 + cach : at + 34 + cach]}
+                found.append(cells | ({"cach": octets[at + 1 : at + 4]} if cach else {}))
+            at, slots = at + (34 + cach if tag else 1), slots + 1
+    return found, slots
+
+
+def tact_of(cach):
+    """AT, TC and LCSS of a CACH: the Hamming word within one bit of its seven, whose checks are those of the standard."""
+    bits = [int.from_bytes(cach) >> 23 - place & 1 for place in (0, 4, 8, 12, 14, 18, 22)]
+    for number in range(16):
+        a, b, c, d = (number >> shift & 1 for shift in (3, 2, 1, 0))
+        word = [a, b, c, d, a ^ b ^ c, b ^ c ^ d, a ^ b ^ d]
+        if sum(x != y for x, y in zip(word, bits)) < 2:
+            return {"at": a, "tc": b, "lcss": 2 * c + d}
+
+
+def agrees_with_line(made, line):
+    """An object of a burst says what its line says."""
+    side, colour, name = line[21:24].strip(), line[24:27].strip(), line[29:42].strip()
+    busy = side.endswith("*")
+    wrong = dict(re.findall(r"(sync|slot type|EMB|information) (\d+)", line.partition("[wrong: ")[2]))
+    told = {key: count for key, count in (made["wrong"] or {}).items() if count}
+    call = re.search(r"(group|unit) call (\d+) -> (\d+)", line)
+    called = [made["lc"][key] for key in ("flco", "source", "target")] if call else None
+    return (
+        (made["side"] or "-", made["name"]) == (side.rstrip("*"), name)
+        and ("-" if made["colour"] is None else str(made["colour"])) == colour
+        and f"{made['ms'] / 1000:9.2f}" == line[:9]
+        and bool(made.get("cach", {}).get("at")) == busy
+        and told == {key.lower().replace(" ", "_"): int(count) for key, count in wrong.items()}
+        and (not call or called == [0 if call[1] == "group" else 3, int(call[2]), int(call[3])])
+        and ("octets" not in made or made["octets"] is None or made["octets"] in line)
+        and ("lcss" not in made or f"LCSS {made['lcss']}" in line)
+    )
+
+
+def check_json(report):
+    for file in sorted(file for file in (report.top / "samples").rglob("*.dmr?")):
+        name = f"JSON of {file.parent.name}/{file.name}"
+        ran = report.call("show", file, "--json")
+        text = ran.out.decode("ascii")
+        report.expect(name, (ran.status, ran.err) == (0, b"") and text.endswith("\n"), ran)
+        first, *made, last = map(json.loads, text.splitlines())
+        lines = report.call("show", file).out.decode().splitlines()[1:-1]
+        wanted, slots = records_of(file.read_bytes())
+        kind = {".dmru": "uplink", ".dmrd": "downlink", ".dmro": "outgoing", ".dmri": "received"}[file.suffix]
+        report.expect(f"{name}: the file", first == {"file": kind, "version": 1}, first)
+        ends = {"frames": slots // 2, "records": slots} if kind in ("uplink", "downlink") else {"records": len(wanted)}
+        report.expect(f"{name}: the end", last == ends, last)
+        report.expect(f"{name}: a line for each", len(made) == len(lines) == len(wanted), (len(made), len(lines), len(wanted)))
+        for one, line, record in zip(made, lines, wanted):
+            fields = dict(record, ms=60 * record["frame"] + 30 * (record["slot"] - 1))
+            for key in {"burst", "octets"} & fields.keys():
+                fields[key] = fields[key].hex().upper()
+            if "cach" in fields:
+                fields["cach"] = tact_of(fields["cach"])
+            is_so = all(one[key] == value for key, value in fields.items()) and ("burst" in fields or one.keys() == fields.keys())
+            report.expect(f"{name}: the record of {record['frame']}, {record['slot']}", is_so, (one, fields))
+            if "burst" in fields:
+                report.expect(f"{name}: the line of {record['frame']}, {record['slot']}", agrees_with_line(one, line), (one, line))
+    call = report.top / "samples/call/uplink.dmru"
+    texts = report.call("show", call, "--json").out.decode().splitlines()
+    for frame, wanted in CALL_BURSTS.items():
+        digits = next(it["burst"].hex().upper() for it in records_of(call.read_bytes())[0] if it["frame"] == frame)
+        text = next(text for text in texts if text.startswith(f'{{"frame":{frame},'))
+        report.expect(f"the object of frame {frame}", text == wanted.replace("BURST", digits), text)
+    report.expect("the first object", texts[0] == '{"file":"uplink","version":1}', texts[0])
+    report.expect("the last object", texts[-1] == '{"frames":20,"records":40}', texts[-1])
+    ran = report.call("show", "-", "--json", given=call.read_bytes()[:-1])
+    report.expect("JSON of a cut file has no end", (ran.status, ran.out.decode().splitlines()) == (1, texts[:-1]), ran)
+    report.expect("and its fault is told", ran.err.startswith(b"error: -: half frame at octet "), ran)
+    ran = report.call("show", call, "--json", "--slot", 1, "--from", 2, "--to", 5)
+    report.expect("JSON of some frames", ran.out.decode().splitlines() == [texts[0], *texts[3:7], texts[-1]], ran)
+    ran = report.call("show", call, "--json", "--strip")
+    report.expect("a strip in JSON is refused", (ran.status, ran.out) == (2, b"") and b"cannot be used with" in ran.err, ran)
+
+
 def check_longest(report):
     """The longest recording through a pipe, with a burst every hundred frames, in a process with little memory."""
     block = b"\1" + it.CSBK + bytes(199)
@@ -220,4 +334,5 @@ def check(report):
     check_outputs(report)
     check_filters(report)
     check_strips(report)
+    check_json(report)
     check_longest(report)

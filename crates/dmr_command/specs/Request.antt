@@ -1,5 +1,6 @@
 -- What the words of a command line ask for.
-use Rattle.std.specs.Prelude.{◌≡◌, ◌<◌, ◌^◌, ℕ, [], Option, Some, None, Result, IfOk, IfErr, OnOk, codes, unwrap_or}
+use Rattle.std.specs.Prelude.{◌≡◌, ◌<◌, ◌^◌, ℕ, Bool, true, false, [], Option, Some, None, Result, IfOk, IfErr, OnOk, codes}
+use Rattle.std.specs.Prelude.{unwrap_or}
 use Rattle.std.specs.Str.Parse.{IsNumeral, digits_value, without_leading_plus}
 use Rattle.clap.specs.Words.{first_value, one_text, Text}
 use Rattle.clap.specs.declared.parser.matches.Found.{Found}
@@ -69,11 +70,25 @@ pub record IsFilterOf (found : Found) (filter : Filter) : Type 0 where
   pub from : IsGivenBy 32 found (codes "from") filter.from
   pub to : IsGivenBy 32 found (codes "to") filter.to
 
--- The form is a strip where the option of that name is given, and else a listing.
+-- An option that takes no text is set where it is given.
+pub record IsFlagOf (found : Found) (option : Text) (flag : Bool) : Type 0 where
+  pub left_out : one_text found option ≡ None → flag ≡ false
+  pub unset : one_text found option ≡ Some (codes "false") → flag ≡ false
+  pub set : one_text found option ≡ Some (codes "true") → flag ≡ true
+
+-- a strip where it is asked for, JSON where that alone is, and else a listing
+abbrev pub form_by : Bool → Bool → Form
+form_by true json = form_variant.Strip
+form_by false true = form_variant.Json
+form_by false false = form_variant.Listing
+
+-- The form is that of the options `strip` and `json`.
 pub record IsFormOf (found : Found) (form : Form) : Type 0 where
-  pub left_out : one_text found (codes "strip") ≡ None → form ≡ form_variant.Listing
-  pub unset : one_text found (codes "strip") ≡ Some (codes "false") → form ≡ form_variant.Listing
-  pub set : one_text found (codes "strip") ≡ Some (codes "true") → form ≡ form_variant.Strip
+  pub strip : Bool
+  pub strip_flag : IsFlagOf found (codes "strip") strip
+  pub json : Bool
+  pub json_flag : IsFlagOf found (codes "json") json
+  pub value : form ≡ form_by strip json
 
 -- What a command with these options asks for: `run` for a run, `show` for a listing, and any other for the burst of `slot`.
 abbrev pub IsAskedBy : Option (Text × Found) → Request → Type 0

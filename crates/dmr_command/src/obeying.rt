@@ -10,7 +10,7 @@ use clap::Error;
 use dmr_files::{OpenFault, Place, System, open_source, run_places};
 use dmr_record::Sink;
 use dmr_report::{FAILURE, RunEnd, SUCCESS, USAGE, print_end, print_error, print_slot, print_text};
-use dmr_show::{Filter, Form, show};
+use dmr_show::{Filter, Form, print_want_of_memory, show};
 use std::alloc::Global;
 use std::convert::AsStr;
 
@@ -30,14 +30,6 @@ fn print_answer<K: Sink, E: Sink>(alloc: Global, answer: &Error, out: &mut K, er
         Ok(text) => print_text(out, text.as_str(), SUCCESS),
         Err(_) => print_error(err, "out of memory", USAGE),
     }
-}
-
-/// Tells that there is no memory.
-fn print_want_of_memory<E: Sink>(err: &mut E)
-    requires err { E.has_failed err.old ≡ false }
-    ensures error { E.has_failed err.new ≡ false → PutsError (E.held err.old) (E.held err.new) }
-{
-    let _failure = print_error(err, "out of memory", FAILURE);
 }
 
 /// Tells that a file can't be opened.

@@ -2,7 +2,7 @@
 ghost use Rattle.std.specs.Prelude.{◌≡◌, option_map};
 ghost use Rattle.clap.specs.Words.{found_of};
 ghost use Rattle.dmr_command.specs.Request.{ArePlacesOf, AreSettingsOf, IsAskedBy, IsFilterOf, IsFormOf, IsNumberOf};
-ghost use Rattle.dmr_command.specs.Request.{IsPlaceOf, text_of};
+ghost use Rattle.dmr_command.specs.Request.{IsFlagOf, IsPlaceOf, form_by, text_of};
 
 use clap::{ArgMatches, Error};
 use dmr_files::{Place, Places};
@@ -110,15 +110,29 @@ fn filter_of(show: &ArgMatches<'_>) -> Filter
     }
 }
 
+/// Whether an option is given that takes no text.
+fn flag_of(show: &ArgMatches<'_>, option: &str) -> bool
+    ensures flag { IsFlagOf (found_of show.now) option.now result }
+{
+    show.get_flag(option)
+}
+
+/// The form by the two options that ask for one.
+fn form_by(strip: bool, json: bool) -> Form
+    ensures value { result ≡ form_by strip json }
+{
+    match (strip, json) {
+        (true, _) => Form::Strip,
+        (false, true) => Form::Json,
+        (false, false) => Form::Listing,
+    }
+}
+
 /// The form that a command line of `show` asks for.
 fn form_of(show: &ArgMatches<'_>) -> Form
     ensures form { IsFormOf (found_of show.now) result }
 {
-    if show.get_flag("strip") {
-        Form::Strip
-    } else {
-        Form::Listing
-    }
+    form_by(flag_of(show, "strip"), flag_of(show, "json"))
 }
 
 /// What a command with its options asks for.

@@ -31,9 +31,10 @@ pub struct BurstLine {
     pub wrong: Wrong,
 }
 
-/// What a burst is called.
+/// What a burst is called, by what it is read as and the place in which its frame stands. It is printed as a text of at most 13
+/// characters of ASCII, with no quotation mark in it.
 #[derive(Clone, Copy, Drop)]
-struct Name(Reading, Option<VoicePlace>);
+pub struct BurstName(pub Reading, pub Option<VoicePlace>);
 
 /// The name of a data type, if it has one. ETSI TS 102 361-1, clause 9.3.6.
 fn type_name(kind: u8) -> Option<&'static str> {
@@ -67,7 +68,7 @@ pub(crate) fn place_letter(place: Option<VoicePlace>) -> char {
     }
 }
 
-impl fmt::Display for Name {
+impl fmt::Display for BurstName {
     fn fmt<W: fmt::Write>(&self, f: &mut fmt::Formatter<W>) -> fmt::Result {
         match self.0 {
             Reading::Data(_, SlotType { kind, .. }, _) => match type_name(kind) {
@@ -173,7 +174,7 @@ impl fmt::Display for BurstLine {
         let colour = Colour(colour_of(self.reading));
         let mut name: ArrayString<16> = ArrayString::new();
         let mut details: ArrayString<192> = ArrayString::new();
-        write!(name, "{}", Name(self.reading, self.voice_place))?;
+        write!(name, "{}", BurstName(self.reading, self.voice_place))?;
         write!(details, "{}{}", Details(self), self.wrong)?;
         let name = name.as_str();
         write!(f, "{}  {side} {colour}  ", self.place)?;

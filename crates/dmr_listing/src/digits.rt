@@ -1,9 +1,9 @@
 //! Octets in digits.
 use std::fmt;
 
-/// Octets, printed as two hexadecimal digits each.
+/// Octets, printed as two hexadecimal digits each, in upper case.
 #[derive(Clone, Copy, Drop)]
-pub(crate) struct Digits<'a>(pub(crate) &'a [u8]);
+pub struct Digits<'a>(pub &'a [u8]);
 
 impl fmt::Display for Digits<'_> {
     fn fmt<W: fmt::Write>(&self, f: &mut fmt::Formatter<W>) -> fmt::Result {

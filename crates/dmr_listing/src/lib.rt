@@ -3,7 +3,8 @@
 //! `SlotView` makes the lines of one slot of a recording, frame by frame. A `BurstLine` has all that the line of a burst shows, and
 //! prints it: what the burst is read as (`dmr_report::Reading`), in which place of a superframe it stands (`VoicePlaces`), what its
 //! information holds (`Contents`), the link control that four voice bursts carry, what its CACH announces (`Activity`), and how
-//! many of its bits are wrong (`Wrong`). `OutgoingLine` and `ReceivedLine` print the records of the two lists. All of it comes from
+//! many of its bits are wrong (`Wrong`). `read_tact` reads all fields of a CACH (`Tact`). `OutgoingLine` and `ReceivedLine` print
+//! the records of the two lists. All of it comes from
 //! the readers that a run stands on. Octets that came over the air are printed as digits, never as text. `RecordingSummary` is the
 //! last line of a listing, of what `BurstCounts` counts line by line, and `FaultLine` tells where a file is at fault.
 //!
@@ -51,9 +52,10 @@ mod voice_place;
 mod way;
 mod wrong;
 
-pub use activity::Activity;
-pub use burst_line::BurstLine;
+pub use activity::{Activity, Tact, read_tact};
+pub use burst_line::{BurstLine, BurstName};
 pub use contents::Contents;
+pub use digits::Digits;
 pub use fault_line::FaultLine;
 pub use frames::Frames;
 pub use listing::{BurstLines, ListingEnd, list_recording};

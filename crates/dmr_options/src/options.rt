@@ -69,6 +69,15 @@ fn strip<'a>(alloc: Global) -> Arg<'a> {
         .action(ArgAction::SetTrue)
 }
 
+/// Whether JSON is asked for, which a strip can't be in.
+fn json<'a>(alloc: Global) -> Result<Arg<'a>, AllocError> {
+    Arg::new(alloc, "json")
+        .long("json")
+        .help("An object a line, for programs, in place of the listing for people")
+        .action(ArgAction::SetTrue)
+        .conflicts_with("strip")
+}
+
 /// The slot that has lines.
 fn slot<'a>(alloc: Global) -> Arg<'a> {
     number(alloc, "slot", "The slot alone, 1 or 2").value_parser(value_parser!(u8).range(1..3))
@@ -136,6 +145,7 @@ pub(crate) fn burst<'a>(alloc: Global) -> Arg<'a> {
 
 /// The file of `show`, its form, and the lines that are asked for.
 pub(crate) fn listing<'a>(alloc: Global) -> Result<Vec<Arg<'a>>, AllocError> {
+    let json = json(alloc)?;
     Ok(vec![in alloc;
         word(
             alloc,
@@ -144,6 +154,7 @@ pub(crate) fn listing<'a>(alloc: Global) -> Result<Vec<Arg<'a>>, AllocError> {
             "The file to list; - is standard input",
         ),
         strip(alloc),
+        json,
         slot(alloc),
         frame(alloc, "from", "The first frame that has lines"),
         frame(alloc, "to", "The last frame that has lines"),

@@ -1,2 +1,4 @@
+pub mod Buffers
 pub mod Filter
+pub mod Forms
 pub mod Showing

@@ -16,8 +16,8 @@ use Rattle.dmr_record.specs.declared.head.FileFormat.{FileFormat}
 use Rattle.dmr_record.specs.declared.head.FileFormat.TheVariants.{Uplink, Downlink, Outgoing, Received}
 use Rattle.dmr_report.specs.Line.{PutsError}
 use Rattle.dmr_report.specs.Status.{failure}
-use Rattle.dmr_show.specs.declared.file_listing.FileSummary.{FileSummary}
-use Rattle.dmr_show.specs.declared.file_listing.FileSummary.TheVariants.{OfRecording, OfList}
+use Rattle.dmr_show.specs.declared.file_summary.FileSummary.{FileSummary}
+use Rattle.dmr_show.specs.declared.file_summary.FileSummary.TheVariants.{OfRecording, OfList}
 
 -- The slots of a recording were read to its end behind its head, and its summary is theirs.
 pub record IsRecordingRead (of : Recording) (summary : RecordingSummary) (left_old left_new : Option (List ℕ)) : Type 0 where

@@ -4,35 +4,18 @@ ghost use Rattle.std.specs.Io.KnownBytes.{IsAtEnd};
 ghost use Rattle.dmr_record.specs.Faults.{is_of_end, is_device_fault};
 ghost use Rattle.dmr_listing.specs.Endings.{IfFile, IfNotWritten};
 ghost use Rattle.dmr_listing.specs.ListingRules.{IsListedUpToFault};
+ghost use Rattle.dmr_show.specs.Forms.{notation_of};
 ghost use Rattle.dmr_show.specs.Showing.{BeginsWithStrip, IsHeadFault, IsFileRead, IsReadUpToFault, IsReadWhole, IsRecordFault};
 ghost use Rattle.dmr_show.specs.Showing.{IsRecordingRead, IsShownWhole, has_strip};
 
+use crate::file_summary::FileSummary;
 use crate::form::Form;
-use crate::text_lines::TextLines;
+use crate::lines::Lines;
 use dmr_listing::{
     FaultLine, ListingEnd, Recording, RecordingSummary, list_outgoing, list_received,
     list_recording, strip_recording,
 };
 use dmr_record::{FileFormat, RecordFault, Sink, Source, read_any_head};
-use std::fmt;
-
-/// What a listing ends with.
-#[derive(Clone, Copy, Debug, Drop, PartialEq, Eq)]
-pub(crate) enum FileSummary {
-    /// The frames and bursts of a recording.
-    OfRecording(RecordingSummary),
-    /// How many records a list has.
-    OfList(u32),
-}
-
-impl fmt::Display for FileSummary {
-    fn fmt<W: fmt::Write>(&self, f: &mut fmt::Formatter<W>) -> fmt::Result {
-        match self {
-            FileSummary::OfRecording(summary) => write!(f, "{summary}"),
-            FileSummary::OfList(count) => write!(f, "records {count}"),
-        }
-    }
-}
 
 /// A fault of a head.
 fn head_fault(fault: RecordFault) -> FaultLine
@@ -52,7 +35,7 @@ fn list_behind<S: Source, K: Sink>(
     source: &mut S,
     format: FileFormat,
     room: &mut [u8],
-    lines: &mut TextLines<'_, K>,
+    lines: &mut Lines<'_, K>,
 ) -> Result<FileSummary, ListingEnd>
     requires source { S.has_failed source.old ≡ false }
     requires lines { K.has_failed lines.old.sink.now ≡ false }
@@ -101,7 +84,7 @@ fn list_rest<S: Source, K: Sink>(
     source: &mut S,
     format: FileFormat,
     room: &mut [u8],
-    lines: &mut TextLines<'_, K>,
+    lines: &mut Lines<'_, K>,
 ) -> Result<Shown, ListingEnd>
     requires source { S.has_failed source.old ≡ false }
     requires lines { K.has_failed lines.old.sink.now ≡ false }
@@ -121,7 +104,7 @@ fn list_rest<S: Source, K: Sink>(
         return Err(ListingEnd::Output);
     }
     let summary = list_behind(source, format, room, lines)?;
-    match lines.print(&summary) {
+    match lines.end(&summary) {
         Ok(()) => Ok(Shown::Whole),
         Err(_) => Err(ListingEnd::Output),
     }
@@ -132,7 +115,7 @@ fn list_rest<S: Source, K: Sink>(
 fn strip_behind<S: Source, K: Sink>(
     source: &mut S,
     recording: Recording,
-    lines: &mut TextLines<'_, K>,
+    lines: &mut Lines<'_, K>,
 ) -> Result<RecordingSummary, ListingEnd>
     requires source { S.has_failed source.old ≡ false }
     requires lines { K.has_failed lines.old.sink.now ≡ false }
@@ -155,7 +138,7 @@ fn strip_behind<S: Source, K: Sink>(
 fn strip_rest<S: Source, K: Sink>(
     source: &mut S,
     format: FileFormat,
-    lines: &mut TextLines<'_, K>,
+    lines: &mut Lines<'_, K>,
 ) -> Result<Shown, ListingEnd>
     requires source { S.has_failed source.old ≡ false }
     requires lines { K.has_failed lines.old.sink.now ≡ false }
@@ -186,14 +169,15 @@ fn strip_rest<S: Source, K: Sink>(
 
 /// Shows a file in this form, by the format that its head tells. `room` takes the octets of a received record, and may hold
 /// anything.
-pub(crate) fn show_file<S: Source, K: Sink>(
+fn show_file<S: Source, K: Sink>(
     form: Form,
     source: &mut S,
     room: &mut [u8],
-    lines: &mut TextLines<'_, K>,
+    lines: &mut Lines<'_, K>,
 ) -> Result<Shown, ListingEnd>
     requires source { S.has_failed source.old ≡ false }
     requires lines { K.has_failed lines.old.sink.now ≡ false }
+    requires notation { lines.old.notation ≡ notation_of form }
     requires room { 65535 ≤ length room.old }
     ensures whole { IfOk result (λ shown. shown ≡ Shown.Whole → IsShownWhole (S.left source.old) (S.left source.new)) }
     // A strip is of a recording, and a list alone has none.
@@ -213,7 +197,38 @@ pub(crate) fn show_file<S: Source, K: Sink>(
         Err(fault) => return Err(ListingEnd::File(head_fault(fault))),
     };
     match form {
-        Form::Listing => list_rest(source, format, room, lines),
+        Form::Listing | Form::Json => list_rest(source, format, room, lines),
         Form::Strip => strip_rest(source, format, lines),
+    }
+}
+
+/// Shows a file in this form, and writes all that waits, whether the file is at fault or not.
+pub(crate) fn show_all<S: Source, K: Sink>(
+    form: Form,
+    source: &mut S,
+    room: &mut [u8],
+    lines: &mut Lines<'_, K>,
+) -> Result<Shown, ListingEnd>
+    requires source { S.has_failed source.old ≡ false }
+    requires lines { K.has_failed lines.old.sink.now ≡ false }
+    requires notation { lines.old.notation ≡ notation_of form }
+    requires room { 65535 ≤ length room.old }
+    ensures whole { IfOk result (λ shown. shown ≡ Shown.Whole → IsShownWhole (S.left source.old) (S.left source.new)) }
+    // A strip is of a recording, and a list alone has none.
+    ensures strip { IfOk result (λ shown. shown ≡ Shown.Whole → form ≡ Form.Strip → BeginsWithStrip true (S.left source.old)) }
+    ensures none { IfOk result (λ shown. shown ≡ Shown.NoStrip → (form ≡ Form.Strip) × BeginsWithStrip false (S.left source.old)) }
+    ensures fault { IfErr result (λ e. IfFile e (λ fault. IsHeadFault fault (S.left source.old) (S.left source.new)
+        ⊎ IsRecordFault fault (S.left source.old) (S.left source.new))) }
+    ensures cut { IfErr result (λ e. IfFile e (λ fault. is_of_end fault.fault ≡ true → IsAtEnd (S.left source.new))) }
+    ensures source { IfErr result (λ e. IfFile e (λ fault. S.has_failed source.new ≡ is_device_fault fault.fault)) }
+    ensures output { IfErr result (λ e. IfNotWritten e (K.has_failed lines.new.sink.now ≡ true)) }
+    ensures others { IfErr result (λ e. IfFile e (λ fault. K.has_failed lines.new.sink.now ≡ false)) }
+    ensures well { OnOk result (K.has_failed lines.new.sink.now ≡ false) }
+    ensures same_sink { lines.new.sink.ghost_name ≡ lines.old.sink.ghost_name }
+{
+    let shown = show_file(form, source, room, lines);
+    match lines.flush() {
+        Ok(()) => shown,
+        Err(_) => Err(ListingEnd::Output),
     }
 }

@@ -5,10 +5,10 @@ ghost use Rattle.dmr_report.specs.Line.{PutsError};
 ghost use Rattle.dmr_report.specs.Status.{failure, success};
 ghost use Rattle.dmr_show.specs.Showing.{BeginsWithStrip, IsShownWhole, TellsFault};
 
-use crate::file_listing::{Shown, show_file};
+use crate::file_listing::{Shown, show_all};
 use crate::filter::Filter;
 use crate::form::Form;
-use crate::text_lines::TextLines;
+use crate::lines::Lines;
 use dmr_listing::{FaultLine, ListingEnd};
 use dmr_record::{OCTET_LIMIT, Sink, Source};
 use dmr_report::{FAILURE, SUCCESS, print_error};
@@ -17,7 +17,7 @@ use std::alloc::{AllocError, Global};
 /// How many octets the longest line has at most: a received record that is no datagram, in digits, behind its other columns.
 const LONGEST_LINE: usize = 2 * OCTET_LIMIT + 100;
 
-/// Prints a file in a form to a sink.
+/// Prints a file in a form to a sink, which has all that was printed once this answers.
 fn show_to<S: Source, K: Sink>(
     form: Form,
     source: &mut S,
@@ -36,12 +36,12 @@ fn show_to<S: Source, K: Sink>(
     ensures others { IfErr result (λ e. IfFile e (λ fault. K.has_failed out.new ≡ false)) }
     ensures well { OnOk result (K.has_failed out.new ≡ false) }
 {
-    let mut lines = TextLines::new(out, filter, text);
-    show_file(form, source, room, &mut lines)
+    let mut lines = Lines::new(out, form.notation(), filter, text);
+    show_all(form, source, room, &mut lines)
 }
 
 /// Tells that there is no memory.
-fn print_want_of_memory<E: Sink>(err: &mut E)
+pub fn print_want_of_memory<E: Sink>(err: &mut E)
     requires err { E.has_failed err.old ≡ false }
     ensures error { E.has_failed err.new ≡ false → PutsError (E.held err.old) (E.held err.new) }
 {

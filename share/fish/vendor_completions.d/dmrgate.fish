@@ -18,6 +18,7 @@ complete -c dmrgate -n '__fish_seen_subcommand_from run' -l channel-hang -x -d '
 complete -c dmrgate -n '__fish_seen_subcommand_from run' -l queue -x -d 'Datagrams that may wait in a slot, 1 to 64'
 complete -c dmrgate -n '__fish_seen_subcommand_from show' -F
 complete -c dmrgate -n '__fish_seen_subcommand_from show' -l strip -d 'A letter for each slot, 50 frames a line'
+complete -c dmrgate -n '__fish_seen_subcommand_from show' -l json -d 'An object a line, for programs'
 complete -c dmrgate -n '__fish_seen_subcommand_from show' -l slot -x -a '1 2' -d 'The slot alone'
 complete -c dmrgate -n '__fish_seen_subcommand_from show' -l from -x -d 'The first frame that has lines'
 complete -c dmrgate -n '__fish_seen_subcommand_from show' -l to -x -d 'The last frame that has lines'

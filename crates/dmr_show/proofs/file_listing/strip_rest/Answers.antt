@@ -1,4 +1,4 @@
-use Rattle.dmr_show.specs.declared.file_listing.FileSummary.TheVariants.{OfRecording}
+use Rattle.dmr_show.specs.declared.file_summary.FileSummary.TheVariants.{OfRecording}
 use Rattle.dmr_show.proofs.file_listing.strip_rest.Goals as goal
 
 pub returns-in-Ok-clause-whole : goal.returns-in-Ok-clause-whole

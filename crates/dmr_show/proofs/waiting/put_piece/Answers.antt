@@ -1,6 +1,6 @@
 use Rattle.std.proofs.Common.{rules}
 use Rattle.dmr_record.proofs.Pieces.{Appends-onwards}
-use Rattle.dmr_show.proofs.line.put_piece.Goals as goal
+use Rattle.dmr_show.proofs.waiting.put_piece.Goals as goal
 
 pub loop-done-preserved : goal.loop-done-preserved
 loop-done-preserved g c = record {

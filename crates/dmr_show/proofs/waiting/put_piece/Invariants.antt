@@ -1,7 +1,7 @@
 -- The front of the piece has gone out.
 use Rattle.std.proofs.Common.{length, ◌-◌, ◌≡◌, ◌≤◌, take}
 use Rattle.std.specs.Io.KnownBytes.{Appends}
-use Rattle.dmr_show.proofs.line.put_piece.Given as goal
+use Rattle.dmr_show.proofs.waiting.put_piece.Given as goal
 
 abbrev pub invariant-loop-done : goal.invariant-loop-done
 invariant-loop-done g l = record {

@@ -1,0 +1,69 @@
+//! What an object has of a control signalling block.
+use crate::values::Hex;
+use dmr_csbk::{BsDownAct, Csbk, Preamble};
+use std::fmt;
+
+/// A control signalling block: opcode, feature set and its eight octets, and what these mean of the blocks that a listing names.
+#[derive(Clone, Copy, Drop)]
+pub(crate) struct ControlBlock(pub(crate) Csbk);
+
+/// The feature set of the standard, whose opcodes have meanings here.
+const STANDARD: u8 = 0;
+
+/// What a preamble means.
+#[derive(Clone, Copy, Drop)]
+struct PreambleObject(Preamble);
+
+impl fmt::Display for PreambleObject {
+    fn fmt<W: fmt::Write>(&self, f: &mut fmt::Formatter<W>) -> fmt::Result {
+        let preamble = self.0;
+        let data = u8::from(preamble.packet);
+        let group = u8::from(preamble.group);
+        write!(f, "{{\"data\":{data},\"group\":{group},")?;
+        write!(f, "\"left\":{},", preamble.left)?;
+        write!(
+            f,
+            "\"target\":{},\"source\":{}}}",
+            preamble.target, preamble.source
+        )
+    }
+}
+
+/// What the request for a base station means.
+#[derive(Clone, Copy, Drop)]
+struct ActivationObject(BsDownAct);
+
+impl fmt::Display for ActivationObject {
+    fn fmt<W: fmt::Write>(&self, f: &mut fmt::Formatter<W>) -> fmt::Result {
+        let request = self.0;
+        write!(f, "{{\"bs\":{},\"source\":{}}}", request.bs, request.source)
+    }
+}
+
+/// The key for what a block means, where it has a meaning here.
+#[derive(Clone, Copy, Drop)]
+struct MeaningKey(Csbk);
+
+impl fmt::Display for MeaningKey {
+    fn fmt<W: fmt::Write>(&self, f: &mut fmt::Formatter<W>) -> fmt::Result {
+        let block = self.0;
+        if block.fid != STANDARD {
+            return Ok(());
+        }
+        if let Some(preamble) = block.preamble() {
+            return write!(f, ",\"preamble\":{}", PreambleObject(preamble));
+        }
+        match block.down_act() {
+            Some(request) => write!(f, ",\"activation\":{}", ActivationObject(request)),
+            None => Ok(()),
+        }
+    }
+}
+
+impl fmt::Display for ControlBlock {
+    fn fmt<W: fmt::Write>(&self, f: &mut fmt::Formatter<W>) -> fmt::Result {
+        let block = self.0;
+        write!(f, "{{\"opcode\":{},\"fid\":{},", block.code, block.fid)?;
+        write!(f, "\"octets\":{}{}}}", Hex(&block.body), MeaningKey(block))
+    }
+}

@@ -1,0 +1,115 @@
+//! What an object has of a data header.
+use dmr_data::{Confirmed, Header, Response, ShortData, Status, Unconfirmed};
+use std::fmt;
+
+/// A data header: the number of its format, who sends to whom, and what its format has.
+#[derive(Clone, Copy, Drop)]
+pub(crate) struct DataHeader(pub(crate) Header);
+
+/// Whether the destination is a group, and the addresses.
+#[derive(Clone, Copy, Drop)]
+struct WayKeys {
+    to_group: bool,
+    destination: u32,
+    source: u32,
+}
+
+impl fmt::Display for WayKeys {
+    fn fmt<W: fmt::Write>(&self, f: &mut fmt::Formatter<W>) -> fmt::Result {
+        let group = u8::from(self.to_group);
+        write!(f, "\"group\":{group},")?;
+        write!(
+            f,
+            "\"target\":{},\"source\":{}",
+            self.destination, self.source
+        )
+    }
+}
+
+fn write_response<W: fmt::Write>(response: &Response, f: &mut fmt::Formatter<W>) -> fmt::Result {
+    let way = WayKeys {
+        to_group: false,
+        destination: response.destination,
+        source: response.source,
+    };
+    write!(f, "{{\"format\":1,{way},\"sap\":{},", response.sap)?;
+    write!(
+        f,
+        "\"class\":{},\"type\":{},",
+        response.class, response.kind
+    )?;
+    write!(
+        f,
+        "\"status\":{},\"blocks\":{}}}",
+        response.status, response.blocks
+    )
+}
+
+fn write_unconfirmed<W: fmt::Write>(
+    header: &Unconfirmed,
+    f: &mut fmt::Formatter<W>,
+) -> fmt::Result {
+    let way = WayKeys {
+        to_group: header.group,
+        destination: header.destination,
+        source: header.source,
+    };
+    write!(f, "{{\"format\":2,{way},\"sap\":{},", header.sap)?;
+    write!(f, "\"blocks\":{},\"pad\":{}}}", header.blocks, header.pad)
+}
+
+fn write_confirmed<W: fmt::Write>(header: &Confirmed, f: &mut fmt::Formatter<W>) -> fmt::Result {
+    let way = WayKeys {
+        to_group: header.group,
+        destination: header.destination,
+        source: header.source,
+    };
+    write!(f, "{{\"format\":3,{way},\"sap\":{},", header.sap)?;
+    write!(f, "\"number\":{},", header.number)?;
+    write!(f, "\"blocks\":{},\"pad\":{}}}", header.blocks, header.pad)
+}
+
+fn write_short_data<W: fmt::Write>(header: &ShortData, f: &mut fmt::Formatter<W>) -> fmt::Result {
+    let way = WayKeys {
+        to_group: header.group,
+        destination: header.destination,
+        source: header.source,
+    };
+    write!(
+        f,
+        "{{\"format\":13,{way},\"data_format\":{},",
+        header.data_format
+    )?;
+    write!(
+        f,
+        "\"blocks\":{},\"bit_padding\":{}}}",
+        header.blocks, header.bit_padding
+    )
+}
+
+fn write_status<W: fmt::Write>(header: &Status, f: &mut fmt::Formatter<W>) -> fmt::Result {
+    let way = WayKeys {
+        to_group: header.group,
+        destination: header.destination,
+        source: header.source,
+    };
+    write!(
+        f,
+        "{{\"format\":14,{way},\"source_port\":{},",
+        header.source_port
+    )?;
+    write!(f, "\"target_port\":{},", header.destination_port)?;
+    write!(f, "\"status\":{}}}", header.status)
+}
+
+impl fmt::Display for DataHeader {
+    fn fmt<W: fmt::Write>(&self, f: &mut fmt::Formatter<W>) -> fmt::Result {
+        match &self.0 {
+            Header::Response(response) => write_response(response, f),
+            Header::Unconfirmed(header) => write_unconfirmed(header, f),
+            Header::Confirmed(header) => write_confirmed(header, f),
+            Header::ShortData(header) => write_short_data(header, f),
+            Header::Status(status) => write_status(status, f),
+        }
+    }
+}

@@ -1,0 +1,27 @@
+//! What a listing begins with.
+use dmr_record::FileFormat;
+use std::fmt;
+
+/// The object of a file: which of the four it is.
+#[derive(Clone, Copy, Drop)]
+pub struct FileObject {
+    /// Which it is.
+    pub format: FileFormat,
+}
+
+/// The name of a format.
+fn name_of(format: FileFormat) -> &'static str {
+    match format {
+        FileFormat::Uplink => "uplink",
+        FileFormat::Downlink => "downlink",
+        FileFormat::Outgoing => "outgoing",
+        FileFormat::Received => "received",
+    }
+}
+
+impl fmt::Display for FileObject {
+    fn fmt<W: fmt::Write>(&self, f: &mut fmt::Formatter<W>) -> fmt::Result {
+        let name = name_of(self.format);
+        write!(f, "{{\"file\":\"{name}\",\"version\":1}}")
+    }
+}

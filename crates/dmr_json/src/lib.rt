@@ -1,0 +1,27 @@
+//! What a file holds, as JSON: an object for the file, one for each burst or record, and a last one.
+//!
+//! `FileObject` begins a listing; `BurstObject`, `OutgoingObject` and `ReceivedObject` show what the lines of `dmr_listing` show,
+//! and
+//! the octets themselves; `RecordingEnd` and `ListEnd` end it. Each is printed as one line of ASCII, with its keys in one order.
+//! All
+//! texts are fixed, so nothing has to be escaped, and what came over the air is printed as numbers and digits alone. `null` stands
+//! where something couldn't be read. Nothing is promised of the texts beyond safety; they are tested.
+#![tactic(auto)]
+
+mod burst;
+mod cach;
+mod contents;
+mod control_block;
+mod data_header;
+mod ends;
+mod file;
+mod link_control;
+mod place;
+mod records;
+mod values;
+mod wrong;
+
+pub use burst::BurstObject;
+pub use ends::{ListEnd, RecordingEnd};
+pub use file::FileObject;
+pub use records::{OutgoingObject, ReceivedObject};

@@ -1,0 +1,66 @@
+//! The objects of the two lists.
+use crate::place::PlaceKeys;
+use crate::values::Hex;
+use dmr_listing::Place;
+use dmr_record::{Outgoing, Received, ReceivedKind};
+use std::fmt;
+
+/// The object of a record of an outgoing list.
+#[derive(Drop)]
+pub struct OutgoingObject<'a> {
+    /// The record.
+    pub record: &'a Outgoing,
+}
+
+/// The object of a record of a received list.
+#[derive(Clone, Copy, Drop)]
+pub struct ReceivedObject<'a> {
+    /// The record.
+    pub record: Received,
+    /// Its octets.
+    pub octets: &'a [u8],
+}
+
+/// The rate of the blocks of a packet.
+fn rate_name(full: bool) -> &'static str {
+    if full { "1" } else { "1/2" }
+}
+
+impl fmt::Display for OutgoingObject<'_> {
+    fn fmt<W: fmt::Write>(&self, f: &mut fmt::Formatter<W>) -> fmt::Result {
+        let place = Place {
+            frame: self.record.frame,
+            slot: self.record.slot,
+        };
+        let place = PlaceKeys(&place);
+        let confirmed = self.record.confirmed;
+        let rate = rate_name(self.record.full);
+        let octets = Hex(self.record.octets.as_slice());
+        write!(f, "{{{place},\"confirmed\":{confirmed},")?;
+        write!(f, "\"rate\":\"{rate}\",\"octets\":{octets}}}")
+    }
+}
+
+/// What came.
+fn kind_name(kind: ReceivedKind) -> &'static str {
+    match kind {
+        ReceivedKind::Datagram => "datagram",
+        ReceivedKind::ShortData => "short data",
+        ReceivedKind::Status => "status",
+    }
+}
+
+impl fmt::Display for ReceivedObject<'_> {
+    fn fmt<W: fmt::Write>(&self, f: &mut fmt::Formatter<W>) -> fmt::Result {
+        let place = Place {
+            frame: self.record.frame,
+            slot: self.record.slot,
+        };
+        let place = PlaceKeys(&place);
+        let kind = kind_name(self.record.kind);
+        let source = self.record.source;
+        let octets = Hex(self.octets);
+        write!(f, "{{{place},\"kind\":\"{kind}\",")?;
+        write!(f, "\"source\":{source},\"octets\":{octets}}}")
+    }
+}

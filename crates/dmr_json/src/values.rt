@@ -1,0 +1,27 @@
+//! Values that several objects have.
+use dmr_listing::Digits;
+use std::fmt;
+
+/// Octets, printed as a string of hexadecimal digits.
+#[derive(Clone, Copy, Drop)]
+pub(crate) struct Hex<'a>(pub(crate) &'a [u8]);
+
+impl fmt::Display for Hex<'_> {
+    fn fmt<W: fmt::Write>(&self, f: &mut fmt::Formatter<W>) -> fmt::Result {
+        let digits = Digits(self.0);
+        write!(f, "\"{digits}\"")
+    }
+}
+
+/// A number that may not be known.
+#[derive(Clone, Copy, Drop)]
+pub(crate) struct Known(pub(crate) Option<u8>);
+
+impl fmt::Display for Known {
+    fn fmt<W: fmt::Write>(&self, f: &mut fmt::Formatter<W>) -> fmt::Result {
+        match self.0 {
+            Some(number) => write!(f, "{number}"),
+            None => write!(f, "null"),
+        }
+    }
+}

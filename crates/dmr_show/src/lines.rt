@@ -1,0 +1,231 @@
+//! The lines of a file, printed in a notation.
+ghost use Rattle.std.specs.Io.KnownBytes.{Appends};
+ghost use Rattle.std.specs.Prelude.{◌≡◌, ◌≤◌, [], None, OnOk, length};
+ghost use Rattle.dmr_record.specs.Devices.{failed_after};
+ghost use Rattle.dmr_report.specs.Line.{PutsLine};
+ghost use Rattle.dmr_show.specs.Buffers.{held_by};
+ghost use Rattle.dmr_show.specs.Filter.{IsInSlot, Passes};
+
+use crate::file_summary::FileSummary;
+use crate::filter::Filter;
+use crate::form::Notation;
+use crate::waiting::Waiting;
+use crate::written::Written;
+use dmr_json::{BurstObject, FileObject, ListEnd, OutgoingObject, ReceivedObject, RecordingEnd};
+use dmr_listing::{
+    BurstLine, BurstLines, Frames, OutgoingLine, OutgoingLines, Place, ReceivedLine, ReceivedLines,
+    RecordedBurst, RecordingSummary, Strip, StripLines,
+};
+use dmr_record::{DeviceFault, FileFormat, Outgoing, Received, Sink};
+use std::fmt::{Display, Write};
+
+/// Prints the lines of a file to a sink, each in a notation, as far as a filter lets them pass.
+#[derive(Drop)]
+pub(crate) struct Lines<'a, K> {
+    pub(crate) sink: &'a mut K,
+    /// What waits to be written to it.
+    waiting: Waiting,
+    pub(crate) notation: Notation,
+    filter: Filter,
+    /// The line that is printed; there is room for every line.
+    text: &'a mut String,
+}
+
+/// What a listing begins with.
+fn head_of(format: FileFormat) -> &'static str {
+    match format {
+        FileFormat::Uplink => "uplink recording, version 1",
+        FileFormat::Downlink => "downlink recording, version 1",
+        FileFormat::Outgoing => "outgoing list, version 1",
+        FileFormat::Received => "received list, version 1",
+    }
+}
+
+impl<'a, K: Sink> Lines<'a, K> {
+    /// Lines go to this sink. The text has room for the longest of them.
+    pub(crate) fn new(
+        sink: &'a mut K,
+        notation: Notation,
+        filter: Filter,
+        text: &'a mut String,
+    ) -> Lines<'a, K>
+        ensures same_sink { result.sink.ghost_name ≡ sink.entry.ghost_name }
+        ensures sink { result.sink.now ≡ sink.old }
+        ensures notation { result.notation ≡ notation }
+    {
+        Lines {
+            sink,
+            waiting: Waiting::new(),
+            notation,
+            filter,
+            text,
+        }
+    }
+
+    /// Writes what waits to the sink.
+    pub(crate) fn flush(&mut self) -> Result<(), DeviceFault>
+        ensures octets { OnOk result (Appends (K.held self.old.sink.now) (K.held self.new.sink.now) self.old.waiting) }
+        ensures none { self.new.waiting ≡ [] }
+        ensures failure { K.has_failed self.new.sink.now ≡ failed_after (K.has_failed self.old.sink.now) result }
+        ensures same_sink { self.new.sink.ghost_name ≡ self.old.sink.ghost_name }
+    {
+        self.waiting.flush(self.sink)
+    }
+
+    /// Prints a line, whatever it is written in.
+    fn write<T: Display>(&mut self, line: &T) -> Result<(), DeviceFault>
+        ensures line { OnOk result (PutsLine (held_by (K.held self.old.sink.now) self.old.waiting)
+            (held_by (K.held self.new.sink.now) self.new.waiting)) }
+        ensures failure { K.has_failed self.new.sink.now ≡ failed_after (K.has_failed self.old.sink.now) result }
+        ensures same_sink { self.new.sink.ghost_name ≡ self.old.sink.ghost_name }
+    {
+        self.text.clear();
+        // There is room for every line, and nothing else makes this fail.
+        let _ = write!(self.text, "{line}");
+        self.waiting.put_line(self.sink, self.text.as_str())
+    }
+
+    /// Prints a line of the notation that is asked for.
+    fn print<T: Written>(&mut self, line: &T) -> Result<(), DeviceFault>
+        requires notation { T.notation line.now ≡ self.old.notation }
+        ensures line { OnOk result (PutsLine (held_by (K.held self.old.sink.now) self.old.waiting)
+            (held_by (K.held self.new.sink.now) self.new.waiting)) }
+        ensures failure { K.has_failed self.new.sink.now ≡ failed_after (K.has_failed self.old.sink.now) result }
+        ensures same_sink { self.new.sink.ghost_name ≡ self.old.sink.ghost_name }
+    {
+        self.write(line)
+    }
+
+    /// Prints what the listing of a file of this format begins with.
+    pub(crate) fn begin(&mut self, format: FileFormat) -> Result<(), DeviceFault>
+        ensures line { OnOk result (PutsLine (held_by (K.held self.old.sink.now) self.old.waiting)
+            (held_by (K.held self.new.sink.now) self.new.waiting)) }
+        ensures failure { K.has_failed self.new.sink.now ≡ failed_after (K.has_failed self.old.sink.now) result }
+        ensures same_sink { self.new.sink.ghost_name ≡ self.old.sink.ghost_name }
+    {
+        match self.notation {
+            Notation::Text => self.waiting.put_line(self.sink, head_of(format)),
+            Notation::Json => self.print(&FileObject { format }),
+        }
+    }
+
+    /// Prints what a listing ends with.
+    pub(crate) fn end(&mut self, summary: &FileSummary) -> Result<(), DeviceFault>
+        ensures line { OnOk result (PutsLine (held_by (K.held self.old.sink.now) self.old.waiting)
+            (held_by (K.held self.new.sink.now) self.new.waiting)) }
+        ensures failure { K.has_failed self.new.sink.now ≡ failed_after (K.has_failed self.old.sink.now) result }
+        ensures same_sink { self.new.sink.ghost_name ≡ self.old.sink.ghost_name }
+    {
+        match (self.notation, *summary) {
+            (Notation::Text, _) => self.print(summary),
+            (Notation::Json, FileSummary::OfRecording(RecordingSummary { frames, .. })) => {
+                self.print(&RecordingEnd { frames })
+            }
+            (Notation::Json, FileSummary::OfList(records)) => self.print(&ListEnd { records }),
+        }
+    }
+
+    /// Prints the line of what stands in a place, where the filter lets it pass.
+    fn print_at<T: Written>(&mut self, place: Place, line: &T) -> Result<(), DeviceFault>
+        requires notation { T.notation line.now ≡ self.old.notation }
+        ensures line { OnOk result (Passes self.old.filter place
+            → PutsLine (held_by (K.held self.old.sink.now) self.old.waiting)
+            (held_by (K.held self.new.sink.now) self.new.waiting)) }
+        ensures others { OnOk result ((Passes self.old.filter place → ⊥) → self.new.sink.now ≡ self.old.sink.now) }
+        ensures failure { K.has_failed self.new.sink.now ≡ failed_after (K.has_failed self.old.sink.now) result }
+        ensures same_sink { self.new.sink.ghost_name ≡ self.old.sink.ghost_name }
+    {
+        if self.filter.passes(place) {
+            self.print(line)
+        } else {
+            Ok(())
+        }
+    }
+
+    /// The frames that the filter lets pass.
+    pub(crate) fn frames(&self) -> Frames {
+        self.filter.frames()
+    }
+
+    /// Prints the line of a slot of a strip, where the strip has that slot and the filter lets it pass.
+    fn print_slot(&mut self, strip: &Strip, slot: u8) -> Result<(), DeviceFault>
+        ensures line { OnOk result (IsInSlot self.old.filter slot → slot ≤ length strip.now.marks
+            → PutsLine (held_by (K.held self.old.sink.now) self.old.waiting)
+            (held_by (K.held self.new.sink.now) self.new.waiting)) }
+        ensures failure { K.has_failed self.new.sink.now ≡ failed_after (K.has_failed self.old.sink.now) result }
+        ensures same_sink { self.new.sink.ghost_name ≡ self.old.sink.ghost_name }
+    {
+        match strip.line(slot) {
+            Some(line) if self.filter.has_slot(slot) => self.write(&line),
+            _ => Ok(()),
+        }
+    }
+}
+
+impl<K: Sink> BurstLines for Lines<'_, K> {
+    ghost given = { λ lines. None };
+
+    ghost has_failed = { λ lines. K.has_failed lines.sink.now };
+
+    ghost kept = { λ lines. lines.sink.ghost_name };
+
+    fn put(&mut self, burst: &RecordedBurst, line: &BurstLine) -> Result<(), DeviceFault> {
+        match self.notation {
+            Notation::Text => self.print_at(line.place, line),
+            Notation::Json => self.print_at(line.place, &BurstObject { burst, line }),
+        }
+    }
+}
+
+impl<K: Sink> OutgoingLines for Lines<'_, K> {
+    ghost given = { λ lines. None };
+
+    ghost has_failed = { λ lines. K.has_failed lines.sink.now };
+
+    ghost kept = { λ lines. lines.sink.ghost_name };
+
+    fn put(&mut self, outgoing: &Outgoing) -> Result<(), DeviceFault> {
+        let place = Place {
+            frame: outgoing.frame,
+            slot: outgoing.slot,
+        };
+        let record = outgoing;
+        match self.notation {
+            Notation::Text => self.print_at(place, &OutgoingLine { record }),
+            Notation::Json => self.print_at(place, &OutgoingObject { record }),
+        }
+    }
+}
+
+impl<K: Sink> ReceivedLines for Lines<'_, K> {
+    ghost given = { λ lines. None };
+
+    ghost has_failed = { λ lines. K.has_failed lines.sink.now };
+
+    ghost kept = { λ lines. lines.sink.ghost_name };
+
+    fn put(&mut self, received: Received, octets: &[u8]) -> Result<(), DeviceFault> {
+        let place = Place {
+            frame: received.frame,
+            slot: received.slot,
+        };
+        let record = received;
+        match self.notation {
+            Notation::Text => self.print_at(place, &ReceivedLine { record, octets }),
+            Notation::Json => self.print_at(place, &ReceivedObject { record, octets }),
+        }
+    }
+}
+
+impl<K: Sink> StripLines for Lines<'_, K> {
+    ghost given = { λ lines. None };
+
+    ghost has_failed = { λ lines. K.has_failed lines.sink.now };
+
+    ghost kept = { λ lines. lines.sink.ghost_name };
+
+    fn put_strip(&mut self, strip: &Strip) -> Result<(), DeviceFault> {
+        self.print_slot(strip, 1)?;
+        self.print_slot(strip, 2)
+    }
+}
