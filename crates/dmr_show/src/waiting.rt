@@ -67,8 +67,7 @@ impl Waiting {
 
     /// Takes the whole piece. Where there is no room for it, what waits is written first; and a piece for which there is never room
     /// doesn't wait. At an `Err` the sink took a front of all of it.
-    #[tactic(auto, using(crate::proofs::Buffers::kept_waiting, crate::proofs::Buffers::kept_behind_all,
-        crate::proofs::Buffers::written_behind_all, crate::proofs::Buffers::torn_behind_all, crate::proofs::Buffers::torn_before))]
+    #[tactic(auto, using(crate::proofs::Buffers::kept_waiting, crate::proofs::Buffers::kept_behind_all, crate::proofs::Buffers::written_behind_all, crate::proofs::Buffers::torn_behind_all, crate::proofs::Buffers::torn_before))]
     fn put<K: Sink>(&mut self, sink: &mut K, piece: &[u8]) -> Result<(), DeviceFault>
         ensures octets { OnOk result (Appends (held_by (K.held sink.old) self.old) (held_by (K.held sink.new) self.new) piece.now) }
         ensures torn { OnErr result (Tears (K.held sink.old) (K.held sink.new) (self.old ++ piece.now)) }
