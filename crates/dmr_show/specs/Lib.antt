@@ -1,4 +1,4 @@
-pub mod Buffers
 pub mod Filter
 pub mod Forms
+pub mod Held
 pub mod Showing

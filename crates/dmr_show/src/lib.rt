@@ -2,13 +2,10 @@
 //!
 //! `show` reads a file of any of the four formats, and prints a line for the file, a line for each burst or record that a `Filter`
 //! lets pass, and a last line with what the file holds, all as text or as JSON; or, of a recording, the strip of the frames and
-//! slots
-//! that it lets pass (`Form`). Where the file is at fault, the lines up to the fault stand, and then what it is and where. Which
-//! lines
-//! there are and what they show is `dmr_listing`'s, and the objects of JSON are `dmr_json`'s. Contracts cite `specs/Showing.antt`
-//! for
-//! files that were read to their end or to a fault, `specs/Filter.antt`, `specs/Forms.antt` for what lines are written in, and
-//! `specs/Buffers.antt` for lines that wait to be written. They leave open what the texts are.
+//! slots that it lets pass (`Form`). Where the file is at fault, the lines up to the fault stand, and then what it is and where.
+//! Which lines there are and what they show is `dmr_listing`'s, and the objects of JSON are `dmr_json`'s. Contracts cite
+//! `specs/Showing.antt` for files that were read to their end or to a fault, `specs/Filter.antt`, `specs/Forms.antt` for what lines
+//! are written in, and `specs/Held.antt` for lines that wait to be written. They leave open what the texts are.
 #![tactic(auto)]
 
 mod file_listing;

@@ -3,7 +3,7 @@ ghost use Rattle.std.specs.Io.KnownBytes.{Appends};
 ghost use Rattle.std.specs.Prelude.{◌≡◌, ◌≤◌, [], None, OnOk, length};
 ghost use Rattle.dmr_record.specs.Devices.{failed_after};
 ghost use Rattle.dmr_report.specs.Line.{PutsLine};
-ghost use Rattle.dmr_show.specs.Buffers.{held_by};
+ghost use Rattle.dmr_show.specs.Held.{held_by};
 ghost use Rattle.dmr_show.specs.Filter.{IsInSlot, Passes};
 
 use crate::file_summary::FileSummary;

@@ -3,7 +3,7 @@ ghost use Rattle.std.specs.Prelude.{◌≡◌, ◌++◌, [], OnOk, OnErr};
 ghost use Rattle.std.specs.Io.KnownBytes.{Appends};
 ghost use Rattle.dmr_record.specs.Devices.{Tears, failed_after};
 ghost use Rattle.dmr_report.specs.Line.{line_octets};
-ghost use Rattle.dmr_show.specs.Buffers.{held_by};
+ghost use Rattle.dmr_show.specs.Held.{held_by};
 
 use arrayvec::ArrayVec;
 use dmr_record::{DeviceFault, Sink};
@@ -13,8 +13,7 @@ use std::marker::Model;
 const ROOM: usize = 16_384;
 
 /// Octets that wait until there are many to be written at once. They are all for one sink, which is handed in at each call, and
-/// count
-/// as held behind what it holds.
+/// count as held behind what it holds.
 #[derive(Drop)]
 pub(crate) struct Waiting {
     octets: ArrayVec<u8, ROOM>,
@@ -65,9 +64,34 @@ impl Waiting {
         written
     }
 
-    /// Takes the whole piece. Where there is no room for it, what waits is written first; and a piece for which there is never room
-    /// doesn't wait. At an `Err` the sink took a front of all of it.
-    #[tactic(auto, using(crate::proofs::Buffers::kept_waiting, crate::proofs::Buffers::kept_behind_all, crate::proofs::Buffers::written_behind_all, crate::proofs::Buffers::torn_behind_all, crate::proofs::Buffers::torn_before))]
+    /// Takes the whole piece, where nothing waits: one for which there is never room is written at once.
+    #[tactic(auto, using(crate::proofs::Held::kept_alone, crate::proofs::Held::written_alone))]
+    fn put_alone<K: Sink>(&mut self, sink: &mut K, piece: &[u8]) -> Result<(), DeviceFault>
+        requires none { self.old ≡ [] }
+        ensures octets { OnOk result (Appends (K.held sink.old) (held_by (K.held sink.new) self.new) piece.now) }
+        ensures torn { OnErr result (Tears (K.held sink.old) (K.held sink.new) piece.now) }
+        ensures failure { K.has_failed sink.new ≡ failed_after (K.has_failed sink.old) result }
+    {
+        if self.octets.try_extend_from_slice(piece).is_ok() {
+            return Ok(());
+        }
+        put_piece(sink, piece)
+    }
+
+    /// Writes what waits, and takes the whole piece.
+    #[tactic(auto, using(crate::proofs::Held::behind, crate::proofs::Held::torn_behind, crate::proofs::Held::torn_before))]
+    fn put_behind<K: Sink>(&mut self, sink: &mut K, piece: &[u8]) -> Result<(), DeviceFault>
+        ensures octets { OnOk result (Appends (held_by (K.held sink.old) self.old) (held_by (K.held sink.new) self.new) piece.now) }
+        ensures torn { OnErr result (Tears (K.held sink.old) (K.held sink.new) (self.old ++ piece.now)) }
+        ensures failure { K.has_failed sink.new ≡ failed_after (K.has_failed sink.old) result }
+    {
+        self.flush(sink)?;
+        self.put_alone(sink, piece)
+    }
+
+    /// Takes the whole piece. Where there is no room for it, what waits is written first. At an `Err` the sink took a front of all of
+    /// it.
+    #[tactic(auto, using(crate::proofs::Held::kept))]
     fn put<K: Sink>(&mut self, sink: &mut K, piece: &[u8]) -> Result<(), DeviceFault>
         ensures octets { OnOk result (Appends (held_by (K.held sink.old) self.old) (held_by (K.held sink.new) self.new) piece.now) }
         ensures torn { OnErr result (Tears (K.held sink.old) (K.held sink.new) (self.old ++ piece.now)) }
@@ -76,11 +100,7 @@ impl Waiting {
         if self.octets.try_extend_from_slice(piece).is_ok() {
             return Ok(());
         }
-        self.flush(sink)?;
-        if self.octets.try_extend_from_slice(piece).is_ok() {
-            return Ok(());
-        }
-        put_piece(sink, piece)
+        self.put_behind(sink, piece)
     }
 
     /// Takes a text and the end of its line.
