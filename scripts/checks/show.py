@@ -220,7 +220,7 @@ def records_of(octets):
         if tag == 2:
             frame, slot, mode, size = (int.from_bytes(octets[at + a : at + b]) for a, b in ((1, 5), (5, 6), (6, 7), (7, 9)))
             kept = octets[at + 9 : at + 9 + min(size, 1400)]
-            sent = {"confirmed": bool(mode & 1), "rate": "1" if mode & 2 else "1/2", "octets": kept}
+            sent = {"confirmed": bool(mode & 1), "rate": "1" if mode & 2 else "1/2", "length": size, "octets": kept}
             found.append({"frame": frame, "slot": slot} | sent)
             at += 9 + size
         elif tag == 3:
@@ -307,6 +307,11 @@ def check_json(report):
     report.expect("and its fault is told", ran.err.startswith(b"error: -: half frame at octet "), ran)
     ran = report.call("show", call, "--json", "--slot", 1, "--from", 2, "--to", 5)
     report.expect("JSON of some frames", ran.out.decode().splitlines() == [texts[0], *texts[3:7], texts[-1]], ran)
+    long = it.OUTGOING_HEAD + bytes.fromhex("02 00000000 01 00 05DC") + bytes(range(250)) * 6
+    ran = report.call("show", "-", "--json", given=long)
+    made = json.loads(ran.out.splitlines()[1])
+    is_so = (made["length"], made["octets"]) == (1500, long[17:1417].hex().upper())
+    report.expect("JSON of a datagram of 1,500 octets", is_so, made)
     ran = report.call("show", call, "--json", "--strip")
     report.expect("a strip in JSON is refused", (ran.status, ran.out) == (2, b"") and b"cannot be used with" in ran.err, ran)
 

@@ -5,7 +5,7 @@ use dmr_listing::Place;
 use dmr_record::{Outgoing, Received, ReceivedKind};
 use std::fmt;
 
-/// The object of a record of an outgoing list.
+/// The object of a record of an outgoing list: how many octets it has, and those that are kept.
 #[derive(Drop)]
 pub struct OutgoingObject<'a> {
     /// The record.
@@ -35,9 +35,13 @@ impl fmt::Display for OutgoingObject<'_> {
         let place = PlaceKeys(&place);
         let confirmed = self.record.confirmed;
         let rate = rate_name(self.record.full);
+        let length = self.record.length;
         let octets = Hex(self.record.octets.as_slice());
         write!(f, "{{{place},\"confirmed\":{confirmed},")?;
-        write!(f, "\"rate\":\"{rate}\",\"octets\":{octets}}}")
+        write!(
+            f,
+            "\"rate\":\"{rate}\",\"length\":{length},\"octets\":{octets}}}"
+        )
     }
 }
 

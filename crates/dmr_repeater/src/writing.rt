@@ -55,6 +55,7 @@ fn write_all_received<R: Sink>(
 }
 
 /// Writes record by record what the gateway received in a frame.
+#[inline(never)]
 fn write_each_received<R: Sink>(
     station: &mut Station,
     received: &mut R,

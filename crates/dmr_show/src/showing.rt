@@ -40,12 +40,20 @@ fn show_to<S: Source, K: Sink>(
     show_all(form, source, room, &mut lines)
 }
 
+/// Tells an error.
+fn tell<E: Sink>(err: &mut E, what: &str)
+    requires err { E.has_failed err.old ≡ false }
+    ensures error { E.has_failed err.new ≡ false → PutsError (E.held err.old) (E.held err.new) }
+{
+    let _failure = print_error(err, what, FAILURE);
+}
+
 /// Tells that there is no memory.
 pub fn print_want_of_memory<E: Sink>(err: &mut E)
     requires err { E.has_failed err.old ≡ false }
     ensures error { E.has_failed err.new ≡ false → PutsError (E.held err.old) (E.held err.new) }
 {
-    let _failure = print_error(err, "out of memory", FAILURE);
+    tell(err, "out of memory");
 }
 
 /// Tells a fault of a file.
@@ -54,9 +62,7 @@ fn print_fault<E: Sink>(alloc: Global, name: &str, fault: &FaultLine, err: &mut 
     ensures error { E.has_failed err.new ≡ false → PutsError (E.held err.old) (E.held err.new) }
 {
     match format!(in alloc; "{name}: {fault}") {
-        Ok(text) => {
-            let _failure = print_error(err, text.as_str(), FAILURE);
-        }
+        Ok(text) => tell(err, text.as_str()),
         Err(_) => print_want_of_memory(err),
     }
 }
@@ -67,9 +73,7 @@ fn print_no_strip<E: Sink>(alloc: Global, name: &str, err: &mut E)
     ensures error { E.has_failed err.new ≡ false → PutsError (E.held err.old) (E.held err.new) }
 {
     match format!(in alloc; "{name}: a list has no strip") {
-        Ok(text) => {
-            let _failure = print_error(err, text.as_str(), FAILURE);
-        }
+        Ok(text) => tell(err, text.as_str()),
         Err(_) => print_want_of_memory(err),
     }
 }

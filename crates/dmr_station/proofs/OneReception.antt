@@ -28,7 +28,7 @@ heard_alike : (said : Said) (a b : Heard) → IsHeardOf said a → IsHeardOf sai
 heard_alike Nothing a b u v = u ∙ sym v
 heard_alike (Repeat (Data kind information) role) a b u v = read_alike kind information a b u v
 heard_alike (Repeat (VoiceA vocoder) role) a b u v = u ∙ sym v
-heard_alike (Repeat (VoiceBToE pi place lc vocoder) role) a b u v = u ∙ sym v
+heard_alike (Repeat (VoiceBToE place pi vocoder lc) role) a b u v = u ∙ sym v
 heard_alike (Repeat (VoiceF pi embedded vocoder) role) a b u v = u ∙ sym v
 
 pub one_reception : (saids : List Said) (llid slot : ℕ) (back : List Heard) (x y : List (List Received))
