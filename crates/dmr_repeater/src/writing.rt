@@ -18,17 +18,16 @@ use dmr_station::{DownlinkFrame, Station, UplinkFrame};
 
 /// Writes both slots of a frame.
 #[tactic(auto, using(dmr_record::proofs::Torn::Tears_after, dmr_record::proofs::Torn::Tears_more))]
-fn write_frame<D: Sink>(downlink: &mut D, frame: DownlinkFrame) -> Result<(), RecordFault>
+fn write_frame<D: Sink>(downlink: &mut D, frame: &DownlinkFrame) -> Result<(), RecordFault>
     requires well { D.has_failed downlink.old ≡ false }
-    ensures frame { OnOk result (Appends (D.held downlink.old) (D.held downlink.new) (downlink_octets frame)) }
+    ensures frame { OnOk result (Appends (D.held downlink.old) (D.held downlink.new) (downlink_octets frame.now)) }
     ensures well { OnOk result (D.has_failed downlink.new ≡ false) }
     ensures fault { IfErr result (λ e. e ≡ RecordFault.Write) }
     ensures failed { OnErr result (D.has_failed downlink.new ≡ true) }
-    ensures torn { OnErr result (Tears (D.held downlink.old) (D.held downlink.new) (downlink_octets frame)) }
+    ensures torn { OnErr result (Tears (D.held downlink.old) (D.held downlink.new) (downlink_octets frame.now)) }
 {
-    let [first, second] = frame;
-    write_slot(downlink, first)?;
-    write_slot(downlink, second)
+    write_slot(downlink, frame[0])?;
+    write_slot(downlink, frame[1])
 }
 
 /// Writes what the gateway received in a frame, record by record.
@@ -119,7 +118,7 @@ pub(crate) fn send<D: Sink, R: Sink>(
 {
     let number = station.counts().frames;
     let records = station.exchange(frame);
-    if let Err(fault) = write_frame(downlink, records) {
+    if let Err(fault) = write_frame(downlink, &records) {
         return Err(RunFault::File(Stream::Downlink, fault));
     }
     if let Err(fault) = write_all_received(station, received, number) {

@@ -1,5 +1,5 @@
 -- What was read of a file that was shown.
-use Rattle.std.specs.Prelude.{◌≡◌, ◌*◌, ℕ, Bool, false, true, List, [], Option, Some, None, length}
+use Rattle.std.specs.Prelude.{◌≡◌, ◌*◌, ℕ, Bool, false, true, List, [], Option, None, length}
 use Rattle.std.specs.Io.KnownBytes.{Consumes, IsAtEnd}
 use Rattle.dmr_listing.specs.ListingRules as recording
 use Rattle.dmr_listing.specs.OutgoingListings as outgoing

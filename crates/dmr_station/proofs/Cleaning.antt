@@ -12,7 +12,7 @@ use Rattle.dmr_slot.proofs.CleanLines.{pushed_lines_are_clean}
 use Rattle.dmr_slot.proofs.Cleaning.{ArePairs, AllFramesSent, both_clean, firsts, frame_claims, seconds}
 use Rattle.dmr_station.specs.Announced.{AreAnnounced}
 use Rattle.dmr_station.specs.declared.announcing.Message.{Message}
-use Rattle.dmr_station.specs.declared.sending.DownlinkBurst.{DownlinkBurst}
+use Rattle.dmr_station.specs.Sending.{DownlinkBurst}
 use Rattle.dmr_station.specs.Clean.{AreCleanSlots, IsCleanCach, IsCleanDownlink, IsEncodedAs, burst_sent, bursts_in, first_slots}
 use Rattle.dmr_station.specs.Clean.{second_slots}
 use Rattle.dmr_station.specs.DownlinkRules.{Makes, slots_of, slots_in, frames_in, claims_in, marked_frames}

@@ -23,7 +23,7 @@ use Rattle.dmr_station.specs.GatewayMeaning.{of_slot, record_fault, record_fault
 use Rattle.dmr_station.specs.StationRules.{Settings, StationMemory, FrameGiven, IsAsked, IsPassed, ArePassed, taken_of, is_free}
 use Rattle.dmr_station.specs.Pairs.{Pairwise}
 use Rattle.dmr_station.specs.declared.announcing.Message.{Message}
-use Rattle.dmr_station.specs.declared.sending.DownlinkBurst.{DownlinkBurst}
+use Rattle.dmr_station.specs.Sending.{DownlinkBurst}
 use Rattle.dmr_station.proofs.LookingBack.{Announces}
 use Rattle.dmr_station.proofs.Offering.{offers_read, faults_read}
 

@@ -16,7 +16,7 @@ use Rattle.dmr_voice.specs.DamagedRecordings.{IsDamagedRecordingOf}
 use Rattle.dmr_voice.specs.CallMeaning.{Transmission, sent_list}
 use Rattle.dmr_voice.specs.WellFormed.{IsWellFormed}
 use Rattle.dmr_station.specs.declared.announcing.Message.{Message}
-use Rattle.dmr_station.specs.declared.sending.DownlinkBurst.{DownlinkBurst}
+use Rattle.dmr_station.specs.Sending.{DownlinkBurst}
 use Rattle.dmr_station.specs.DownlinkRules.{slots_in, frames_in, claims_in, marked_frames, IsDownlinkOf, IsPushedLine, Makes}
 use Rattle.dmr_station.specs.DownlinkRules.{silent_frame}
 use Rattle.dmr_station.specs.DownlinkRules.{handed_frames}

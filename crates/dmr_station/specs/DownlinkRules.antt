@@ -9,7 +9,7 @@ use Rattle.dmr_slot.specs.LineRules.{LineMemory as Line, silent_line, ArePushed}
 use Rattle.dmr_slot.specs.declared.line.SlotOut.{SlotOut}
 use Rattle.dmr_station.specs.Announced.{AreAnnounced}
 use Rattle.dmr_station.specs.declared.announcing.Message.{Message}
-use Rattle.dmr_station.specs.declared.sending.DownlinkBurst.{DownlinkBurst}
+use Rattle.dmr_station.specs.Sending.{DownlinkBurst}
 use Rattle.dmr_record.specs.Outgoing.{Sending}
 use Rattle.dmr_record.specs.Received.{Receipt}
 use Rattle.dmr_station.specs.GatewayMeaning.{IsGatewayOf}

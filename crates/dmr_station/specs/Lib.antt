@@ -4,6 +4,7 @@ pub mod DownlinkMeaning
 pub mod DownlinkRules
 pub mod GatewayMeaning
 pub mod Pairs
+pub mod Sending
 pub mod Sent
 pub mod Station
 pub mod StationRules

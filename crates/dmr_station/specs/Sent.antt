@@ -1,19 +1,14 @@
 -- The octets that a slot of the downlink has: the exact encoding of what it sends.
-use Rattle.std.specs.Prelude.{ℕ, ◌≡◌, ◌+◌, ◌%◌, ◌==◌, ◌<◌, Bool, List, [], ◌∷◌, Option, Some, None, All, IfSome, IsSomeAnd}
+use Rattle.std.specs.Prelude.{ℕ, ◌≡◌, ◌+◌, ◌%◌, ◌==◌, ◌<◌, Bool, List, [], ◌∷◌, Option, Some, None, All, IsSomeAnd}
 use Rattle.std.specs.Prelude.{slice_index_or, if◌then◌else◌}
 use Rattle.dmr_bits.specs.Bits.{bits_of_octets}
-use Rattle.dmr_burst.specs.Burst.{IsBurst, IsEncoding}
+use Rattle.dmr_burst.specs.Burst.{IsEncoding}
 use Rattle.dmr_burst.specs.Cach.{IsCach}
 use Rattle.dmr_burst.specs.Lcss.{first_fragment, last_fragment, continuation_fragment}
 use Rattle.dmr_burst.specs.declared.sync.Side.TheVariants.{Bs}
 use Rattle.dmr_embedded.specs.ShortLc.{IsShortLc}
-use Rattle.dmr_station.specs.Announced.{IsFitMessage}
 use Rattle.dmr_station.specs.declared.announcing.Message.{Message}
-use Rattle.dmr_station.specs.declared.sending.DownlinkBurst.{DownlinkBurst}
-
--- The numbers of a burst and of its message fit their bits, where the slot isn't silent.
-abbrev pub FitsItsFields : Option DownlinkBurst → Type 0
-FitsItsFields slot = IfSome slot (λ d. IsBurst d.burst × IsFitMessage d.message)
+use Rattle.dmr_station.specs.Sending.{DownlinkBurst}
 
 -- The records of the downlink are counted from 0, slot 1 first. Four of them carry one Short LC: the first fragment, two that
 -- continue it, and the last.

@@ -16,7 +16,7 @@ use Rattle.dmr_slot.specs.LineRules.{LineMemory as Line, silent_line, IsPush}
 use Rattle.dmr_slot.specs.declared.line.SlotOut.{SlotOut}
 use Rattle.dmr_station.specs.Announced.{IsAnnounced}
 use Rattle.dmr_station.specs.declared.announcing.Message.{Message}
-use Rattle.dmr_station.specs.declared.sending.DownlinkBurst.{DownlinkBurst}
+use Rattle.dmr_station.specs.Sending.{DownlinkBurst}
 
 -- 1. What the rules go by.
 

@@ -2,7 +2,7 @@
 ghost use Rattle.std.specs.Prelude.{◌≡◌, ℕ, List, Option};
 ghost use Rattle.dmr_burst.specs.declared.burst.Burst.{Burst};
 ghost use Rattle.dmr_slot.specs.declared.line.SlotOut.{SlotOut};
-ghost use Rattle.dmr_station.specs.declared.sending.DownlinkBurst.{DownlinkBurst};
+ghost use Rattle.dmr_station.specs.Sending.{DownlinkBurst};
 ghost use Rattle.dmr_station.specs.Clean.{AreCleanSlots, IsCleanDownlink, IsEncodedAs, bursts_in};
 ghost use Rattle.dmr_station.specs.DownlinkRules.{IsDownlinkOf};
 ghost use Rattle.dmr_station.specs.StationRules.{Settings};

@@ -1,13 +1,15 @@
 //! The lines of both slots, the channel that they share, and the gateway.
-ghost use Rattle.std.specs.Prelude.{◌≡◌, All, IfOk, IfSome};
+ghost use Rattle.std.specs.Prelude.{◌≡◌, ◌+◌, ◌^◌, ◌<◌, ◌≤◌, List, Option, IfOk, IfSome};
 ghost use Rattle.dmr_burst.specs.Burst.{IsBurst};
 ghost use Rattle.dmr_gateway.specs.GatewayRules.{IsSlot};
-ghost use Rattle.dmr_station.specs.Announced.{IsFitMessage};
-ghost use Rattle.dmr_station.specs.StationRules.{marked as marked_burst, marked_slots as marked_bursts, IsSlotAsked};
-ghost use Rattle.dmr_station.specs.Sent.{FitsItsFields};
+ghost use Rattle.dmr_station.specs.DownlinkRules.{repeated_count};
+ghost use Rattle.dmr_station.specs.Sending.{DownlinkBurst};
+ghost use Rattle.dmr_station.specs.Sent.{AreSentAs};
+ghost use Rattle.dmr_station.specs.StationRules.{IsSlotAsked};
 
-use crate::announcing::{Announcer, Message};
-use crate::sending::DownlinkBurst;
+use crate::announcing::Announcer;
+use crate::fragments::Fragments;
+use crate::sending::{count_repeated, encode_frame};
 use dmr_burst::Burst;
 use dmr_gateway::{Config, Gateway, GatewayFault, Outcome, Received};
 use dmr_record::Outgoing;
@@ -81,17 +83,26 @@ impl Lines {
         self.gateway.offer(outgoing)
     }
 
-    /// Takes a frame of the uplink, and gives what goes out in the frame of the downlink that is decided then.
-    pub(crate) fn pass(&mut self, frame: &[Option<[u8; 33]>; 2]) -> [Option<DownlinkBurst>; 2]
-        ensures asked { IsAsked self.old frame.now result self.new }
-        ensures fit { All FitsItsFields result }
+    /// Takes a frame of the uplink, and gives the records of the frame of the downlink that is decided then, the first of which is
+    /// the one at this place, and how many of them repeat a burst. The fragments are those of the message that went out last.
+    pub(crate) fn pass(
+        &mut self,
+        frame: &[Option<[u8; 33]>; 2],
+        place: u32,
+        fragments: &mut Fragments,
+    ) -> ([Option<([u8; 3], [u8; 33])>; 2], u32)
+        requires room { place + 1 < 2 ^ 32 }
+        ensures sent { (sending : List (Option DownlinkBurst)) × IsAsked self.old frame.now sending self.new
+            × AreSentAs place sending result.0 × (result.1 ≡ repeated_count sending) }
+        ensures bound { result.1 ≤ 2 }
     {
         let outs = [self.first.push(&frame[0]), self.second.push(&frame[1])];
         let first = next_burst(&mut self.gateway, 1, &outs[0]);
         let second = next_burst(&mut self.gateway, 2, &outs[1]);
         let bursts = self.channel.frame(&outs, &[first, second]);
         let message = self.announcer.next(&outs);
-        marked_slots(message, &outs, &bursts)
+        let records = encode_frame(place, message, &outs, &bursts, fragments);
+        (records, count_repeated(&outs, &bursts))
     }
 
     /// Whether the gateway received nothing that isn't taken yet.
@@ -129,36 +140,4 @@ fn next_burst(gateway: &mut Gateway, slot: u8, out: &SlotOut) -> Option<Burst>
 {
     gateway.heard(slot, out.repeated.as_ref());
     gateway.next(slot, out.repeated.is_none() && out.hang.is_none())
-}
-
-/// The burst of a slot, with whether its line repeats it and the message of its frame.
-fn marked(message: Message, out: &SlotOut, burst: &Option<Burst>) -> Option<DownlinkBurst>
-    requires message { IsFitMessage message }
-    ensures value { result ≡ marked_burst message out.now burst.now }
-    ensures fit { IfSome burst.now IsBurst → FitsItsFields result }
-{
-    match burst {
-        Some(burst) => Some(DownlinkBurst {
-            burst: *burst,
-            is_repeated: out.repeated.is_some(),
-            message,
-        }),
-        None => None,
-    }
-}
-
-/// The bursts of both slots of a frame, with whether their lines repeat them and the message of the frame.
-fn marked_slots(
-    message: Message,
-    outs: &[SlotOut; 2],
-    bursts: &[Option<Burst>; 2],
-) -> [Option<DownlinkBurst>; 2]
-    requires message { IsFitMessage message }
-    ensures value { result ≡ marked_bursts message outs.now bursts.now }
-    ensures fit { All (λ burst. IfSome burst IsBurst) bursts.now → All FitsItsFields result }
-{
-    [
-        marked(message, &outs[0], &bursts[0]),
-        marked(message, &outs[1], &bursts[1]),
-    ]
 }

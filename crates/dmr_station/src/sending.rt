@@ -1,20 +1,16 @@
 //! The octets of what a slot of the downlink sends.
-ghost use Rattle.std.specs.Prelude.{◌<◌, ◌^◌, ◌+◌, All};
-ghost use Rattle.dmr_station.specs.Sent.{FitOctets, AreSentAs, FitsItsFields, IsSentAs};
+ghost use Rattle.std.specs.Prelude.{◌≡◌, ◌≤◌, ◌<◌, ◌^◌, ◌+◌, IfSome, All};
+ghost use Rattle.dmr_burst.specs.Burst.{IsBurst};
+ghost use Rattle.dmr_station.specs.Announced.{IsFitMessage};
+ghost use Rattle.dmr_station.specs.DownlinkRules.{is_repeated as slot_is_repeated, repeated_count};
+ghost use Rattle.dmr_station.specs.Sent.{FitOctets, AreSentAs, IsSentAs};
+ghost use Rattle.dmr_station.specs.StationRules.{marked, marked_slots};
+ghost use Rattle.dmr_station.specs.declared.announcing.Message.{Message};
 
 use crate::announcing::Message;
 use crate::fragments::Fragments;
 use dmr_burst::{Burst, Side, encode_burst};
-
-/// What a slot of the downlink sends where it isn't silent.
-#[derive(Clone, Copy, Debug, PartialEq, Eq)]
-pub struct DownlinkBurst {
-    pub burst: Burst,
-    /// Whether it repeats a burst of the uplink.
-    pub is_repeated: bool,
-    /// What its CACH carries a fragment of.
-    pub message: Message,
-}
+use dmr_slot::SlotOut;
 
 /// Tells the proof that octets are below 256, which the array that a call gives doesn't.
 fn below_256(octets: &[u8])
@@ -23,21 +19,25 @@ fn below_256(octets: &[u8])
     let _count = octets.len();
 }
 
-/// The octets of a slot, which is the record at this place of the downlink, counted from 0.
+/// The octets of a slot that sends this burst, which is the record at this place of the downlink, counted from 0. Its CACH tells
+/// whether its line repeats a burst, and carries a fragment of the message.
 fn encode_slot(
     place: u32,
-    slot: &Option<DownlinkBurst>,
+    message: Message,
+    out: &SlotOut,
+    burst: &Option<Burst>,
     fragments: &mut Fragments,
 ) -> Option<([u8; 3], [u8; 33])>
-    requires fits { FitsItsFields slot.now }
-    ensures sent { IsSentAs place slot.now result }
+    requires message { IsFitMessage message }
+    requires fits { IfSome burst.now IsBurst }
+    ensures sent { IsSentAs place (marked message out.now burst.now) result }
 {
-    match slot {
-        Some(sending) => {
-            fragments.take(sending.message);
+    match burst {
+        Some(burst) => {
+            fragments.take(message);
             let sent = (
-                fragments.cach(sending.is_repeated, place),
-                encode_burst(&sending.burst, Side::Bs),
+                fragments.cach(out.repeated.is_some(), place),
+                encode_burst(burst, Side::Bs),
             );
             below_256(&sent.0);
             below_256(&sent.1);
@@ -47,19 +47,37 @@ fn encode_slot(
     }
 }
 
-/// The octets of both slots of a frame, the first of which is the record at this place. The fragments are those of the message
-/// that went out last.
+/// The octets of both slots of a frame that send these bursts, the first of which is the record at this place. The fragments are
+/// those of the message that went out last.
 pub(crate) fn encode_frame(
     place: u32,
-    slots: &[Option<DownlinkBurst>; 2],
+    message: Message,
+    outs: &[SlotOut; 2],
+    bursts: &[Option<Burst>; 2],
     fragments: &mut Fragments,
 ) -> [Option<([u8; 3], [u8; 33])>; 2]
-    requires fit { All FitsItsFields slots.now }
+    requires message { IsFitMessage message }
+    requires fit { All (λ burst. IfSome burst IsBurst) bursts.now }
     requires room { place + 1 < 2 ^ 32 }
-    ensures sent { AreSentAs place slots.now result }
+    ensures sent { AreSentAs place (marked_slots message outs.now bursts.now) result }
 {
     [
-        encode_slot(place, &slots[0], fragments),
-        encode_slot(place + 1, &slots[1], fragments),
+        encode_slot(place, message, &outs[0], &bursts[0], fragments),
+        encode_slot(place + 1, message, &outs[1], &bursts[1], fragments),
     ]
+}
+
+/// Whether a slot sends a repeated burst.
+fn is_repeated(out: &SlotOut, burst: &Option<Burst>) -> bool
+    ensures value { (message : Message) → result ≡ slot_is_repeated (marked message out.now burst.now) }
+{
+    out.repeated.is_some() && burst.is_some()
+}
+
+/// How many slots of a frame repeat a burst.
+pub(crate) fn count_repeated(outs: &[SlotOut; 2], bursts: &[Option<Burst>; 2]) -> u32
+    ensures value { (message : Message) → result ≡ repeated_count (marked_slots message outs.now bursts.now) }
+    ensures bound { result ≤ 2 }
+{
+    u32::from(is_repeated(&outs[0], &bursts[0])) + u32::from(is_repeated(&outs[1], &bursts[1]))
 }

@@ -1,12 +1,10 @@
 //! The base station, frame after frame.
 ghost use Rattle.std.specs.Prelude.{◌≡◌, ◌+◌, ◌*◌, ◌^◌, ◌<◌, ◌≤◌, IfOk, IfSome, option_to_list, if◌then◌else◌};
 ghost use Rattle.std.specs.List.{flat_map};
-ghost use Rattle.dmr_station.specs.DownlinkRules.{is_repeated as slot_is_repeated, repeated_count};
 ghost use Rattle.dmr_station.specs.StationRules.{outcome_count};
 
 use crate::fragments::Fragments;
 use crate::lines::Lines;
-use crate::sending::{DownlinkBurst, encode_frame};
 use dmr_gateway::{Config, Outcome, Received};
 use dmr_record::Outgoing;
 use std::alloc::{AllocError, Global};
@@ -108,11 +106,11 @@ impl Station {
         requires frames { self.old.frames < 2 ^ 29 }
         ensures exchanged { IsExchanged self.old frame.now result self.new }
     {
-        let slots = self.lines.pass(frame);
-        let records = encode_frame(2 * self.counts.frames, &slots, &mut self.fragments);
+        let place = 2 * self.counts.frames;
+        let (records, repeated) = self.lines.pass(frame, place, &mut self.fragments);
         let outcomes = self.lines.take_outcomes();
         self.counts.frames += 1;
-        self.counts.repeated += count_repeated(&slots);
+        self.counts.repeated += repeated;
         self.counts.delivered += count_outcome(Outcome::Delivered, &outcomes);
         self.counts.sent += count_outcome(Outcome::Sent, &outcomes);
         self.counts.given_up += count_outcome(Outcome::GivenUp, &outcomes);
@@ -167,22 +165,4 @@ fn count_outcome(outcome: Outcome, told: &[Option<Outcome>; 2]) -> u32
     ensures bound { result ≤ 2 }
 {
     u32::from(is_outcome(outcome, told[0])) + u32::from(is_outcome(outcome, told[1]))
-}
-
-/// Whether a slot repeats a burst.
-fn is_repeated(slot: &Option<DownlinkBurst>) -> bool
-    ensures value { result ≡ slot_is_repeated slot.now }
-{
-    match slot {
-        Some(sending) => sending.is_repeated,
-        None => false,
-    }
-}
-
-/// How many slots of a frame repeat a burst.
-fn count_repeated(slots: &[Option<DownlinkBurst>; 2]) -> u32
-    ensures value { result ≡ repeated_count slots.now }
-    ensures bound { result ≤ 2 }
-{
-    u32::from(is_repeated(&slots[0])) + u32::from(is_repeated(&slots[1]))
 }

@@ -8,10 +8,10 @@ use Rattle.dmr_repeater.proofs.writing.write_frame.Goals as goal
 
 pub returns-clause-torn : goal.returns-clause-torn
 returns-clause-torn g c =
-    let first = slice_index_or c.args.frame 0 None in
-    let second = slice_index_or c.args.frame 1 None in
-    let whole : sent_octets first ++ sent_octets second ≡ downlink_octets c.args.frame =
+    let first = slice_index_or c.args.frame.now 0 None in
+    let second = slice_index_or c.args.frame.now 1 None in
+    let whole : sent_octets first ++ sent_octets second ≡ downlink_octets c.args.frame.now =
     ap (λ l. sent_octets first ++ l) (sym (append-nil (sent_octets second)))
-    ∙ ap downlink_octets (sym (two_slots c.args.frame (search rules))) in
+    ∙ ap downlink_octets (sym (two_slots c.args.frame.now (search rules))) in
     on_err_weaker c.write_slot-2.result (λ torn. subst (Tears _ _) whole
     (Tears_after _ _ _ _ _ c.in_ok-write_slot.ensures.slot torn)) c.write_slot-2.ensures.torn
