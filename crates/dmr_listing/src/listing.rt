@@ -29,6 +29,7 @@ pub trait BurstLines {
 
     /// Takes the line of a burst. At an `Err` it didn't, and has failed from then on.
     fn put(&mut self, burst: &RecordedBurst, line: &BurstLine) -> Result<(), DeviceFault>
+        requires well { has_failed self.old ≡ false }
         ensures line { OnOk result (Gains (given self.old) (given self.new) (line.now ∷ [])) }
         ensures none { OnErr result (Gains (given self.old) (given self.new) []) }
         ensures failure { has_failed self.new ≡ failed_after (has_failed self.old) result }

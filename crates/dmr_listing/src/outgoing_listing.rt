@@ -26,6 +26,7 @@ pub trait OutgoingLines {
 
     /// Takes the line of a record. At an `Err` it didn't, and has failed from then on.
     fn put(&mut self, outgoing: &Outgoing) -> Result<(), DeviceFault>
+        requires well { has_failed self.old ≡ false }
         ensures line { OnOk result (Gains (given self.old) (given self.new) (outgoing.now ∷ [])) }
         ensures none { OnErr result (Gains (given self.old) (given self.new) []) }
         ensures failure { has_failed self.new ≡ failed_after (has_failed self.old) result }

@@ -25,6 +25,7 @@ pub trait ReceivedLines {
 
     /// Takes the line of a record with these octets. At an `Err` it didn't, and has failed from then on.
     fn put(&mut self, received: Received, octets: &[u8]) -> Result<(), DeviceFault>
+        requires well { has_failed self.old ≡ false }
         ensures line { OnOk result (Gains (given self.old) (given self.new) (receipt_of received octets.now ∷ [])) }
         ensures none { OnErr result (Gains (given self.old) (given self.new) []) }
         ensures failure { has_failed self.new ≡ failed_after (has_failed self.old) result }

@@ -34,6 +34,7 @@ pub trait StripLines {
 
     /// Takes a strip. At an `Err` it didn't, and has failed from then on.
     fn put_strip(&mut self, strip: &Strip) -> Result<(), DeviceFault>
+        requires well { has_failed self.old ≡ false }
         ensures strip { OnOk result (Gains (given self.old) (given self.new) (strip.now ∷ [])) }
         ensures none { OnErr result (Gains (given self.old) (given self.new) []) }
         ensures failure { has_failed self.new ≡ failed_after (has_failed self.old) result }
@@ -49,6 +50,7 @@ fn add<L: StripLines>(
     lines: &mut L,
 ) -> Result<(), DeviceFault>
     requires room { length strip.old.marks < 100 }
+    requires well { L.has_failed lines.old ≡ false }
     ensures given { OnOk result (IsGivenWhereFull (pushed_in frames place mark strip.old) strip.new
         (L.given lines.old) (L.given lines.new)) }
     ensures room { OnOk result (length strip.new.marks < 100) }
@@ -70,6 +72,7 @@ fn add<L: StripLines>(
 
 /// Gives the strip of the last marks, unless there are none.
 fn put_rest<L: StripLines>(strip: &Strip, lines: &mut L) -> Result<(), DeviceFault>
+    requires well { L.has_failed lines.old ≡ false }
     ensures given { OnOk result (Gains (L.given lines.old) (L.given lines.new) (unless_empty strip.now)) }
     ensures none { OnErr result ((0 < length strip.now.marks) × Gains (L.given lines.old) (L.given lines.new) []) }
     ensures failure { L.has_failed lines.new ≡ failed_after (L.has_failed lines.old) result }

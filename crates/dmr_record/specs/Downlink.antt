@@ -38,7 +38,7 @@ IsPartOfSent [] = Unit {0}
 IsPartOfSent (tag ∷ body) = (tag ≡ 1) × (length body < 36)
 
 -- These octets, taken as the front of a slot with so many slots before it, show this fault. Past the limit one
--- octet does, whatever it is, and behind slot 1 of a frame none does.
+-- octet does, whatever it is; behind slot 1 of a frame the end does, with no octet.
 abbrev pub ShowsDownlinkFault : ℕ → ℕ → RecordFault → List ℕ → Type 0
 ShowsDownlinkFault limit before TooLong octets = (limit ≤ before) × (length octets ≡ 1)
 ShowsDownlinkFault limit before BadTag octets = (before < limit)

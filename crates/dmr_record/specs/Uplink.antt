@@ -80,7 +80,7 @@ abbrev pub most_uplink_slots : ℕ
 most_uplink_slots = 2097152
 
 -- These octets, taken as the front of a slot with so many slots before it, show this fault. Past the limit one
--- octet does, whatever it is, and behind slot 1 of a frame none does.
+-- octet does, whatever it is; behind slot 1 of a frame the end does, with no octet.
 abbrev pub ShowsUplinkSlotFault : ℕ → ℕ → RecordFault → List ℕ → Type 0
 ShowsUplinkSlotFault limit before TooLong octets = (limit ≤ before) × (length octets ≡ 1)
 ShowsUplinkSlotFault limit before HalfFrame octets = (before % 2 ≡ 1) × (octets ≡ [])

@@ -10,7 +10,7 @@ use std::io::{Read, Write};
 #[derive(Clone, Copy, Debug, PartialEq, Eq)]
 pub struct DeviceFault;
 
-/// A device that gives octets.
+/// A device that gives octets. Once it has failed it is not used again.
 pub trait Source {
     /// The octets that it has left to give, where it tells them.
     ghost left: { Self → Option (List ℕ) };
@@ -21,12 +21,13 @@ pub trait Source {
     /// Puts the next octets at the front of the buffer, and answers how many: 0 only at the end of the octets,
     /// or where the buffer is empty. At an `Err` no octet is taken, and the device has failed from then on.
     fn read(&mut self, buffer: &mut [u8]) -> Result<usize, DeviceFault>
+        requires well { has_failed self.old ≡ false }
         ensures count { IfOk result (λ n. n ≤ length buffer.new) }
         ensures octets { ReadConsumes (left self.old) (left self.new) result buffer.new }
         ensures failure { has_failed self.new ≡ failed_after (has_failed self.old) result };
 }
 
-/// A device that takes octets.
+/// A device that takes octets. Once it has failed it is not used again.
 pub trait Sink {
     /// The octets that it holds, where it tells them.
     ghost held: { Self → Option (List ℕ) };
@@ -37,6 +38,7 @@ pub trait Sink {
     /// Takes octets from the front of the piece, and answers how many: at least one, unless the piece is empty.
     /// At an `Err` no octet is taken, and the device has failed from then on.
     fn write(&mut self, piece: &[u8]) -> Result<usize, DeviceFault>
+        requires well { has_failed self.old ≡ false }
         ensures count { IfOk result (λ n. n ≤ length piece.now) }
         ensures progress { IfOk result (λ n. 0 < length piece.now → 0 < n) }
         ensures octets { WriteAppends (held self.old) (held self.new) result piece.now }

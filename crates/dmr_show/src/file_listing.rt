@@ -202,7 +202,7 @@ fn show_file<S: Source, K: Sink>(
     }
 }
 
-/// Shows a file in this form, and writes all that waits, whether the file is at fault or not.
+/// Shows a file in this form, and writes all that waits, whether the file is at fault or not, but to no sink that has failed.
 pub(crate) fn show_all<S: Source, K: Sink>(
     form: Form,
     source: &mut S,
@@ -227,8 +227,12 @@ pub(crate) fn show_all<S: Source, K: Sink>(
     ensures same_sink { lines.new.sink.ghost_name ≡ lines.old.sink.ghost_name }
 {
     let shown = show_file(form, source, room, lines);
-    match lines.flush() {
-        Ok(()) => shown,
-        Err(_) => Err(ListingEnd::Output),
+    match shown {
+        // A sink that has failed isn't used again.
+        Err(ListingEnd::Output) => Err(ListingEnd::Output),
+        Ok(_) | Err(ListingEnd::File(_)) => match lines.flush() {
+            Ok(()) => shown,
+            Err(_) => Err(ListingEnd::Output),
+        },
     }
 }

@@ -1,6 +1,6 @@
 //! The lines of a file, printed in a notation.
 ghost use Rattle.std.specs.Io.KnownBytes.{Appends};
-ghost use Rattle.std.specs.Prelude.{◌≡◌, ◌≤◌, [], None, OnOk, length};
+ghost use Rattle.std.specs.Prelude.{◌≡◌, ◌≤◌, [], None, OnOk, false, length};
 ghost use Rattle.dmr_record.specs.Devices.{failed_after};
 ghost use Rattle.dmr_report.specs.Line.{PutsLine};
 ghost use Rattle.dmr_show.specs.Held.{held_by};
@@ -64,6 +64,7 @@ impl<'a, K: Sink> Lines<'a, K> {
 
     /// Writes what waits to the sink.
     pub(crate) fn flush(&mut self) -> Result<(), DeviceFault>
+        requires well { K.has_failed self.old.sink.now ≡ false }
         ensures octets { OnOk result (Appends (K.held self.old.sink.now) (K.held self.new.sink.now) self.old.waiting) }
         ensures none { self.new.waiting ≡ [] }
         ensures failure { K.has_failed self.new.sink.now ≡ failed_after (K.has_failed self.old.sink.now) result }
@@ -74,6 +75,7 @@ impl<'a, K: Sink> Lines<'a, K> {
 
     /// Prints a line, whatever it is written in.
     fn write<T: Display>(&mut self, line: &T) -> Result<(), DeviceFault>
+        requires well { K.has_failed self.old.sink.now ≡ false }
         ensures line { OnOk result (PutsLine (held_by (K.held self.old.sink.now) self.old.waiting)
             (held_by (K.held self.new.sink.now) self.new.waiting)) }
         ensures failure { K.has_failed self.new.sink.now ≡ failed_after (K.has_failed self.old.sink.now) result }
@@ -87,6 +89,7 @@ impl<'a, K: Sink> Lines<'a, K> {
 
     /// Prints a line of the notation that is asked for.
     fn print<T: Written>(&mut self, line: &T) -> Result<(), DeviceFault>
+        requires well { K.has_failed self.old.sink.now ≡ false }
         requires notation { T.notation line.now ≡ self.old.notation }
         ensures line { OnOk result (PutsLine (held_by (K.held self.old.sink.now) self.old.waiting)
             (held_by (K.held self.new.sink.now) self.new.waiting)) }
@@ -98,6 +101,7 @@ impl<'a, K: Sink> Lines<'a, K> {
 
     /// Prints what the listing of a file of this format begins with.
     pub(crate) fn begin(&mut self, format: FileFormat) -> Result<(), DeviceFault>
+        requires well { K.has_failed self.old.sink.now ≡ false }
         ensures line { OnOk result (PutsLine (held_by (K.held self.old.sink.now) self.old.waiting)
             (held_by (K.held self.new.sink.now) self.new.waiting)) }
         ensures failure { K.has_failed self.new.sink.now ≡ failed_after (K.has_failed self.old.sink.now) result }
@@ -111,6 +115,7 @@ impl<'a, K: Sink> Lines<'a, K> {
 
     /// Prints what a listing ends with.
     pub(crate) fn end(&mut self, summary: &FileSummary) -> Result<(), DeviceFault>
+        requires well { K.has_failed self.old.sink.now ≡ false }
         ensures line { OnOk result (PutsLine (held_by (K.held self.old.sink.now) self.old.waiting)
             (held_by (K.held self.new.sink.now) self.new.waiting)) }
         ensures failure { K.has_failed self.new.sink.now ≡ failed_after (K.has_failed self.old.sink.now) result }
@@ -127,6 +132,7 @@ impl<'a, K: Sink> Lines<'a, K> {
 
     /// Prints the line of what stands in a place, where the filter lets it pass.
     fn print_at<T: Written>(&mut self, place: Place, line: &T) -> Result<(), DeviceFault>
+        requires well { K.has_failed self.old.sink.now ≡ false }
         requires notation { T.notation line.now ≡ self.old.notation }
         ensures line { OnOk result (Passes self.old.filter place
             → PutsLine (held_by (K.held self.old.sink.now) self.old.waiting)
@@ -149,6 +155,7 @@ impl<'a, K: Sink> Lines<'a, K> {
 
     /// Prints the line of a slot of a strip, where the strip has that slot and the filter lets it pass.
     fn print_slot(&mut self, strip: &Strip, slot: u8) -> Result<(), DeviceFault>
+        requires well { K.has_failed self.old.sink.now ≡ false }
         ensures line { OnOk result (IsInSlot self.old.filter slot → slot ≤ length strip.now.marks
             → PutsLine (held_by (K.held self.old.sink.now) self.old.waiting)
             (held_by (K.held self.new.sink.now) self.new.waiting)) }

@@ -1,5 +1,5 @@
 //! Octets that wait to be written to a sink in large pieces.
-ghost use Rattle.std.specs.Prelude.{◌≡◌, ◌++◌, [], OnOk, OnErr};
+ghost use Rattle.std.specs.Prelude.{◌≡◌, ◌++◌, [], OnOk, OnErr, false};
 ghost use Rattle.std.specs.Io.KnownBytes.{Appends};
 ghost use Rattle.dmr_record.specs.Devices.{Tears, failed_after};
 ghost use Rattle.dmr_report.specs.Line.{line_octets};
@@ -30,6 +30,7 @@ impl Model for Waiting {
 
 /// Writes the whole piece, or stops where the sink fails.
 fn put_piece<K: Sink>(sink: &mut K, piece: &[u8]) -> Result<(), DeviceFault>
+    requires well { K.has_failed sink.old ≡ false }
     ensures octets { OnOk result (Appends (K.held sink.old) (K.held sink.new) piece.now) }
     ensures torn { OnErr result (Tears (K.held sink.old) (K.held sink.new) piece.now) }
     ensures failure { K.has_failed sink.new ≡ failed_after (K.has_failed sink.old) result }
@@ -54,6 +55,7 @@ impl Waiting {
     /// Writes what waits to the sink. At an `Err` the sink took a front of it, and has failed from then on; nothing waits behind it
     /// either.
     pub(crate) fn flush<K: Sink>(&mut self, sink: &mut K) -> Result<(), DeviceFault>
+        requires well { K.has_failed sink.old ≡ false }
         ensures octets { OnOk result (Appends (K.held sink.old) (K.held sink.new) self.old) }
         ensures torn { OnErr result (Tears (K.held sink.old) (K.held sink.new) self.old) }
         ensures none { self.new ≡ [] }
@@ -67,6 +69,7 @@ impl Waiting {
     /// Takes the whole piece, where nothing waits: one for which there is never room is written at once.
     #[tactic(auto, using(crate::proofs::Held::kept_alone, crate::proofs::Held::written_alone))]
     fn put_alone<K: Sink>(&mut self, sink: &mut K, piece: &[u8]) -> Result<(), DeviceFault>
+        requires well { K.has_failed sink.old ≡ false }
         requires none { self.old ≡ [] }
         ensures octets { OnOk result (Appends (K.held sink.old) (held_by (K.held sink.new) self.new) piece.now) }
         ensures torn { OnErr result (Tears (K.held sink.old) (K.held sink.new) piece.now) }
@@ -81,6 +84,7 @@ impl Waiting {
     /// Writes what waits, and takes the whole piece.
     #[tactic(auto, using(crate::proofs::Held::behind, crate::proofs::Held::torn_behind, crate::proofs::Held::torn_before))]
     fn put_behind<K: Sink>(&mut self, sink: &mut K, piece: &[u8]) -> Result<(), DeviceFault>
+        requires well { K.has_failed sink.old ≡ false }
         ensures octets { OnOk result (Appends (held_by (K.held sink.old) self.old) (held_by (K.held sink.new) self.new) piece.now) }
         ensures torn { OnErr result (Tears (K.held sink.old) (K.held sink.new) (self.old ++ piece.now)) }
         ensures failure { K.has_failed sink.new ≡ failed_after (K.has_failed sink.old) result }
@@ -89,10 +93,11 @@ impl Waiting {
         self.put_alone(sink, piece)
     }
 
-    /// Takes the whole piece. Where there is no room for it, what waits is written first. At an `Err` the sink took a front of all of
-    /// it.
+    /// Takes the whole piece. Where there is no room for it, what waits is written first. At an `Err` the sink took a front of all
+    /// of it.
     #[tactic(auto, using(crate::proofs::Held::kept))]
     fn put<K: Sink>(&mut self, sink: &mut K, piece: &[u8]) -> Result<(), DeviceFault>
+        requires well { K.has_failed sink.old ≡ false }
         ensures octets { OnOk result (Appends (held_by (K.held sink.old) self.old) (held_by (K.held sink.new) self.new) piece.now) }
         ensures torn { OnErr result (Tears (K.held sink.old) (K.held sink.new) (self.old ++ piece.now)) }
         ensures failure { K.has_failed sink.new ≡ failed_after (K.has_failed sink.old) result }
@@ -105,6 +110,7 @@ impl Waiting {
 
     /// Takes a text and the end of its line.
     pub(crate) fn put_line<K: Sink>(&mut self, sink: &mut K, text: &str) -> Result<(), DeviceFault>
+        requires well { K.has_failed sink.old ≡ false }
         ensures line { OnOk result (Appends (held_by (K.held sink.old) self.old) (held_by (K.held sink.new) self.new)
             (line_octets text.now)) }
         ensures failure { K.has_failed sink.new ≡ failed_after (K.has_failed sink.old) result }
