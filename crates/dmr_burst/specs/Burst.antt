@@ -18,7 +18,7 @@ IsBurst (Data colour kind information) = (colour < 16) × (kind < 16)
 IsBurst (VoiceSync vocoder) = Unit {0}
 IsBurst (Voice emb embedded vocoder) = (emb.colour < 16) × (emb.lcss < 4)
 
--- a data burst has a Golay word that says its slot type, its information, and the data sync of its side
+-- a data burst has its information, the data sync of its side, and a Golay word that says its slot type
 pub record IsDataBurst (slot_type : SlotType) (information : List Bool) (side : Side) (bits : List Bool) : Type 0 where
   pub long : length bits ≡ 264
   pub word : IsGolay20 (slot_type_field bits)

@@ -44,7 +44,7 @@ IsSentSlot colour CutOff = Unit {0}
 
 -- ---- what is recorded
 -- Information in a product word: of a word that holds the same 96 bits, whatever its reserved bits, at most one bit is wrong
--- in each column but one.
+-- in each column but one, and any in that one and in R(3).
 abbrev pub HoldsDamaged : List Bool → List Bool → Type 0
 HoldsDamaged information received =
     (word : List Bool) × IsProductWord word × (held_by word ≡ held_by information) × IsDamaged word received
@@ -83,8 +83,8 @@ IsDamagedBurst colour Silent bits = ⊥
 IsDamagedBurst colour (Data kind information lc) bits = IsDamagedData colour kind information bits
 -- at most three wrong bits in the sync
 IsDamagedBurst colour VoiceSync bits = HasSync (record { side = Ms; voice = true }) bits
--- At most two wrong bits in the EMB, and the embedded field as it is received: at most one wrong bit in each row of the table of
--- an embedded word is said of its four fields at once, where they are all received (`IsReceived`, Fields.antt).
+-- At most two wrong bits in the EMB, and the embedded field as it is received. That each row of the table of an embedded word has
+-- at most one wrong bit is said elsewhere, of its four fields at once, where they are all received (`IsReceived`, Fields.antt).
 IsDamagedBurst colour (Voice emb embedded) bits = HasEmb emb bits × (number_of (embedded_field bits) ≡ embedded)
 IsDamagedBurst colour (ForeignVoice emb) bits = HasEmb emb bits × HasNoMobileSync bits
 IsDamagedBurst colour ForeignData bits = IsDamagedForeignData colour bits

@@ -14,7 +14,7 @@ pub record IsReading (payload : Payload) (kind : ℕ) (received : List Bool) (re
   -- what can be read so is the data burst
   pub only : (information : List Bool) (lc : Option FullLc) → Reads payload received information lc
       → result ≡ Some (record { kind = kind; information = information; link_control = lc })
-  -- and so is what was sent, where the damage is within the limits
+  -- what was sent is the data burst too, where the damage is within the limits
   pub undone : (information : List Bool) (lc : Option FullLc) → Sends payload information lc
       → IsDamagedPayload payload information received
       → result ≡ Some (record { kind = kind; information = information; link_control = lc })

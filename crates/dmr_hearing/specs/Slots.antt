@@ -19,15 +19,15 @@ pub data SentSlot : Type 0 where
   ForeignVoice : Emb → SentSlot
   -- a data burst of another colour code
   ForeignData : SentSlot
-  -- a burst of a call that began before the recording
+  -- a burst of a call whose header isn't in the list, in front of its first A
   CutOff : SentSlot
 
--- What a slot is heard as in which nothing is sent.
+-- What a silent slot is heard as.
 abbrev pub silence : Heard
 silence = record { data_burst = None; voice = false; emb = None; embedded = 0; vocoder = replicate 216 false }
 
--- What such a slot is heard as. A data burst and a voice sync may have any EMB, and a voice burst of a call may read as data:
--- a call looks at neither there.
+-- What a slot that was sent is heard as. A data burst and a voice sync may have any EMB, and a voice burst of a call may read as
+-- data or as voice: a call looks at neither there.
 abbrev pub IsHeardAs : SentSlot → Heard → Type 0
 IsHeardAs Silent heard = heard ≡ silence
 IsHeardAs (Data kind information lc) heard =

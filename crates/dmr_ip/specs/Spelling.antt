@@ -88,7 +88,7 @@ abbrev pub port_from : ℕ → List ℕ → ℕ
 port_from identifier octets =
     if identifier == 0 then number_at octets 0 else if identifier == 1 then 5016 else 5017
 
--- The octets behind the identification and the identifiers, which have five.
+-- The octets behind the five of the identification and the identifiers.
 abbrev pub behind_identifiers : List ℕ → List ℕ
 behind_identifiers octets = drop 5 octets
 

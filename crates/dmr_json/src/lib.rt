@@ -1,11 +1,10 @@
 //! What a file holds, as JSON: an object for the file, one for each burst or record, and a last one.
 //!
-//! `FileObject` begins a listing; `BurstObject`, `OutgoingObject` and `ReceivedObject` show what the lines of `dmr_listing` show,
-//! and
-//! the octets themselves; `RecordingEnd` and `ListEnd` end it. Each is printed as one line of ASCII, with its keys in one order.
-//! All
-//! texts are fixed, so nothing has to be escaped, and what came over the air is printed as numbers and digits alone. `null` stands
-//! where something couldn't be read. Nothing is promised of the texts beyond safety; they are tested.
+//! `FileObject` begins a listing; `BurstObject` shows what the line of a burst shows in `dmr_listing`, and its octets,
+//! `OutgoingObject` and `ReceivedObject` the fields of a record; `RecordingEnd` and `ListEnd` end it. Each is printed as one line
+//! of ASCII, with its keys in one order. All texts are fixed, so nothing has to be escaped, and what came over the air is printed
+//! as numbers and digits alone. `null` stands where something couldn't be read. Nothing is promised of the texts beyond safety;
+//! they are tested.
 #![tactic(auto)]
 
 mod burst;

@@ -1,7 +1,8 @@
 //! `dmrgate`: a two-slot DMR repeater with an IP data gateway, run on recordings.
 //!
-//! `dmrgate run` repeats an uplink file into a downlink file, and `dmrgate slot` prints what one burst is. All that it does
-//! stands in libraries: `dmr_command` reads the command line and does what it asks for.
+//! `dmrgate run` repeats an uplink file into a downlink file, `dmrgate slot` prints what one burst is, and `dmrgate show` lists
+//! what any of the four files holds. All that it does stands in libraries: `dmr_command` reads the command line and does what it
+//! asks for.
 //!
 //! Its stored run is over a recording: the uplink and the received file are files, the outgoing list comes in by standard input,
 //! and the downlink goes out by standard output, in front of the numbers of the run.

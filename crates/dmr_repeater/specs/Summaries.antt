@@ -1,4 +1,4 @@
--- What the numbers of a run count.
+-- What five numbers of a run count of the gateway.
 use Rattle.dmr_station.specs.StationRules.{Counts}
 use Rattle.dmr_repeater.specs.declared.summary.Summary.{Summary}
 

@@ -11,7 +11,7 @@ generator_low = 0x0E ∷ 0x38 ∷ 0x40 ∷ []
 abbrev pub generator : List ℕ
 generator = 1 ∷ generator_low
 
--- octets are a word where they are the coefficients of a multiple of the generator
+-- octets, twelve wherever a word is meant, are one where they are the coefficients of a multiple of the generator
 abbrev pub IsRsWord : List ℕ → Type 0
 IsRsWord octets = IsMultiple octet_field generator octets
 
@@ -24,7 +24,7 @@ abbrev pub power : ℕ → ℕ
 power zero = 1
 power (suc k) = times 2 (power k)
 
--- zero at the first three powers
+-- zero at the powers 1 to 3
 abbrev pub IsZeroAtRoots : List ℕ → Type 0
 IsZeroAtRoots octets = (k : ℕ) → 0 < k → k ≤ 3 → value_at (power k) octets ≡ 0
 

@@ -23,7 +23,7 @@ use Rattle.dmr_gateway.specs.declared.received.Received.{Received}
 use Rattle.dmr_station.specs.Pairs.{Pairwise}
 use Rattle.dmr_station.specs.StationRules.{Settings, Counts, is_free, outcome_count}
 
--- 1. OffersOfRecords.
+-- 1. What is offered.
 
 -- A record of the outgoing file as it was read: its fields, the length of its datagram, and the first of its octets.
 pub record IsReadOutgoing (o : Outgoing) (s : Sending) : Type 0 where

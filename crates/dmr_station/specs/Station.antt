@@ -111,7 +111,7 @@ taken_once s = with_received (after_received s.memory.gate) (length (option_to_l
 abbrev pub all_received_taken : State → State
 all_received_taken s = with_received (received_taken s.memory.gate) (length (received_of s.memory.gate)) s
 
--- The counters stay below the frames and the offers, however much is still to be taken.
+-- The counters stay within what the frames and the offers allow, however much is still to be taken.
 pub record IsWithinFrames (s : State) : Type 0 where
   pub frames : s.frames ≤ 2 ^ 29
   pub repeated : s.repeated ≤ 2 * s.frames

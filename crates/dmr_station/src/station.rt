@@ -87,7 +87,7 @@ impl Station {
         })
     }
 
-    /// Offers a datagram to the gateway, before the frame in which it is due. There are less than 2^32 - 1 of them.
+    /// Offers a datagram to the gateway, before the frame in which it is due. There are at most 2^32 - 1 of them.
     pub fn offer(&mut self, outgoing: &Outgoing)
         requires slot { IsSlot outgoing.now.slot }
         requires offers { self.old.offered + 1 < 2 ^ 32 }
@@ -101,7 +101,7 @@ impl Station {
     }
 
     /// Takes a frame of the uplink, and gives the records of the frame of the downlink that is decided then. What is received in
-    /// uplink frame f-1 is taken for downlink frame f, and repeated six frames after its own. There are less than 2^29 frames.
+    /// uplink frame f-1 is taken for downlink frame f, and repeated six frames after its own. There are at most 2^29 frames.
     pub fn exchange(&mut self, frame: &UplinkFrame) -> DownlinkFrame
         requires frames { self.old.frames < 2 ^ 29 }
         ensures exchanged { IsExchanged self.old frame.now result self.new }
