@@ -76,7 +76,7 @@ def clean():
 
 
 def damaged(seed=1):
-    """Mixed traffic in which as many bits are wrong as are undone."""
+    """Mixed traffic in which as many bits are wrong as are undone. In data of types 8 and 10, which has no code here, they stay."""
     numbers = random.Random(seed)
     slots = []
     for _ in range(40):

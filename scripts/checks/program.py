@@ -29,7 +29,7 @@ class Report:
         self.is_built = False
 
     def begin(self, part):
-        """A part starts the program itself, past the script that looks whether the sources have changed, unless it says otherwise."""
+        """A part starts the program itself, past the script that looks whether the sources changed, unless it says otherwise."""
         if not self.is_built:
             subprocess.run([self.script, "--version"], stdout=subprocess.DEVNULL, check=True)
             self.is_built = True

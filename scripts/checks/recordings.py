@@ -86,10 +86,10 @@ def outgoing_fault(octets):
         if record[5] not in (1, 2) or record[6] > 3:
             return "bad tag"
         frame, size = int.from_bytes(record[1:5], "big"), 9 + int.from_bytes(record[7:9], "big")
-        if at + size > len(octets):
-            return "cut record"
         if frame < last:
             return "frame order"
+        if at + size > len(octets):
+            return "cut record"
         at, last = at + size, frame
     return fault
 

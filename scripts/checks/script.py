@@ -13,7 +13,7 @@ here=$(pwd)
 top=${here%/crates/*}
 echo "$(basename "$here") $1" >>"$top/said"
 case $1 in
-    run) ;;
+    run) sleep 0.2 ;;
     ci) cd crates/dmr_program ;;
     *) exit 0 ;;
 esac
@@ -82,6 +82,22 @@ class Tree:
         return ran
 
 
+def check_two_at_once(tree):
+    """Of two that are started at once one builds, and the other waits for it."""
+    if not shutil.which("flock"):
+        return
+    said = tree.top / "said"
+    said.unlink(missing_ok=True)
+    (tree.low / "lib.rt").write_text("at once\n")
+    env = {**os.environ, "PATH": f"{tree.tools}:{os.environ['PATH']}"}
+    both = [subprocess.Popen([tree.script], env=env, stdout=subprocess.PIPE, stderr=subprocess.PIPE) for _ in range(2)]
+    printed = [it.communicate()[0] for it in both]
+    is_so = [it.returncode for it in both] == [0, 0] and printed[0] == printed[1] and b"at once" in printed[0]
+    tree.report.expect("two at once: what ran", is_so, printed)
+    had = said.read_text().splitlines()
+    tree.report.expect("two at once: builds", had == ["low lib", "dmr_program run"], had)
+
+
 def check_gate(tree):
     """What the gate proved and built isn't built once more, where the sources are still the same."""
     (tree.low / "lib.rt").write_text("fourth\n")
@@ -133,6 +149,7 @@ def check(report):
         report.expect("a build that fails", is_told, ran)
         (tree.top / "fail").unlink()
         tree.expect("after a build that failed", 1)
+        check_two_at_once(tree)
         check_gate(tree)
         (tree.low / "lib.rt").write_text("last\n")
         ran = tree.run(path="/usr/bin:/bin")

@@ -53,7 +53,7 @@ RECEIVED = """received list, version 1
 records 1
 """
 
-# How many octets the product code covers first in a burst: places 0 to 15 of the information are bits 0 to 97 and 166 on.
+# Bits that are turned: three of the slot type, three of the sync, and places 0 to 15 of the information.
 DAMAGED_BITS = [98, 99, 100, 108, 109, 110, *((181 * place) % 196 for place in range(16))]
 
 
@@ -316,6 +316,18 @@ def check_json(report):
     report.expect("a strip in JSON is refused", (ran.status, ran.out) == (2, b"") and b"cannot be used with" in ran.err, ran)
 
 
+def check_most_bursts(report):
+    """The recording with most bursts through a pipe, in a process that has less memory than it has octets."""
+    given = it.UPLINK_HEAD + (b"\1" + it.CSBK) * (2 * it.LIMIT)
+    command = f"ulimit -v 65536; exec {report.built} show - --from {it.LIMIT - 1}"
+    ran = subprocess.run(["sh", "-c", command], input=given, capture_output=True)
+    seconds = f"{it.LIMIT * 6 // 100}.{it.LIMIT * 6 % 100:02}"
+    last = f"frames {it.LIMIT} seconds {seconds} slot-1 {it.LIMIT} slot-2 {it.LIMIT} unreadable 0"
+    lines = ran.stdout.decode().splitlines()
+    is_so = ran.returncode == 0 and len(lines) == 4 and lines[-1] == last
+    report.expect("the recording with most bursts", is_so, (lines, ran.stderr))
+
+
 def check_longest(report):
     """The longest recording through a pipe, with a burst every hundred frames, in a process with little memory."""
     block = b"\1" + it.CSBK + bytes(199)
@@ -343,3 +355,4 @@ def check(report):
     check_strips(report)
     check_json(report)
     check_longest(report)
+    check_most_bursts(report)

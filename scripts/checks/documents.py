@@ -1,0 +1,163 @@
+"""The documents are true of the sources: links lead somewhere, definitions stand in their files, words in their crates."""
+
+import re
+
+DOCUMENTS = "README.md", "docs/architecture.md", "docs/protocol.md", "docs/promises.md", "docs/DECISIONS.md", "samples/README.md"
+WIDTH = 132
+
+LINK = re.compile(r"\[[^\]]+\]\(([^)\s]+)\)")
+MEANT = re.compile(r"^\[([^\]]+)\]: (\S+)$", re.MULTILINE)
+USED = re.compile(r"\[([^\]`]+)\](?![(:])")
+NAME = re.compile(r"`(\w+)`")
+# Names, and behind them the file in which they stand.
+TOLD = re.compile(r"((?:`\w+`(?:,| and|, and| over)? )*`\w+`) \(?(?:(?:both|all) )?\[([\w/]+\.antt)\]")
+# What is declared: an item of a source, a definition, a field, a variant.
+DECLARED = re.compile(
+    r"^ *(?:pub(?:\([a-z]+\))? )?(?:const )?(?:fn|struct|enum|type|trait|mod|const) (\w+)"
+    r"|^(?:pub )?(?:abbrev|unfoldable|record|data) (?:pub )?(\w+)"
+    r"|^ +pub (\w+) ?:"
+    r"|^    ([A-Z]\w*)(?:,$|\(| \{$)",
+    re.MULTILINE,
+)
+
+
+def sources_of(crate):
+    return sorted((crate / "src").rglob("*.rt"))
+
+
+def definitions_of(crate):
+    return sorted((crate / "specs").glob("*.antt"))
+
+
+def declared_in(*files):
+    """Every word that is declared in files."""
+    return {word for file in files for found in DECLARED.findall(file.read_text()) for word in found if word}
+
+
+def anchor_of(heading):
+    """The anchor of a heading, as it is made where the documents are read."""
+    return re.sub(r"[^\w\- ]", "", heading.lower()).replace(" ", "-")
+
+
+def anchors_in(text):
+    return {anchor_of(it) for it in re.findall(r"^#+ (.*)$", text, re.MULTILINE)}
+
+
+def check_link(report, file, target):
+    """A link leads to a file, and in a document to a heading of it."""
+    path, _, anchor = target.partition("#")
+    place = (file.parent / path).resolve() if path else file
+    is_there = place.exists() and (not anchor or anchor in anchors_in(place.read_text()))
+    report.expect(f"{file.name} links to {target}", is_there, place)
+
+
+def check_links(report):
+    for name in DOCUMENTS:
+        file = report.top / name
+        text = file.read_text()
+        meant = dict(MEANT.findall(text))
+        for target in [*LINK.findall(text), *meant.values()]:
+            check_link(report, file, target)
+        used = set(USED.findall(MEANT.sub("", text)))
+        report.expect(f"each link of {name} is used", used >= set(meant), set(meant) - used)
+        files = {it for it in used if it.endswith(".antt")}
+        report.expect(f"each file that {name} tells is linked", files <= set(meant), files - set(meant))
+
+
+def cells_of(row):
+    return [cell.strip() for cell in row.split("|")]
+
+
+def tables_of(text, head):
+    """The rows of the table with this head, without the rule under it."""
+    begin = text.index(head) + len(head)
+    rows = []
+    for line in text[begin:].lstrip("\n").splitlines():
+        if not line.startswith("|"):
+            break
+        rows.append(cells_of(line.strip("|")))
+    return rows[1:]
+
+
+def check_definitions(report):
+    """Where the promises tell a definition and its file, it stands there; a law or a call is a function of that crate."""
+    text = " ".join((report.top / "docs/promises.md").read_text().split())
+    told = {(name, file) for names, file in TOLD.findall(text) for name in NAME.findall(names)}
+    report.expect("the promises tell definitions", len(told) > 100, len(told))
+    for name, file in sorted(told):
+        crates = report.top / "crates"
+        sources = sources_of(crates / file.split("/")[0])
+        report.expect(f"{name} stands in {file}", name in declared_in(crates / file, *sources))
+
+
+def check_promises(report):
+    """Each type and relation that a promise names stands in a file that it tells, or is one of the sources of such a crate."""
+    text = (report.top / "docs/promises.md").read_text()
+    crates = report.top / "crates"
+    for promise in re.findall(r"^- (?:.+\n)+", text, re.MULTILINE):
+        files = re.findall(r"\[([\w/]+\.antt)\]", promise)
+        sources = [it for crate in {file.split("/")[0] for file in files} for it in sources_of(crates / crate)]
+        declared = declared_in(*[crates / file for file in files], *sources)
+        for name in re.findall(r"`([A-Z]\w+)[`:]", promise) if files else []:
+            report.expect(f"{name} stands where its promise tells", name in declared, promise.split("\n")[0])
+
+
+def check_headline(report):
+    """Each word of the headline stands in the file of its row; a law stands in its crate."""
+    text = (report.top / "docs/promises.md").read_text()
+    for _, definition, file in tables_of(text, "| Word | Definition | File |"):
+        place = report.top / "crates" / file.strip("[]")
+        law = re.match(r"law `(\w+)` of (\w+)", definition)
+        if law:
+            laws = report.top / "crates" / law[2] / "src/laws.rt"
+            report.expect(f"the law {law[1]} stands in {law[2]}", law[1] in declared_in(laws))
+        for name in NAME.findall(definition)[bool(law):]:
+            report.expect(f"{name} of the headline stands in {file}", name in declared_in(place))
+
+
+def check_words(report):
+    """Each word of the list stands in its crate, and each definition in its files."""
+    text = (report.top / "docs/architecture.md").read_text()
+    for _, _, stands in tables_of(text, "| Word | Means | Stands in |"):
+        for piece in stands.split(";"):
+            for crate in (report.top / "crates" / it for it in re.findall(r"\bdmr_\w+", piece)):
+                declared = declared_in(*sources_of(crate), *definitions_of(crate))
+                for name in NAME.findall(piece):
+                    report.expect(f"{name} stands in {crate.name}", name in declared)
+    for names, _, stands in tables_of(text, "| Definition | Says | Stands in |"):
+        name_of_crate, *files = re.split(r", | and ", stands)
+        crate = report.top / "crates" / name_of_crate
+        places = [crate / f"specs/{it}.antt" for it in files if "one file a" not in it] or definitions_of(crate)
+        for name in NAME.findall(names):
+            report.expect(f"{name} stands in {stands}", name in declared_in(*places))
+
+
+def check_crates(report):
+    """README and docs/architecture.md name each crate, and no other."""
+    listed = re.findall(r"^(\w+):", (report.top / "crates.txt").read_text(), re.MULTILINE)
+    there = {it.name for it in (report.top / "crates").iterdir() if (it / "src").is_dir()}
+    report.expect("crates.txt lists each crate", set(listed) == there, set(listed) ^ there)
+    for name in ("README.md", "docs/architecture.md"):
+        told = set(re.findall(r"\bdmr_\w+", (report.top / name).read_text()))
+        libraries = {it for it in listed if not it.startswith("dmr_test_") and not it.endswith("_tests")}
+        report.expect(f"{name} names each crate", libraries <= told, libraries - told)
+
+
+def check_width(report):
+    """No line of a source, definition, proof or script is wider than 132 columns."""
+    crates = report.top / "crates"
+    files = [it for kind in ("src/**/*.rt", "specs/*.antt", "proofs/**/*.antt") for it in crates.glob(f"*/{kind}")]
+    files += [it for folder in ("scripts", "bench") for it in (report.top / folder).rglob("*.py")]
+    wide = [f"{file.relative_to(report.top)}:{at}" for file in files
+            for at, line in enumerate(file.read_text().splitlines(), 1) if len(line) > WIDTH]
+    report.expect(f"no line is wider than {WIDTH} columns", not wide, wide)
+
+
+def check(report):
+    check_links(report)
+    check_definitions(report)
+    check_promises(report)
+    check_headline(report)
+    check_words(report)
+    check_crates(report)
+    check_width(report)
