@@ -14,6 +14,9 @@ use dmr_report::RunEnd;
 use std::alloc::Global;
 use std::io::{BufReader, BufWriter, Read, Write};
 
+/// How many octets a buffer holds, so that there are few calls of the system.
+const BUFFER: usize = 65_536;
+
 /// Runs over the files at these places, with buffers between.
 pub fn run_places<S: System>(
     system: &S,
@@ -104,7 +107,7 @@ fn buffered_source<R: Read + Drop>(
     ensures well { IfOk result (λ source. ⟦<FromRead<BufReader<R>> as Source>⟧.has_failed source ≡ false) }
     ensures fault { IfErr result (λ e. e ≡ RunFault.Memory) }
 {
-    match BufReader::new(alloc, reader) {
+    match BufReader::with_capacity(alloc, BUFFER, reader) {
         Ok(reader) => Ok(FromRead::new(reader)),
         Err(_) => Err(RunFault::Memory),
     }
@@ -118,7 +121,7 @@ fn buffered_sink<W: Write + Drop>(
     ensures well { IfOk result (λ sink. ⟦<ToWrite<BufWriter<W>> as Sink>⟧.has_failed sink ≡ false) }
     ensures fault { IfErr result (λ e. e ≡ RunFault.Memory) }
 {
-    match BufWriter::new(alloc, writer) {
+    match BufWriter::with_capacity(alloc, BUFFER, writer) {
         Ok(writer) => Ok(ToWrite::new(writer)),
         Err(_) => Err(RunFault::Memory),
     }

@@ -121,9 +121,9 @@ pub(crate) fn read_octet<S: Source>(source: &mut S) -> Result<Option<u8>, Record
     ensures taken { OnErr result (Consumes (S.left source.old) (S.left source.new) []) }
 {
     let mut buffer = [0u8; 1];
-    match fill(source, &mut buffer) {
+    match source.read(&mut buffer) {
         Ok(0) => Ok(None),
         Ok(_) => Ok(Some(buffer[0])),
-        Err(fault) => Err(fault),
+        Err(_) => Err(RecordFault::Read),
     }
 }

@@ -1,11 +1,11 @@
 -- What was received in a frame is written, record by record.
 use Rattle.std.proofs.Common.{◌≡◌, ℕ, ◌+◌, List, [], ◌∷◌, ◌++◌, length, map, take, drop, Option, Some, None, option_to_list}
-use Rattle.std.proofs.Common.{refl, sym, ap, ◌∙◌, subst, arith, append-nil, append_assoc, take-append-drop}
+use Rattle.std.proofs.Common.{rules, refl, sym, ap, ◌∙◌, subst, arith, append-nil, append_assoc, take-append-drop}
 use Rattle.std.specs.List.{flat_map}
 use Rattle.std.specs.Io.KnownBytes.{Appends}
 use Rattle.std.proofs.KnownBytes.{Appends-trans, Appends-nil}
 use Rattle.std.proofs.lemmas.List.{length-append}
-use Rattle.dmr_gateway.specs.GatewayRules.{Gate, next_received, after_received}
+use Rattle.dmr_gateway.specs.GatewayRules.{Gate, HasNothingReceived, next_received, after_received}
 use Rattle.dmr_gateway.specs.declared.received.Received.{Received}
 use Rattle.dmr_record.specs.Devices.{Tears}
 use Rattle.dmr_record.specs.Received.{receipt_octets}
@@ -52,23 +52,29 @@ taken_whole s =
     ∙ ap (λ (n : ℕ). record s { memory = record s.memory { gate = received_taken g }; counts = record s.counts { received = n } })
     count
 
-pub one_written : (number : ℕ) (before now : State) (r : Received) (a b c : Option (List ℕ)) → Written number before now a b
-    → next_received now.memory.gate ≡ Some r → Appends b c (receipt_octets (receipt_in number r))
-    → Written number before (taken_once now) a c
-one_written number before now r a b c u is one =
-    let rest = received_of (after_received now.memory.gate) in
-    let step : received_of now.memory.gate ≡ r ∷ rest =
-    received_step now.memory.gate ∙ ap (λ (o : Option Received). option_to_list o ++ rest) is in
-    let single : octets_of number (u.done ++ r ∷ []) ≡ octets_of number u.done ++ receipt_octets (receipt_in number r) =
-    octets_of-append number u.done (r ∷ [])
-    ∙ ap (λ l. octets_of number u.done ++ l) (append-nil (receipt_octets (receipt_in number r))) in
-    record {
-      done = u.done ++ r ∷ [];
-      split = u.split ∙ ap (λ l. u.done ++ l) step ∙ sym (append_assoc u.done (r ∷ []) rest);
-      whole = taken_whole now ∙ u.whole;
-      written = subst (Appends a c) (sym single)
-          (Appends-trans a b c (octets_of number u.done) (receipt_octets (receipt_in number r)) u.written one);
-    }
+pub one_written : (number : ℕ) (before now next : State) (r : Received) (a b c : Option (List ℕ)) → Written number before now a b
+    → Some r ≡ next_received now.memory.gate → next ≡ taken_once now → Appends b c (receipt_octets (receipt_in number r))
+    → Written number before next a c
+one_written number before now next r a b c u is taken one =
+    subst (λ (s : State). Written number before s a c) (sym taken) (one_taken number before now r a b c u (sym is) one)
+  where
+    one_taken : (number : ℕ) (before now : State) (r : Received) (a b c : Option (List ℕ)) → Written number before now a b
+        → next_received now.memory.gate ≡ Some r → Appends b c (receipt_octets (receipt_in number r))
+        → Written number before (taken_once now) a c
+    one_taken number before now r a b c u is one =
+        let rest = received_of (after_received now.memory.gate) in
+        let step : received_of now.memory.gate ≡ r ∷ rest =
+        received_step now.memory.gate ∙ ap (λ (o : Option Received). option_to_list o ++ rest) is in
+        let single : octets_of number (u.done ++ r ∷ []) ≡ octets_of number u.done ++ receipt_octets (receipt_in number r) =
+        octets_of-append number u.done (r ∷ [])
+        ∙ ap (λ l. octets_of number u.done ++ l) (append-nil (receipt_octets (receipt_in number r))) in
+        record {
+          done = u.done ++ r ∷ [];
+          split = u.split ∙ ap (λ l. u.done ++ l) step ∙ sym (append_assoc u.done (r ∷ []) rest);
+          whole = taken_whole now ∙ u.whole;
+          written = subst (Appends a c) (sym single)
+              (Appends-trans a b c (octets_of number u.done) (receipt_octets (receipt_in number r)) u.written one);
+        }
 
 -- all are taken
 pub all_written : (number : ℕ) (before now : State) (a b : Option (List ℕ)) → Written number before now a b
@@ -121,6 +127,21 @@ all_written number before now a b u none =
         none_left g None None (Some z) d e = cc
         none_left g None (Some y) c d e = cc
         none_left g (Some x) b c d e = cc
+
+-- where nothing waits, all are taken
+pub rest_written : (number : ℕ) (before now : State) (a b : Option (List ℕ)) → Written number before now a b
+    → HasNothingReceived now.memory.gate
+    → Appends a b (octets_of number (received_of before.memory.gate)) × (now ≡ all_received_taken before)
+rest_written number before now a b u nothing =
+    let whole : received_of before.memory.gate ≡ u.done =
+    u.split ∙ ap (λ l. u.done ++ l) (none_wait now nothing) ∙ append-nil u.done in
+    (subst (λ l. Appends a b (octets_of number l)) (sym whole) u.written, sym (still now nothing) ∙ u.whole)
+  where
+    none_wait : (s : State) → HasNothingReceived s.memory.gate → received_of s.memory.gate ≡ []
+    none_wait s h = search rules
+
+    still : (s : State) → HasNothingReceived s.memory.gate → all_received_taken s ≡ s
+    still s h = search rules
 
 -- a record of them tore
 pub torn_received : (number : ℕ) (before now : State) (r : Received) (a b c : Option (List ℕ)) → Written number before now a b

@@ -84,6 +84,10 @@ fn write_each_received<R: Sink>(
         ) {
             return Err(fault);
         }
+        // Most often that was all.
+        if station.has_nothing_received() {
+            return Ok(());
+        }
     }
 }
 

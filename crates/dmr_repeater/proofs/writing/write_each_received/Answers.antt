@@ -1,6 +1,5 @@
-use Rattle.std.proofs.Common.{sym, subst}
-use Rattle.dmr_station.specs.Station.{State}
-use Rattle.dmr_repeater.proofs.Received.{Written, one_written, torn_received}
+use Rattle.std.proofs.Common.{refl, sym}
+use Rattle.dmr_repeater.proofs.Received.{one_written, rest_written, torn_received}
 use Rattle.dmr_repeater.proofs.writing.write_each_received.Goals as goal
 
 pub returns-in-Err-clause-torn : goal.returns-in-Err-clause-torn
@@ -9,13 +8,25 @@ returns-in-Err-clause-torn g c =
     torn_received c.args.number c.args.station.now c.loop-one.station c.in-Some.one _ _ _ c.loop-one.invariant.written
     (sym c.in-Some.ensures.received) torn
 
+pub returns-then-has_nothing_received-clause-receipts : goal.returns-then-has_nothing_received-clause-receipts
+returns-then-has_nothing_received-clause-receipts g c =
+    let receipt = rw c.as_slice.ensures.value at c.in_default-write_received.ensures.receipt in
+    let written = one_written _ _ _ _ c.in-Some.one _ _ _ c.loop-one.invariant.written c.in-Some.ensures.received
+    c.take_received.ensures.taken receipt in
+    (rest_written _ _ _ _ _ written (c.if-has_nothing_received.ensures.value.0 refl)).0
+
+pub returns-then-has_nothing_received-clause-taken : goal.returns-then-has_nothing_received-clause-taken
+returns-then-has_nothing_received-clause-taken g c =
+    let receipt = rw c.as_slice.ensures.value at c.in_default-write_received.ensures.receipt in
+    let written = one_written _ _ _ _ c.in-Some.one _ _ _ c.loop-one.invariant.written c.in-Some.ensures.received
+    c.take_received.ensures.taken receipt in
+    (rest_written _ _ _ _ _ written (c.if-has_nothing_received.ensures.value.0 refl)).1
+
 pub loop-one-preserved : goal.loop-one-preserved
 loop-one-preserved g c =
     let receipt = rw c.as_slice.ensures.value at c.in_default-write_received.ensures.receipt in
     record {
       well = c.in_default-write_received.ensures.well;
-      written = subst (λ (s : State). Written c.args.number c.args.station.now s (g.R.Sink.held c.args.received.now)
-          (g.R.Sink.held c.write_received.new.sink)) (sym c.take_received.ensures.taken)
-          (one_written c.args.number c.args.station.now c.loop-one.station c.in-Some.one _ _ _ c.loop-one.invariant.written
-          (sym c.in-Some.ensures.received) receipt);
+      written = one_written _ _ _ _ c.in-Some.one _ _ _ c.loop-one.invariant.written c.in-Some.ensures.received
+          c.take_received.ensures.taken receipt;
     }

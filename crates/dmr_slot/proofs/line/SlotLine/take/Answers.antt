@@ -1,7 +1,7 @@
 use Rattle.std.proofs.Common.{◌≡◌, ◌∙◌, ap, refl, subst, sym, All}
 use Rattle.dmr_hearing.specs.Fit.{IsFitHeard}
 use Rattle.dmr_voice.specs.Tracking.{Tracking}
-use Rattle.dmr_slot.proofs.Pushing.{fit_after, push_is, sound_after, window_after}
+use Rattle.dmr_slot.proofs.Pushing.{fit_after, push_is, sound_after}
 use Rattle.dmr_slot.specs.LineRules.{EndsSilent, known_after, call_left_after}
 use Rattle.dmr_slot.proofs.Quiet.{heard_silent, state_silent}
 use Rattle.dmr_slot.proofs.line.SlotLine.take.Goals as goal
@@ -9,17 +9,15 @@ use Rattle.dmr_slot.proofs.line.SlotLine.take.Goals as goal
 pub step-decided-requires : goal.step-decided-requires
 step-decided-requires c = record {
   fit = subst (All IsFitHeard)
-      (sym (c.deref.ensures ∙ window_after c.self.inside.recent.value c.deref_mut.result.now c.move_on.new.window
-      c.hear-heard.result c.deref_mut.ensures.value c.move_on.ensures.moved))
-      (fit_after c.self.inside.recent.value c.hear-heard.result c.self.invariant.0.heard_fit c.hear-heard.ensures.fit);
+      (sym (c.places.ensures.value ∙ c.move_on.ensures.moved))
+      (fit_after c.self.inside.recent c.hear-heard.result c.self.invariant.0.heard_fit c.hear-heard.ensures.fit);
 }
 
-ends_after : (c : goal.After-advance) → EndsSilent c.silent_after-self-inside.result c.move_on.new.window
+ends_after : (c : goal.After-advance) → EndsSilent c.silent_after-self-inside.result c.move_on.new.self
 ends_after c =
     subst (EndsSilent c.silent_after-self-inside.result)
-    (sym (window_after c.self.inside.recent.value c.deref_mut.result.now c.move_on.new.window c.hear-heard.result
-    c.deref_mut.ensures.value c.move_on.ensures.moved))
-    (c.silent_after-self-inside.ensures.silent c.self.inside.recent.value c.hear-heard.result c.self.invariant.1
+    (sym c.move_on.ensures.moved)
+    (c.silent_after-self-inside.ensures.silent c.self.inside.recent c.hear-heard.result c.self.invariant.1
     (heard_silent c.self.inside.colour c.args.slot.now c.hear-heard.result c.hear-heard.ensures.heard))
 
 -- the call hang goes on from what it was
@@ -36,18 +34,17 @@ left_is c =
 
 pub invariant_of-self : goal.invariant_of-self
 invariant_of-self c = record {
-  0 = sound_after c.self.inside.colour c.self.inside.track c.step-decided.new.self c.self.inside.recent.value
-      c.move_on.new.window c.self.inside.hang.link_control c.advance.new.self.link_control
+  0 = sound_after c.self.inside.colour c.self.inside.track c.step-decided.new.self c.self.inside.recent
+      c.move_on.new.self c.self.inside.hang.link_control c.advance.new.self.link_control
       c.hear-heard.result c.role_of.result c.self.invariant.0
-      (window_after c.self.inside.recent.value c.deref_mut.result.now c.move_on.new.window c.hear-heard.result
-      c.deref_mut.ensures.value c.move_on.ensures.moved) c.hear-heard.ensures.fit
+      c.move_on.ensures.moved c.hear-heard.ensures.fit
       (let k = c.step-decided.ensures.out in ap (λ (t : Tracking). t.colour) (c.step-decided.ensures.state k.0 k.1))
       c.role_of.ensures.fit (known_is c);
   1 = ends_after c;
   2 = let k = c.step-decided.ensures.out in
       state_silent c.self.inside.track.colour c.silent_after-self-inside.result c.self.inside.track.state
       c.step-decided.new.self.state
-      c.deref.result.now k.0 (subst (EndsSilent c.silent_after-self-inside.result) (sym c.deref.ensures) (ends_after c))
+      c.places.result.now k.0 (subst (EndsSilent c.silent_after-self-inside.result) (sym c.places.ensures.value) (ends_after c))
       (ap (λ (t : Tracking). t.state) (c.step-decided.ensures.state k.0 k.1));
   3 = c.advance.ensures.kept c.self.inside.colour c.slot_out-out.ensures.kept;
 }
@@ -58,23 +55,22 @@ returns-clause-pushed c =
     (record {
       colour = c.self.inside.colour;
       call_hang = c.self.inside.hang.frames;
-      window = c.self.inside.recent.value;
+      window = c.self.inside.recent;
       state = c.self.inside.track.state;
       left = c.self.inside.hang.left;
       lc = c.self.inside.hang.link_control;
     })
-    c.self.inside.track c.step-decided.new.self c.args.slot.now c.hear-heard.result c.deref.result.now
+    c.self.inside.track c.step-decided.new.self c.args.slot.now c.hear-heard.result c.places.result.now
     c.step-decided.result c.slot_out-out.result c.role_of.result
-    c.advance.new.self.frames c.advance.new.self.left c.move_on.new.window c.advance.new.self.link_control
+    c.advance.new.self.frames c.advance.new.self.left c.move_on.new.self c.advance.new.self.link_control
     (record {
       colour_is = c.self.invariant.0.same;
       state_is = refl;
-      window_is = c.deref.ensures ∙ window_after c.self.inside.recent.value c.deref_mut.result.now c.move_on.new.window
-          c.hear-heard.result c.deref_mut.ensures.value c.move_on.ensures.moved;
+      window_is = c.places.ensures.value ∙ c.move_on.ensures.moved;
       hears = record { by_fields = c.hear-heard.ensures.heard; damaged = c.hear-heard.ensures.damaged };
       says = c.step-decided.ensures.out;
       steps = c.step-decided.ensures.state;
       gives = c.slot_out-out.ensures.out;
       role_is = c.role_of.ensures.role;
     })
-    (c.advance.ensures.frames ∙ c.slot_out-out.ensures.frames) (sym c.deref.ensures) (left_is c) (known_is c))
+    (c.advance.ensures.frames ∙ c.slot_out-out.ensures.frames) (sym c.places.ensures.value) (left_is c) (known_is c))
