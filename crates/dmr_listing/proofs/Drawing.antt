@@ -6,7 +6,8 @@ use Rattle.std.proofs.lemmas.List.{drop-append-le, drop_all, length-append, leng
 use Rattle.std.proofs.lemmas.List.{take-append-le}
 use Rattle.std.specs.Io.KnownBytes.{Consumes}
 use Rattle.dmr_listing.specs.ListingMeaning.{place_by_number}
-use Rattle.dmr_listing.specs.ListingRules.{Gains, IsListed, Lists, ListingTurn, begun, turn_after, turn_passed}
+use Rattle.dmr_listing.specs.ListingRules.{GivenInTurn, IsRead, Lists, ListingTurn, begun}
+use Rattle.dmr_listing.specs.ListingRules.{turn_after, turn_passed}
 use Rattle.dmr_listing.specs.Marks.{mark_of}
 use Rattle.dmr_listing.specs.Recordings.{IsSlotOf, RecordedSlot, spelling}
 use Rattle.dmr_listing.specs.Strips.{AreStrips, IsDrawn, IsGivenWhereFull, IsMarkAt, IsStripOf, IsStripped, Picture}
@@ -18,7 +19,7 @@ use Rattle.dmr_listing.specs.declared.mark.Mark.TheVariants.{Silence}
 use Rattle.dmr_listing.specs.declared.place.Place.{Place}
 use Rattle.dmr_listing.specs.declared.recording.RecordedBurst.{RecordedBurst}
 use Rattle.dmr_listing.specs.declared.recording.Recording.{Recording}
-use Rattle.dmr_listing.proofs.Listings.{Gains-none, Gains-trans, listed_burst, listed_none, listed_part, listed_silence}
+use Rattle.dmr_listing.proofs.Listings.{given_then, read_burst, read_none, read_part, read_silence}
 
 -- a strip more, behind full ones
 pub strips_more : (full rest : List (Place × Mark)) (strips : List Picture) (strip : Picture) → AreStrips full strips
@@ -82,26 +83,27 @@ marks_burst frames turn (Some b ∷ slots) (one ∷ lines) end burst line (first
     ∙ sym (append_assoc (shown frames turn.slots (mark_of one)) _ _)
 
 -- What is read and drawn of a slot more.
-pub record IsOneMore (recording : Recording) (frames : Frames) (slots : List RecordedSlot) (lines : List BurstLine) (turn :
-    ListingTurn)
-    (slot : RecordedSlot) (mark : Mark) (end : ListingTurn) (a c : Option (List ℕ)) : Type 0 where
-  pub listed : IsListed recording (slots ++ slot ∷ []) [] end a c None None
-  pub marks : marks_of frames 0 (slots ++ slot ∷ []) listed.lines ≡ marks_of frames 0 slots lines ++ shown frames turn.slots mark
+pub record IsOneMore (recording : Recording) (frames : Frames) (slots : List RecordedSlot) (lines : List BurstLine)
+    (turn : ListingTurn) (slot : RecordedSlot) (mark : Mark) (end : ListingTurn) (a c : Option (List ℕ)) : Type 0 where
+  pub lines_more : List BurstLine
+  pub read : IsRead recording (slots ++ slot ∷ []) lines_more [] end a c
+  pub marks : marks_of frames 0 (slots ++ slot ∷ []) lines_more ≡ marks_of frames 0 slots lines ++ shown frames turn.slots mark
 
-pub one_more : (recording : Recording) (frames : Frames) (slots : List RecordedSlot) (turn : ListingTurn) (slot : RecordedSlot)
-    (mark : Mark) (end : ListingTurn)
-    (a b c : Option (List ℕ)) (listed : IsListed recording slots [] turn a b None None) → IsSlotOf recording slot
+pub one_more : (recording : Recording) (frames : Frames) (slots : List RecordedSlot) (lines : List BurstLine) (turn : ListingTurn)
+    (slot : RecordedSlot) (mark : Mark) (end : ListingTurn) (a b c : Option (List ℕ))
+    → IsRead recording slots lines [] turn a b → IsSlotOf recording slot
     → Consumes b c (spelling recording slot) → IsMarkAt turn slot mark end
-    → IsOneMore recording frames slots listed.lines turn slot mark end a c
-unfolding listed_silence listed_burst
-one_more recording frames slots turn None mark end a b c listed is_slot read (silent, later) = rw (silent, later) (record {
-  listed = listed_silence recording slots turn a b c None None listed read;
-  marks = marks_silent frames begun slots listed.lines turn listed.listed;
+    → IsOneMore recording frames slots lines turn slot mark end a c
+one_more recording frames slots lines turn None mark end a b c read is_slot octets (silent, later) = rw (silent, later) (record {
+  lines_more = lines;
+  read = read_silence recording slots lines turn a b c read octets;
+  marks = marks_silent frames begun slots lines turn read.listed;
 })
-one_more recording frames slots turn (Some burst) mark end a b c listed is_slot read (line, at, same, later) =
+one_more recording frames slots lines turn (Some burst) mark end a b c read is_slot octets (line, at, same, later) =
     rw (same, later) (record {
-      listed = listed_burst recording slots turn burst line a b c None None None listed is_slot read at tt;
-      marks = marks_burst frames begun slots listed.lines turn burst line listed.listed;
+      lines_more = lines ++ line ∷ [];
+      read = read_burst recording slots lines turn burst line a b c read is_slot octets at;
+      marks = marks_burst frames begun slots lines turn burst line read.listed;
     })
 
 -- a strip has as many marks as it shows
@@ -120,11 +122,12 @@ few_shown : (is_shown : Bool) (place : Place) (mark : Mark)
 few_shown true place mark = omega arith
 few_shown false place mark = omega arith
 
-pub drawn_none : (recording : Recording) (frames : Frames) (left : Option (List ℕ)) (strip : Picture)
-    (given : Option (List Picture))
-    → strip.marks ≡ [] → IsDrawn recording frames [] [] begun left left strip given given
-drawn_none recording frames left strip given none = record {
-  listed = listed_none recording left None;
+pub drawn_none : {L : Type 0} (Takes : L → Picture → L → Type 0) (recording : Recording) (frames : Frames)
+    (left : Option (List ℕ)) (strip : Picture) (lines : L) → strip.marks ≡ []
+    → IsDrawn Takes recording frames [] [] begun left left strip lines lines
+drawn_none Takes recording frames left strip lines none = record {
+  lines = [];
+  read = read_none recording left;
   full = [];
   rest = [];
   marks = refl;
@@ -133,22 +136,23 @@ drawn_none recording frames left strip given none = record {
   whole = refl;
   few = omega arith;
   waits = none;
-  given = Gains-none given;
+  given = refl;
 }
 
 -- a slot more was read, and its mark went to the strip that waits
-pub drawn_pushed : (recording : Recording) (frames : Frames) (slots : List RecordedSlot) (turn : ListingTurn) (slot : RecordedSlot)
-    (mark : Mark)
-    (end : ListingTurn) (place : Place) (a b c : Option (List ℕ)) (strip : Picture) (d e : Option (List Picture))
-    → IsDrawn recording frames slots [] turn a b strip d e → length strip.marks < most_marks → IsSlotOf recording slot
+pub drawn_pushed : {L : Type 0} (Takes : L → Picture → L → Type 0) (recording : Recording) (frames : Frames)
+    (slots : List RecordedSlot) (turn : ListingTurn) (slot : RecordedSlot) (mark : Mark)
+    (end : ListingTurn) (place : Place) (a b c : Option (List ℕ)) (strip : Picture) (d e : L)
+    → IsDrawn Takes recording frames slots [] turn a b strip d e → length strip.marks < most_marks → IsSlotOf recording slot
     → Consumes b c (spelling recording slot) → IsMarkAt turn slot mark end → place ≡ place_by_number turn.slots
-    → IsDrawn recording frames (slots ++ slot ∷ []) [] end a c (pushed_in frames place mark strip) d e
-drawn_pushed recording frames slots turn slot mark end place a b c strip d e drawn room is_slot read marked at =
-    let more = one_more recording frames slots turn slot mark end a b c drawn.listed is_slot read marked in
+    → IsDrawn Takes recording frames (slots ++ slot ∷ []) [] end a c (pushed_in frames place mark strip) d e
+drawn_pushed Takes recording frames slots turn slot mark end place a b c strip d e drawn room is_slot read marked at =
+    let more = one_more recording frames slots drawn.lines turn slot mark end a b c drawn.read is_slot read marked in
     let next = shown frames turn.slots mark in
     let is_shown = has frames (turn.slots / 2) in
     rw at (record {
-      listed = more.listed;
+      lines = more.lines_more;
+      read = more.read;
       full = drawn.full;
       rest = drawn.rest ++ next;
       marks = more.marks ∙ ap (λ l. l ++ next) drawn.marks ∙ append_assoc drawn.full drawn.rest next;
@@ -173,14 +177,16 @@ turn_later turn None mark end (silent, later) = ap (λ (t : ListingTurn). t.slot
 turn_later turn (Some burst) mark end (line, at, same, later) = ap (λ (t : ListingTurn). t.slots) later
 
 -- the strip that waited was given, and another one waits
-drawn_full : (recording : Recording) (frames : Frames) (slots : List RecordedSlot) (turn : ListingTurn) (a b : Option (List ℕ))
-    (strip waiting : Picture) (d e f : Option (List Picture)) → IsDrawn recording frames slots [] turn a b strip d e
-    → length strip.marks ≡ most_marks → waiting.marks ≡ [] → Gains e f (strip ∷ [])
-    → IsDrawn recording frames slots [] turn a b waiting d f
-drawn_full recording frames slots turn a b strip waiting d e f drawn full none given =
+drawn_full : {L : Type 0} (Takes : L → Picture → L → Type 0) (recording : Recording) (frames : Frames) (slots : List RecordedSlot)
+    (turn : ListingTurn) (a b : Option (List ℕ)) (strip waiting : Picture) (d e f : L)
+    → IsDrawn Takes recording frames slots [] turn a b strip d e
+    → length strip.marks ≡ most_marks → waiting.marks ≡ [] → GivenInTurn Takes e (strip ∷ []) f
+    → IsDrawn Takes recording frames slots [] turn a b waiting d f
+drawn_full Takes recording frames slots turn a b strip waiting d e f drawn full none given =
     let long = strip_long drawn.rest strip drawn.waits in
     record {
-      listed = drawn.listed;
+      lines = drawn.lines;
+      read = drawn.read;
       full = drawn.full ++ drawn.rest;
       rest = [];
       marks = drawn.marks ∙ sym (append-nil (drawn.full ++ drawn.rest));
@@ -190,14 +196,16 @@ drawn_full recording frames slots turn a b strip waiting d e f drawn full none g
       whole = omega (arith, drawn.whole, long, full, length-append drawn.full drawn.rest, length_push drawn.strips strip);
       few = omega arith;
       waits = none;
-      given = Gains-trans d e f drawn.strips (strip ∷ []) drawn.given given;
+      given = given_then Takes d e f drawn.strips (strip ∷ []) drawn.given given;
     }
 
-drawn_waits : (recording : Recording) (frames : Frames) (slots : List RecordedSlot) (turn : ListingTurn) (a b : Option (List ℕ))
-    (strip waiting : Picture) (d e f : Option (List Picture)) → IsDrawn recording frames slots [] turn a b strip d e
-    → waiting ≡ strip → Gains e f [] → IsDrawn recording frames slots [] turn a b waiting d f
-drawn_waits recording frames slots turn a b strip waiting d e f drawn same given = rw same (record {
-  listed = drawn.listed;
+drawn_waits : {L : Type 0} (Takes : L → Picture → L → Type 0) (recording : Recording) (frames : Frames)
+    (slots : List RecordedSlot) (turn : ListingTurn) (a b : Option (List ℕ)) (strip waiting : Picture) (d e f : L)
+    → IsDrawn Takes recording frames slots [] turn a b strip d e → waiting ≡ strip → GivenInTurn Takes e [] f
+    → IsDrawn Takes recording frames slots [] turn a b waiting d f
+drawn_waits Takes recording frames slots turn a b strip waiting d e f drawn same given = rw same (record {
+  lines = drawn.lines;
+  read = drawn.read;
   full = drawn.full;
   rest = drawn.rest;
   marks = drawn.marks;
@@ -206,53 +214,59 @@ drawn_waits recording frames slots turn a b strip waiting d e f drawn same given
   whole = drawn.whole;
   few = drawn.few;
   waits = drawn.waits;
-  given = subst (Gains d f) (append-nil drawn.strips) (Gains-trans d e f drawn.strips [] drawn.given given);
+  given = subst (GivenInTurn Takes d drawn.strips) (sym given) drawn.given;
 })
 
 -- the strip that waits was given where it is full
-pub drawn_given : (recording : Recording) (frames : Frames) (slots : List RecordedSlot) (turn : ListingTurn) (a b : Option (List ℕ))
-    (strip waiting : Picture) (d e f : Option (List Picture)) → IsDrawn recording frames slots [] turn a b strip d e
-    → IsGivenWhereFull strip waiting e f → IsDrawn recording frames slots [] turn a b waiting d f
-drawn_given recording frames slots turn a b strip waiting d e f drawn given =
+pub drawn_given : {L : Type 0} (Takes : L → Picture → L → Type 0) (recording : Recording) (frames : Frames)
+    (slots : List RecordedSlot) (turn : ListingTurn) (a b : Option (List ℕ)) (strip waiting : Picture) (d e f : L)
+    → IsDrawn Takes recording frames slots [] turn a b strip d e
+    → IsGivenWhereFull Takes strip waiting e f → IsDrawn Takes recording frames slots [] turn a b waiting d f
+drawn_given Takes recording frames slots turn a b strip waiting d e f drawn given =
     let few : length strip.marks ≤ most_marks = omega (arith, strip_long drawn.rest strip drawn.waits, drawn.few) in
     elim (eq-or-lt_of_le few) [
-      | inl full ↦ drawn_full recording frames slots turn a b strip waiting d e f drawn full (given.full full).0 (given.full full).1
-      | inr less ↦ drawn_waits recording frames slots turn a b strip waiting d e f drawn (given.other less).0 (given.other less).1
+      | inl full ↦ drawn_full Takes recording frames slots turn a b strip waiting d e f drawn full (given.full full).0
+          (given.full full).1
+      | inr less ↦ drawn_waits Takes recording frames slots turn a b strip waiting d e f drawn (given.other less).0
+          (given.other less).1
     ]
 
--- Strips and what they show, behind all that was given.
-pub record IsFinished (marks : List (Place × Mark)) (given_old given_new : Option (List Picture)) : Type 0 where
+-- Strips of these marks were given.
+pub record IsFinished {L : Type 0} (Takes : L → Picture → L → Type 0) (marks : List (Place × Mark)) (old new : L) : Type 0 where
   pub strips : List Picture
   pub drawn : AreStrips marks strips
-  pub given : Gains given_old given_new strips
+  pub given : GivenInTurn Takes old strips new
 
 unless_some : (strip : Picture) → 0 < length strip.marks → unless_empty strip ≡ strip ∷ []
 unless_some strip some = ap (λ (is_empty : Bool). if is_empty then [] else strip ∷ []) (ne_eqb (length strip.marks) 0 (λ none.
     absurd (omega arith)))
 
 -- the strip of the last marks was given, unless there are none
-finished : (full rest : List (Place × Mark)) (strips : List Picture) (strip : Picture) (d e f : Option (List Picture))
-    → AreStrips full strips → length full ≡ most_marks * length strips → length rest ≤ most_marks → IsStripOf rest strip
-    → Gains d e strips → Gains e f (unless_empty strip) → IsFinished (full ++ rest) d f
-finished full [] strips strip d e f drawn whole few none given last = record {
+finished : {L : Type 0} (Takes : L → Picture → L → Type 0) (full rest : List (Place × Mark)) (strips : List Picture)
+    (strip : Picture) (d e f : L) → AreStrips full strips → length full ≡ most_marks * length strips → length rest ≤ most_marks
+    → IsStripOf rest strip → GivenInTurn Takes d strips e → GivenInTurn Takes e (unless_empty strip) f
+    → IsFinished Takes (full ++ rest) d f
+finished Takes full [] strips strip d e f drawn whole few none given last = record {
   strips = strips;
   drawn = subst (λ l. AreStrips l strips) (sym (append-nil full)) drawn;
-  given = subst (Gains d f) (append-nil strips) (Gains-trans d e f strips [] given (rw none at last));
+  given = subst (λ l. GivenInTurn Takes d l f) (append-nil strips) (given_then Takes d e f strips [] given (rw none at last));
 }
-finished full (first ∷ more) strips strip d e f drawn whole few (frame, marks) given last = record {
+finished Takes full (first ∷ more) strips strip d e f drawn whole few (frame, marks) given last = record {
   strips = strips ++ strip ∷ [];
   drawn = strips_more full (first ∷ more) strips strip drawn whole (omega arith) few (frame, marks);
-  given = Gains-trans d e f strips (strip ∷ []) given
-      (subst (Gains e f) (unless_some strip (omega (arith, strip_long (first ∷ more) strip (frame, marks)))) last);
+  given = given_then Takes d e f strips (strip ∷ []) given
+      (subst (λ l. GivenInTurn Takes e l f) (unless_some strip (omega (arith, strip_long (first ∷ more) strip (frame, marks))))
+      last);
 }
 
 -- some octets more, and no mark
-pub drawn_part : (recording : Recording) (frames : Frames) (slots : List RecordedSlot) (part : List ℕ) (turn : ListingTurn)
-    (a b c : Option (List ℕ)) (strip : Picture) (d e : Option (List Picture)) → IsDrawn recording frames slots [] turn a b strip d e
-    → Consumes b c part → IsDrawn recording frames slots part turn a c strip d e
-unfolding listed_part
-drawn_part recording frames slots part turn a b c strip d e drawn read = record {
-  listed = listed_part recording slots part turn a b c None None None drawn.listed read tt;
+pub drawn_part : {L : Type 0} (Takes : L → Picture → L → Type 0) (recording : Recording) (frames : Frames)
+    (slots : List RecordedSlot) (part : List ℕ) (turn : ListingTurn) (a b c : Option (List ℕ)) (strip : Picture) (d e : L)
+    → IsDrawn Takes recording frames slots [] turn a b strip d e → Consumes b c part
+    → IsDrawn Takes recording frames slots part turn a c strip d e
+drawn_part Takes recording frames slots part turn a b c strip d e drawn octets = record {
+  lines = drawn.lines;
+  read = read_part recording slots drawn.lines part turn a b c drawn.read octets;
   full = drawn.full;
   rest = drawn.rest;
   marks = drawn.marks;
@@ -264,45 +278,47 @@ drawn_part recording frames slots part turn a b c strip d e drawn read = record 
   given = drawn.given;
 }
 
-pub stripped : (recording : Recording) (frames : Frames) (slots : List RecordedSlot) (part : List ℕ) (turn : ListingTurn) (a b :
-    Option (List ℕ))
-    (strip : Picture) (d e f : Option (List Picture)) → IsDrawn recording frames slots part turn a b strip d e
-    → Gains e f (unless_empty strip) → IsStripped recording frames slots part turn a b d f
-stripped recording frames slots part turn a b strip d e f drawn last =
-    let end = finished drawn.full drawn.rest drawn.strips strip d e f drawn.drawn drawn.whole drawn.few drawn.waits drawn.given
-    last in
+pub stripped : {L : Type 0} (Takes : L → Picture → L → Type 0) (recording : Recording) (frames : Frames)
+    (slots : List RecordedSlot) (part : List ℕ) (turn : ListingTurn) (a b : Option (List ℕ)) (strip : Picture) (d e f : L)
+    → IsDrawn Takes recording frames slots part turn a b strip d e
+    → GivenInTurn Takes e (unless_empty strip) f → IsStripped Takes recording frames slots part turn a b d f
+stripped Takes recording frames slots part turn a b strip d e f drawn last =
+    let end = finished Takes drawn.full drawn.rest drawn.strips strip d e f drawn.drawn drawn.whole drawn.few drawn.waits
+    drawn.given last in
     record {
-      listed = drawn.listed;
+      lines = drawn.lines;
+      read = drawn.read;
       strips = end.strips;
       drawn = subst (λ l. AreStrips l end.strips) (sym drawn.marks) end.drawn;
       given = end.given;
     }
 
--- the strip that waits could not be given
-pub stripped_up_to_strip : (recording : Recording) (frames : Frames) (slots : List RecordedSlot) (part : List ℕ) (turn :
-    ListingTurn)
-    (a b : Option (List ℕ)) (strip : Picture) (d e f : Option (List Picture))
-    → IsDrawn recording frames slots part turn a b strip d e → 0 < length strip.marks → Gains e f []
-    → IsStrippedUpToStrip recording frames a b d f
-stripped_up_to_strip recording frames slots part turn a b strip d e f drawn some given =
+-- the strip that waits was refused
+pub stripped_up_to_strip : {L : Type 0} (Takes Refuses : L → Picture → L → Type 0) (recording : Recording) (frames : Frames)
+    (slots : List RecordedSlot) (part : List ℕ) (turn : ListingTurn) (a b : Option (List ℕ)) (strip : Picture) (d e f : L)
+    → IsDrawn Takes recording frames slots part turn a b strip d e → 0 < length strip.marks → Refuses e strip f
+    → IsStrippedUpToStrip Takes Refuses recording frames a b d f
+stripped_up_to_strip Takes Refuses recording frames slots part turn a b strip d e f drawn some refused =
     let long = strip_long drawn.rest strip drawn.waits in
     record {
       slots = slots;
+      lines = drawn.lines;
       part = part;
       end = turn;
-      listed = drawn.listed;
+      read = drawn.read;
       strips = drawn.strips;
       last = strip;
       drawn = subst (λ l. AreStrips l (drawn.strips ++ strip ∷ [])) (sym drawn.marks)
           (strips_more drawn.full drawn.rest drawn.strips
           strip drawn.drawn drawn.whole (omega (arith, long, some)) drawn.few drawn.waits);
-      given = subst (Gains d f) (append-nil drawn.strips) (Gains-trans d e f drawn.strips [] drawn.given given);
+      given = record { between = e; taken = drawn.given; last = refused };
     }
 
--- the strip that waits is full, and could not be given
-pub full_up_to_strip : (recording : Recording) (frames : Frames) (slots : List RecordedSlot) (turn : ListingTurn) (a b : Option
-    (List ℕ))
-    (strip waiting : Picture) (d e f : Option (List Picture)) → IsDrawn recording frames slots [] turn a b strip d e
-    → (length strip.marks ≡ most_marks) × (waiting ≡ strip) × Gains e f [] → IsStrippedUpToStrip recording frames a b d f
-full_up_to_strip recording frames slots turn a b strip waiting d e f drawn (full, same, given) =
-    stripped_up_to_strip recording frames slots [] turn a b strip d e f drawn (omega (arith, full)) given
+-- the strip that waits is full, and was refused
+pub full_up_to_strip : {L : Type 0} (Takes Refuses : L → Picture → L → Type 0) (recording : Recording) (frames : Frames)
+    (slots : List RecordedSlot) (turn : ListingTurn) (a b : Option (List ℕ)) (strip waiting : Picture) (d e f : L)
+    → IsDrawn Takes recording frames slots [] turn a b strip d e
+    → (length strip.marks ≡ most_marks) × (waiting ≡ strip) × Refuses e strip f
+    → IsStrippedUpToStrip Takes Refuses recording frames a b d f
+full_up_to_strip Takes Refuses recording frames slots turn a b strip waiting d e f drawn (full, same, refused) =
+    stripped_up_to_strip Takes Refuses recording frames slots [] turn a b strip d e f drawn (omega (arith, full)) refused

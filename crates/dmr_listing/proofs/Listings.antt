@@ -1,13 +1,14 @@
 -- What is listed goes on, slot by slot.
 use Rattle.std.proofs.Common.{◌≡◌, ℕ, ◌+◌, ◌≤◌, List, [], ◌∷◌, ◌++◌, length, map, Option, None, Some, refl, sym, ap, ◌∙◌, subst}
-use Rattle.std.proofs.Common.{arith, append-nil, append_assoc}
+use Rattle.std.proofs.Common.{arith, append-nil}
 use Rattle.std.proofs.ByRecursion.{All-push}
 use Rattle.std.proofs.lemmas.List.{length-append}
 use Rattle.std.proofs.lemmas.List.Concat.{flat_map-append}
 use Rattle.std.specs.List.{flat_map}
 use Rattle.std.specs.Io.KnownBytes.{Consumes}
 use Rattle.std.proofs.KnownBytes.{Consumes-trans, Consumes-nil}
-use Rattle.dmr_listing.specs.ListingRules.{Gains, IsLineAt, IsListed, Lists, ListingTurn, begun, turn_after, turn_passed}
+use Rattle.dmr_listing.specs.ListingRules.{GivenInTurn, IsLineAt, IsListed, IsRead, Lists, ListingTurn, begun, turn_after}
+use Rattle.dmr_listing.specs.ListingRules.{turn_passed}
 use Rattle.dmr_listing.specs.ListingMeaning.{entries, octet_behind}
 use Rattle.dmr_listing.specs.declared.place.Place.{Place}
 use Rattle.dmr_listing.specs.Recordings.{IsBurstOf, IsSlotOf, RecordedSlot, most_slots_of, spelling}
@@ -16,15 +17,20 @@ use Rattle.dmr_listing.specs.declared.recording.RecordedBurst.{RecordedBurst}
 use Rattle.dmr_listing.specs.declared.recording.Recording.{Recording}
 use Rattle.dmr_listing.specs.declared.recording.Recording.TheVariants.{Uplink, Downlink}
 
-pub Gains-none : {X : Type 0} (a : Option (List X)) → Gains a a []
-Gains-none None = tt
-Gains-none (Some xs) = sym (append-nil xs)
+-- some were given in turn, and then more
+pub given_then : {S X : Type 0} (Takes : S → X → S → Type 0) (old between new : S) (xs ys : List X)
+    → GivenInTurn Takes old xs between → GivenInTurn Takes between ys new → GivenInTurn Takes old (xs ++ ys) new
+given_then Takes old between new [] ys none more = subst (λ s. GivenInTurn Takes s ys new) none more
+given_then Takes old between new (x ∷ xs) ys (next, first, rest) more = (
+  next,
+  first,
+  given_then Takes next between new xs ys rest more,
+)
 
-pub Gains-trans : {X : Type 0} (a b c : Option (List X)) (xs ys : List X) → Gains a b xs → Gains b c ys → Gains a c (xs ++ ys)
-Gains-trans None b c xs ys first next = tt
-Gains-trans (Some os) None c xs ys first next = absurd first
-Gains-trans (Some os) (Some ps) None xs ys first next = absurd next
-Gains-trans (Some os) (Some ps) (Some qs) xs ys first next = next ∙ ap (λ l. l ++ ys) first ∙ append_assoc os xs ys
+-- some were given in turn, and then one
+pub given_one_more : {S X : Type 0} (Takes : S → X → S → Type 0) (old between new : S) (xs : List X) (x : X)
+    → GivenInTurn Takes old xs between → Takes between x new → GivenInTurn Takes old (xs ++ x ∷ []) new
+given_one_more Takes old between new xs x given one = given_then Takes old between new xs (x ∷ []) given (new, one, refl)
 
 -- a silent slot more
 pub Lists-silent : (turn : ListingTurn) (slots : List RecordedSlot) (lines : List BurstLine) (end : ListingTurn)
@@ -77,46 +83,70 @@ spelled_more recording slots slot a b c first next =
     subst (Consumes a c) (sym (append-nil (flat_map (spelling recording) (slots ++ slot ∷ [])) ∙ one))
     (Consumes-trans a b c _ _ (subst (Consumes a b) (append-nil (flat_map (spelling recording) slots)) first) next)
 
-pub listed_none : (recording : Recording) (left : Option (List ℕ)) (given : Option (List BurstLine))
-    → IsListed recording [] [] begun left left given given
-listed_none recording left given =
-    record { each = tt; read = Consumes-nil left; lines = []; listed = (refl, refl); given = Gains-none given }
+pub read_none : (recording : Recording) (left : Option (List ℕ)) → IsRead recording [] [] [] begun left left
+read_none recording left = record { each = tt; octets = Consumes-nil left; listed = (refl, refl) }
 
-unfoldable pub listed_silence : (recording : Recording) (slots : List RecordedSlot) (end : ListingTurn) (a b c : Option (List ℕ))
-    (d e : Option (List BurstLine)) → IsListed recording slots [] end a b d e → Consumes b c (spelling recording None)
-    → IsListed recording (slots ++ None ∷ []) [] (turn_passed end) a c d e
-listed_silence recording slots end a b c d e listed read = record {
-  each = All-push (IsSlotOf recording) slots None listed.each tt;
-  read = spelled_more recording slots None a b c listed.read read;
-  lines = listed.lines;
-  listed = Lists-silent begun slots listed.lines end listed.listed;
-  given = listed.given;
+pub read_silence : (recording : Recording) (slots : List RecordedSlot) (lines : List BurstLine) (end : ListingTurn)
+    (a b c : Option (List ℕ)) → IsRead recording slots lines [] end a b → Consumes b c (spelling recording None)
+    → IsRead recording (slots ++ None ∷ []) lines [] (turn_passed end) a c
+read_silence recording slots lines end a b c read octets = record {
+  each = All-push (IsSlotOf recording) slots None read.each tt;
+  octets = spelled_more recording slots None a b c read.octets octets;
+  listed = Lists-silent begun slots lines end read.listed;
 }
 
-unfoldable pub listed_burst : (recording : Recording) (slots : List RecordedSlot) (end : ListingTurn) (burst : RecordedBurst) (line
-    : BurstLine)
-    (a b c : Option (List ℕ)) (d e f : Option (List BurstLine)) → IsListed recording slots [] end a b d e
+pub read_burst : (recording : Recording) (slots : List RecordedSlot) (lines : List BurstLine) (end : ListingTurn)
+    (burst : RecordedBurst) (line : BurstLine) (a b c : Option (List ℕ)) → IsRead recording slots lines [] end a b
     → IsBurstOf recording burst → Consumes b c (spelling recording (Some burst)) → IsLineAt end burst line
-    → Gains e f (line ∷ []) → IsListed recording (slots ++ Some burst ∷ []) [] (turn_after line burst end) a c d f
-listed_burst recording slots end burst line a b c d e f listed is_burst read shows given = record {
-  each = All-push (IsSlotOf recording) slots (Some burst) listed.each is_burst;
-  read = spelled_more recording slots (Some burst) a b c listed.read read;
-  lines = listed.lines ++ line ∷ [];
-  listed = Lists-burst begun slots listed.lines end burst line listed.listed shows;
-  given = Gains-trans d e f listed.lines (line ∷ []) listed.given given;
+    → IsRead recording (slots ++ Some burst ∷ []) (lines ++ line ∷ []) [] (turn_after line burst end) a c
+read_burst recording slots lines end burst line a b c read is_burst octets shows = record {
+  each = All-push (IsSlotOf recording) slots (Some burst) read.each is_burst;
+  octets = spelled_more recording slots (Some burst) a b c read.octets octets;
+  listed = Lists-burst begun slots lines end burst line read.listed shows;
 }
 
 -- some octets more, and no line
-unfoldable pub listed_part : (recording : Recording) (slots : List RecordedSlot) (part : List ℕ) (end : ListingTurn) (a b c :
-    Option (List ℕ))
-    (d e f : Option (List BurstLine)) → IsListed recording slots [] end a b d e → Consumes b c part → Gains e f []
-    → IsListed recording slots part end a c d f
-listed_part recording slots part end a b c d e f listed read given = record {
-  each = listed.each;
-  read = Consumes-trans a b c _ part (subst (Consumes a b) (append-nil (flat_map (spelling recording) slots)) listed.read) read;
+pub read_part : (recording : Recording) (slots : List RecordedSlot) (lines : List BurstLine) (part : List ℕ) (end : ListingTurn)
+    (a b c : Option (List ℕ)) → IsRead recording slots lines [] end a b → Consumes b c part
+    → IsRead recording slots lines part end a c
+read_part recording slots lines part end a b c read octets = record {
+  each = read.each;
+  octets = Consumes-trans a b c _ part (subst (Consumes a b) (append-nil (flat_map (spelling recording) slots)) read.octets) octets;
+  listed = read.listed;
+}
+
+pub listed_none : {L : Type 0} (Takes : L → BurstLine → L → Type 0) (recording : Recording) (left : Option (List ℕ)) (lines : L)
+    → IsListed Takes recording [] [] begun left left lines lines
+listed_none Takes recording left lines = record { lines = []; read = read_none recording left; given = refl }
+
+pub listed_silence : {L : Type 0} (Takes : L → BurstLine → L → Type 0) (recording : Recording) (slots : List RecordedSlot)
+    (end : ListingTurn) (a b c : Option (List ℕ)) (d e : L) → IsListed Takes recording slots [] end a b d e
+    → Consumes b c (spelling recording None) → IsListed Takes recording (slots ++ None ∷ []) [] (turn_passed end) a c d e
+listed_silence Takes recording slots end a b c d e listed octets = record {
   lines = listed.lines;
-  listed = listed.listed;
-  given = subst (Gains d f) (append-nil listed.lines) (Gains-trans d e f listed.lines [] listed.given given);
+  read = read_silence recording slots listed.lines end a b c listed.read octets;
+  given = listed.given;
+}
+
+pub listed_burst : {L : Type 0} (Takes : L → BurstLine → L → Type 0) (recording : Recording) (slots : List RecordedSlot)
+    (end : ListingTurn) (burst : RecordedBurst) (line : BurstLine) (a b c : Option (List ℕ)) (d e f : L)
+    → IsListed Takes recording slots [] end a b d e → IsBurstOf recording burst
+    → Consumes b c (spelling recording (Some burst)) → IsLineAt end burst line → Takes e line f
+    → IsListed Takes recording (slots ++ Some burst ∷ []) [] (turn_after line burst end) a c d f
+listed_burst Takes recording slots end burst line a b c d e f listed is_burst octets shows takes = record {
+  lines = listed.lines ++ line ∷ [];
+  read = read_burst recording slots listed.lines end burst line a b c listed.read is_burst octets shows;
+  given = given_one_more Takes d e f listed.lines line listed.given takes;
+}
+
+-- some octets more, and no line
+pub listed_part : {L : Type 0} (Takes : L → BurstLine → L → Type 0) (recording : Recording) (slots : List RecordedSlot)
+    (part : List ℕ) (end : ListingTurn) (a b c : Option (List ℕ)) (d e : L) → IsListed Takes recording slots [] end a b d e
+    → Consumes b c part → IsListed Takes recording slots part end a c d e
+listed_part Takes recording slots part end a b c d e listed octets = record {
+  lines = listed.lines;
+  read = read_part recording slots listed.lines part end a b c listed.read octets;
+  given = listed.given;
 }
 
 pub octets_more : (recording : Recording) (slots : List RecordedSlot) (slot : RecordedSlot) (octet : ℕ)

@@ -9,9 +9,8 @@ use Rattle.std.proofs.KnownBytes.{Consumes-trans, Consumes-nil}
 use Rattle.dmr_record.specs.Outgoing.{AreInFrameOrder, IsSending, Keeps, Sending, sending_octets, sending_of, sendings_octets}
 use Rattle.dmr_record.specs.declared.outgoing.Outgoing.{Outgoing}
 use Rattle.dmr_listing.specs.ListingMeaning.{octet_behind}
-use Rattle.dmr_listing.specs.ListingRules.{Gains}
-use Rattle.dmr_listing.specs.OutgoingListings.{AreReadOf, IsListed, IsReadOf, frame_of_last}
-use Rattle.dmr_listing.proofs.Listings.{Gains-none, Gains-trans}
+use Rattle.dmr_listing.specs.OutgoingListings.{AreReadOf, IsListed, IsRead, IsReadOf, frame_of_last}
+use Rattle.dmr_listing.proofs.Listings.{given_one_more}
 
 order_more : (last : ℕ) (sendings : List Sending) (next : Sending) → AreInFrameOrder last sendings
     → frame_of_last last sendings ≤ next.frame → AreInFrameOrder last (sendings ++ next ∷ [])
@@ -28,45 +27,44 @@ reads_more [] reads next read none is_read = rw none (is_read, refl)
 reads_more (s ∷ ss) [] next read are_read is_read = absurd are_read
 reads_more (s ∷ ss) (r ∷ rs) next read (first, rest) is_read = (first, reads_more ss rs next read rest is_read)
 
-pub outgoing_none : (left : Option (List ℕ)) (given : Option (List Outgoing)) → IsListed [] [] left left given given
-outgoing_none left given = record {
-  each = tt;
-  order = tt;
-  octets = Consumes-nil left;
-  reads = [];
-  listed = refl;
-  given = Gains-none given;
+pub outgoing_none : {L : Type 0} (Takes : L → Outgoing → L → Type 0) (left : Option (List ℕ)) (lines : L)
+    → IsListed Takes [] [] left left lines lines
+outgoing_none Takes left lines = record {
+  read = record { each = tt; order = tt; octets = Consumes-nil left };
+  given = record { reads = []; listed = refl; given = refl };
 }
 
-pub outgoing_more : (sendings : List Sending) (datagram : List ℕ) (read : Outgoing) (a b c : Option (List ℕ))
-    (d e f : Option (List Outgoing)) → IsListed sendings [] a b d e → Keeps read datagram → IsSending (sending_of read datagram)
-    → frame_of_last 0 sendings ≤ read.frame → Consumes b c (sending_octets (sending_of read datagram)) → Gains e f (read ∷ [])
-    → IsListed (sendings ++ sending_of read datagram ∷ []) [] a c d f
-outgoing_more sendings datagram read a b c d e f listed keeps is_sending behind took given =
+pub outgoing_more : {L : Type 0} (Takes : L → Outgoing → L → Type 0) (sendings : List Sending) (datagram : List ℕ)
+    (read : Outgoing) (a b c : Option (List ℕ)) (d e f : L) → IsListed Takes sendings [] a b d e → Keeps read datagram
+    → IsSending (sending_of read datagram) → frame_of_last 0 sendings ≤ read.frame
+    → Consumes b c (sending_octets (sending_of read datagram)) → Takes e read f
+    → IsListed Takes (sendings ++ sending_of read datagram ∷ []) [] a c d f
+outgoing_more Takes sendings datagram read a b c d e f listed keeps is_sending behind took takes =
     let next = sending_of read datagram in
     let one : sendings_octets (sendings ++ next ∷ []) ≡ sendings_octets sendings ++ sending_octets next =
     flat_map-append sending_octets sendings (next ∷ []) ∙ ap (λ l. sendings_octets sendings ++ l) (append-nil (sending_octets
     next)) in
     record {
-      each = All-push IsSending sendings next listed.each is_sending;
-      order = order_more 0 sendings next listed.order behind;
-      octets = subst (Consumes a c) (sym (append-nil (sendings_octets (sendings ++ next ∷ [])) ∙ one))
-          (Consumes-trans a b c _ _ (subst (Consumes a b) (append-nil (sendings_octets sendings)) listed.octets) took);
-      reads = listed.reads ++ read ∷ [];
-      listed = reads_more sendings listed.reads next read listed.listed (record { keeps = keeps; same = refl });
-      given = Gains-trans d e f listed.reads (read ∷ []) listed.given given;
+      read = record {
+        each = All-push IsSending sendings next listed.read.each is_sending;
+        order = order_more 0 sendings next listed.read.order behind;
+        octets = subst (Consumes a c) (sym (append-nil (sendings_octets (sendings ++ next ∷ [])) ∙ one))
+            (Consumes-trans a b c _ _ (subst (Consumes a b) (append-nil (sendings_octets sendings)) listed.read.octets) took);
+      };
+      given = record {
+        reads = listed.given.reads ++ read ∷ [];
+        listed = reads_more sendings listed.given.reads next read listed.given.listed (record { keeps = keeps; same = refl });
+        given = given_one_more Takes d e f listed.given.reads read listed.given.given takes;
+      };
     }
 
 -- some octets more, and no line
-pub outgoing_part : (sendings : List Sending) (part : List ℕ) (a b c : Option (List ℕ)) (d e f : Option (List Outgoing))
-    → IsListed sendings [] a b d e → Consumes b c part → Gains e f [] → IsListed sendings part a c d f
-outgoing_part sendings part a b c d e f listed took given = record {
-  each = listed.each;
-  order = listed.order;
-  octets = Consumes-trans a b c _ part (subst (Consumes a b) (append-nil (sendings_octets sendings)) listed.octets) took;
-  reads = listed.reads;
-  listed = listed.listed;
-  given = subst (Gains d f) (append-nil listed.reads) (Gains-trans d e f listed.reads [] listed.given given);
+pub outgoing_part : (sendings : List Sending) (part : List ℕ) (a b c : Option (List ℕ)) → IsRead sendings [] a b
+    → Consumes b c part → IsRead sendings part a c
+outgoing_part sendings part a b c read took = record {
+  each = read.each;
+  order = read.order;
+  octets = Consumes-trans a b c _ part (subst (Consumes a b) (append-nil (sendings_octets sendings)) read.octets) took;
 }
 
 -- the tag and the fields have nine octets

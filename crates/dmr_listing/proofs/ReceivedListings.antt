@@ -9,9 +9,8 @@ use Rattle.std.proofs.KnownBytes.{Consumes-trans, Consumes-nil}
 use Rattle.dmr_record.specs.Received.{FollowEachOther, ReceivedFields, Follows, IsReadable, Receipt, received_fields}
 use Rattle.dmr_record.specs.Received.{receipt_octets, receipts_octets}
 use Rattle.dmr_listing.specs.ListingMeaning.{octet_behind}
-use Rattle.dmr_listing.specs.ListingRules.{Gains}
-use Rattle.dmr_listing.specs.ReceivedListings.{IsListed, last_fields}
-use Rattle.dmr_listing.proofs.Listings.{Gains-none, Gains-trans}
+use Rattle.dmr_listing.specs.ReceivedListings.{IsListed, IsRead, last_fields}
+use Rattle.dmr_listing.proofs.Listings.{given_one_more}
 
 order_more : (last : Option ReceivedFields) (receipts : List Receipt) (next : Receipt) → FollowEachOther last receipts
     → Follows (last_fields last receipts) (received_fields next) → FollowEachOther last (receipts ++ next ∷ [])
@@ -23,32 +22,35 @@ pub last_more : (last : Option ReceivedFields) (receipts : List Receipt) (next :
 last_more last [] next = refl
 last_more last (r ∷ rs) next = last_more (Some (received_fields r)) rs next
 
-pub received_none : (left : Option (List ℕ)) (given : Option (List Receipt)) → IsListed [] [] left left given given
-received_none left given = record { each = tt; order = tt; octets = Consumes-nil left; given = Gains-none given }
+pub received_none : {L : Type 0} (Takes : L → Receipt → L → Type 0) (left : Option (List ℕ)) (lines : L)
+    → IsListed Takes [] [] left left lines lines
+received_none Takes left lines = record { read = record { each = tt; order = tt; octets = Consumes-nil left }; given = refl }
 
-pub received_more : (receipts : List Receipt) (next : Receipt) (a b c : Option (List ℕ)) (d e f : Option (List Receipt))
-    → IsListed receipts [] a b d e → IsReadable next → Follows (last_fields None receipts) (received_fields next)
-    → Consumes b c (receipt_octets next) → Gains e f (next ∷ []) → IsListed (receipts ++ next ∷ []) [] a c d f
-received_more receipts next a b c d e f listed readable follows took given =
+pub received_more : {L : Type 0} (Takes : L → Receipt → L → Type 0) (receipts : List Receipt) (next : Receipt)
+    (a b c : Option (List ℕ)) (d e f : L) → IsListed Takes receipts [] a b d e → IsReadable next
+    → Follows (last_fields None receipts) (received_fields next) → Consumes b c (receipt_octets next) → Takes e next f
+    → IsListed Takes (receipts ++ next ∷ []) [] a c d f
+received_more Takes receipts next a b c d e f listed readable follows took takes =
     let one : receipts_octets (receipts ++ next ∷ []) ≡ receipts_octets receipts ++ receipt_octets next =
     flat_map-append receipt_octets receipts (next ∷ []) ∙ ap (λ l. receipts_octets receipts ++ l) (append-nil (receipt_octets
     next)) in
     record {
-      each = All-push IsReadable receipts next listed.each readable;
-      order = order_more None receipts next listed.order follows;
-      octets = subst (Consumes a c) (sym (append-nil (receipts_octets (receipts ++ next ∷ [])) ∙ one))
-          (Consumes-trans a b c _ _ (subst (Consumes a b) (append-nil (receipts_octets receipts)) listed.octets) took);
-      given = Gains-trans d e f receipts (next ∷ []) listed.given given;
+      read = record {
+        each = All-push IsReadable receipts next listed.read.each readable;
+        order = order_more None receipts next listed.read.order follows;
+        octets = subst (Consumes a c) (sym (append-nil (receipts_octets (receipts ++ next ∷ [])) ∙ one))
+            (Consumes-trans a b c _ _ (subst (Consumes a b) (append-nil (receipts_octets receipts)) listed.read.octets) took);
+      };
+      given = given_one_more Takes d e f receipts next listed.given takes;
     }
 
 -- some octets more, and no line
-pub received_part : (receipts : List Receipt) (part : List ℕ) (a b c : Option (List ℕ)) (d e f : Option (List Receipt))
-    → IsListed receipts [] a b d e → Consumes b c part → Gains e f [] → IsListed receipts part a c d f
-received_part receipts part a b c d e f listed took given = record {
-  each = listed.each;
-  order = listed.order;
-  octets = Consumes-trans a b c _ part (subst (Consumes a b) (append-nil (receipts_octets receipts)) listed.octets) took;
-  given = subst (Gains d f) (append-nil receipts) (Gains-trans d e f receipts [] listed.given given);
+pub received_part : (receipts : List Receipt) (part : List ℕ) (a b c : Option (List ℕ)) → IsRead receipts [] a b
+    → Consumes b c part → IsRead receipts part a c
+received_part receipts part a b c read took = record {
+  each = read.each;
+  order = read.order;
+  octets = Consumes-trans a b c _ part (subst (Consumes a b) (append-nil (receipts_octets receipts)) read.octets) took;
 }
 
 -- the tag and the fields have twelve octets

@@ -51,38 +51,60 @@ Lists turn (None ∷ slots) lines end = Lists (turn_passed turn) slots lines end
 Lists turn (Some burst ∷ slots) [] end = ⊥
 Lists turn (Some burst ∷ slots) (line ∷ lines) end = IsLineAt turn burst line × Lists (turn_after line burst turn) slots lines end
 
--- a list grew by these, where it is told
-abbrev pub Gains : {X : Type 0} → Option (List X) → Option (List X) → List X → Type 0
-Gains None new more = Unit {0}
-Gains (Some xs) None more = ⊥
-Gains (Some xs) (Some ys) more = ys ≡ xs ++ more
+-- These were given to a taker in turn, each once: what it makes of one is how it stands behind that.
+abbrev pub GivenInTurn : {S X : Type 0} → (S → X → S → Type 0) → S → List X → S → Type 0
+GivenInTurn Takes old [] new = new ≡ old
+GivenInTurn {S} Takes old (x ∷ xs) new = (between : S) × Takes old x between × GivenInTurn Takes between xs new
 
--- These slots of a recording were read behind its head, and these octets of the next one, and the lines of the slots were given.
-pub record IsListed (recording : Recording) (slots : List RecordedSlot) (part : List ℕ) (end : ListingTurn) (left_old left_new :
-    Option (List ℕ))
-    (given_old given_new : Option (List BurstLine)) : Type 0 where
+-- They were given to a taker in turn, and then it refused this one.
+pub record IsRefusedBehind {S X : Type 0} (Takes Refuses : S → X → S → Type 0) (old : S) (given : List X) (refused : X) (new : S)
+    : Type 0 where
+  pub between : S
+  pub taken : GivenInTurn Takes old given between
+  pub last : Refuses between refused new
+
+-- These slots of a recording were read behind its head, and these octets of the next one, and the lines of the slots are these.
+pub record IsRead (recording : Recording) (slots : List RecordedSlot) (lines : List BurstLine) (part : List ℕ) (end : ListingTurn)
+    (left_old left_new : Option (List ℕ)) : Type 0 where
   pub each : AllByRecursion (IsSlotOf recording) slots
-  pub read : Consumes left_old left_new (flat_map (spelling recording) slots ++ part)
-  pub lines : List BurstLine
+  pub octets : Consumes left_old left_new (flat_map (spelling recording) slots ++ part)
   pub listed : Lists begun slots lines end
-  pub given : Gains given_old given_new lines
 
--- The recording was listed up to a slot that shows this fault: the fault's place is that slot, and its octet the one at which the
+-- The recording was read up to a slot that shows this fault: the fault's place is that slot, and its octet the one at which the
 -- slot's record begins.
-pub record IsListedUpToFault (recording : Recording) (fault : FaultLine) (left_old left_new : Option (List ℕ))
-    (given_old given_new : Option (List BurstLine)) : Type 0 where
-  pub slots : List RecordedSlot
+pub record IsReadUpToFault (recording : Recording) (slots : List RecordedSlot) (lines : List BurstLine) (fault : FaultLine)
+    (left_old left_new : Option (List ℕ)) : Type 0 where
   pub part : List ℕ
   pub end : ListingTurn
-  pub before : IsListed recording slots part end left_old left_new given_old given_new
+  pub before : IsRead recording slots lines part end left_old left_new
   pub shown : ShowsSlotFaultOf recording (length slots) fault.fault part
   pub octet : fault.octet ≡ octet_behind (spelling recording) slots
   pub place : fault.place ≡ Some (place_by_number (length slots))
 
--- The recording was listed up to a burst whose line could not be given.
-pub record IsListedUpToLine (recording : Recording) (left_old left_new : Option (List ℕ)) (given_old given_new : Option
-    (List BurstLine)) : Type 0 where
+-- These slots of a recording were read behind its head, and these octets of the next one, and a taker was given the lines of the
+-- slots.
+pub record IsListed {L : Type 0} (Takes : L → BurstLine → L → Type 0) (recording : Recording) (slots : List RecordedSlot)
+    (part : List ℕ) (end : ListingTurn) (left_old left_new : Option (List ℕ)) (old new : L) : Type 0 where
+  pub lines : List BurstLine
+  pub read : IsRead recording slots lines part end left_old left_new
+  pub given : GivenInTurn Takes old lines new
+
+-- The recording was read up to a slot that shows this fault, and a taker was given the lines of the slots before it.
+pub record IsListedUpToFault {L : Type 0} (Takes : L → BurstLine → L → Type 0) (recording : Recording) (fault : FaultLine)
+    (left_old left_new : Option (List ℕ)) (old new : L) : Type 0 where
   pub slots : List RecordedSlot
+  pub lines : List BurstLine
+  pub read : IsReadUpToFault recording slots lines fault left_old left_new
+  pub given : GivenInTurn Takes old lines new
+
+-- The recording was read up to a burst whose line a taker refused, behind the lines of the slots before it.
+pub record IsListedUpToLine {L : Type 0} (Takes Refuses : L → BurstLine → L → Type 0) (recording : Recording)
+    (left_old left_new : Option (List ℕ)) (old new : L) : Type 0 where
+  pub slots : List RecordedSlot
+  pub lines : List BurstLine
   pub burst : RecordedBurst
   pub end : ListingTurn
-  pub before : IsListed recording slots (spelling recording (Some burst)) end left_old left_new given_old given_new
+  pub read : IsRead recording slots lines (spelling recording (Some burst)) end left_old left_new
+  pub line : BurstLine
+  pub next : IsLineAt end burst line
+  pub given : IsRefusedBehind Takes Refuses old lines line new

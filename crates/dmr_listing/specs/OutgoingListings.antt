@@ -7,7 +7,7 @@ use Rattle.dmr_record.specs.Outgoing.{sendings_octets}
 use Rattle.dmr_record.specs.declared.outgoing.Outgoing.{Outgoing}
 use Rattle.dmr_record.specs.Limits.{record_limit}
 use Rattle.dmr_listing.specs.ListingMeaning.{octet_behind}
-use Rattle.dmr_listing.specs.ListingRules.{Gains}
+use Rattle.dmr_listing.specs.ListingRules.{GivenInTurn}
 use Rattle.dmr_listing.specs.declared.fault_line.FaultLine.{FaultLine}
 
 -- A record that was read is this one: all of it but the octets that aren't kept.
@@ -26,28 +26,47 @@ abbrev pub frame_of_last : ℕ → List Sending → ℕ
 frame_of_last frame [] = frame
 frame_of_last frame (sending ∷ sendings) = frame_of_last sending.frame sendings
 
--- These records of the list were read behind its head, and these octets of the next one, and the lines of the records given.
-pub record IsListed (sendings : List Sending) (part : List ℕ) (left_old left_new : Option (List ℕ))
-    (given_old given_new : Option (List Outgoing)) : Type 0 where
+-- These records of the list were read behind its head, and these octets of the next one.
+pub record IsRead (sendings : List Sending) (part : List ℕ) (left_old left_new : Option (List ℕ)) : Type 0 where
   pub each : AllByRecursion IsSending sendings
   pub order : AreInFrameOrder 0 sendings
   pub octets : Consumes left_old left_new (sendings_octets sendings ++ part)
-  pub reads : List Outgoing
-  pub listed : AreReadOf sendings reads
-  pub given : Gains given_old given_new reads
 
--- The list was listed up to a record that shows this fault, whose octet is the one at which that begins.
-pub record IsListedUpToFault (fault : FaultLine) (left_old left_new : Option (List ℕ)) (given_old given_new : Option
-    (List Outgoing)) : Type 0 where
-  pub sendings : List Sending
+-- The list was read up to a record that shows this fault, whose octet is the one at which that begins.
+pub record IsReadUpToFault (sendings : List Sending) (fault : FaultLine) (left_old left_new : Option (List ℕ)) : Type 0 where
   pub part : List ℕ
-  pub before : IsListed sendings part left_old left_new given_old given_new
+  pub before : IsRead sendings part left_old left_new
   pub shown : ShowsOutgoingFault record_limit (length sendings) (frame_of_last 0 sendings) fault.fault part
   pub octet : fault.octet ≡ octet_behind sending_octets sendings
   pub place : fault.place ≡ None
 
--- The list was listed up to a record whose line could not be given.
-pub record IsListedUpToLine (left_old left_new : Option (List ℕ)) (given_old given_new : Option (List Outgoing)) : Type 0 where
+-- A taker was given these records as they were read, each once.
+pub record AreGiven {L : Type 0} (Takes : L → Outgoing → L → Type 0) (sendings : List Sending) (old new : L) : Type 0 where
+  pub reads : List Outgoing
+  pub listed : AreReadOf sendings reads
+  pub given : GivenInTurn Takes old reads new
+
+-- These records of the list were read behind its head, and these octets of the next one, and a taker was given the records.
+pub record IsListed {L : Type 0} (Takes : L → Outgoing → L → Type 0) (sendings : List Sending) (part : List ℕ)
+    (left_old left_new : Option (List ℕ)) (old new : L) : Type 0 where
+  pub read : IsRead sendings part left_old left_new
+  pub given : AreGiven Takes sendings old new
+
+-- The list was read up to a record that shows this fault, and a taker was given the records before it.
+pub record IsListedUpToFault {L : Type 0} (Takes : L → Outgoing → L → Type 0) (fault : FaultLine)
+    (left_old left_new : Option (List ℕ)) (old new : L) : Type 0 where
+  pub sendings : List Sending
+  pub read : IsReadUpToFault sendings fault left_old left_new
+  pub given : AreGiven Takes sendings old new
+
+-- The list was read up to a record that a taker refused, behind the records before it.
+pub record IsListedUpToLine {L : Type 0} (Takes Refuses : L → Outgoing → L → Type 0)
+    (left_old left_new : Option (List ℕ)) (old new : L) : Type 0 where
   pub sendings : List Sending
   pub next : Sending
-  pub before : IsListed sendings (sending_octets next) left_old left_new given_old given_new
+  pub read : IsRead sendings (sending_octets next) left_old left_new
+  pub between : L
+  pub given : AreGiven Takes sendings old between
+  pub refused : Outgoing
+  pub same : IsReadOf next refused
+  pub last : Refuses between refused new

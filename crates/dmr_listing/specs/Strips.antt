@@ -1,10 +1,11 @@
 -- What strips show of a recording: what stands in each slot, frame by frame, and each once.
 use Rattle.std.specs.Prelude.{◌≡◌, ◌==◌, ℕ, ◌+◌, ◌*◌, ◌/◌, ◌≤◌, ◌<◌, ◌&&◌, Bool, List, [], ◌∷◌, ◌++◌, Option, Some, None, take}
 use Rattle.std.specs.Prelude.{length, map, drop, nat_le, if◌then◌else◌}
-use Rattle.dmr_listing.specs.ListingMeaning.{octet_behind, place_by_number}
-use Rattle.dmr_listing.specs.ListingRules.{Gains, IsLineAt, IsListed, ListingTurn, turn_after, turn_passed}
+use Rattle.dmr_listing.specs.ListingMeaning.{place_by_number}
+use Rattle.dmr_listing.specs.ListingRules.{GivenInTurn, IsLineAt, IsRead, IsReadUpToFault, IsRefusedBehind, ListingTurn}
+use Rattle.dmr_listing.specs.ListingRules.{turn_after, turn_passed}
 use Rattle.dmr_listing.specs.Marks.{mark_of}
-use Rattle.dmr_listing.specs.Recordings.{ShowsSlotFaultOf, RecordedSlot, spelling}
+use Rattle.dmr_listing.specs.Recordings.{RecordedSlot}
 use Rattle.dmr_listing.specs.declared.burst_line.BurstLine.{BurstLine}
 use Rattle.dmr_listing.specs.declared.fault_line.FaultLine.{FaultLine}
 use Rattle.dmr_listing.specs.declared.frames.Frames.{Frames}
@@ -77,53 +78,57 @@ pushed_in frames place mark strip = if has frames place.frame then pushed place 
 abbrev pub unless_empty : Picture → List Picture
 unless_empty strip = if length strip.marks == 0 then [] else strip ∷ []
 
--- A strip was given where it is full, and an empty one waits in its place.
-pub record IsGivenWhereFull (strip waiting : Picture) (given_old given_new : Option (List Picture)) : Type 0 where
-  pub full : length strip.marks ≡ most_marks → (waiting.marks ≡ []) × Gains given_old given_new (strip ∷ [])
-  pub other : length strip.marks < most_marks → (waiting ≡ strip) × Gains given_old given_new []
+-- A strip was given to a taker where it is full, and an empty one waits in its place.
+pub record IsGivenWhereFull {L : Type 0} (Takes : L → Picture → L → Type 0) (strip waiting : Picture) (old new : L) : Type 0 where
+  pub full : length strip.marks ≡ most_marks → (waiting.marks ≡ []) × GivenInTurn Takes old (strip ∷ []) new
+  pub other : length strip.marks < most_marks → (waiting ≡ strip) × GivenInTurn Takes old [] new
 
--- These slots of a recording were read behind its head, and these octets of the next one, and the strips of the slots were given.
-pub record IsStripped (recording : Recording) (frames : Frames) (slots : List RecordedSlot) (part : List ℕ) (end : ListingTurn)
-    (left_old left_new : Option (List ℕ)) (given_old given_new : Option (List Picture)) : Type 0 where
-  pub listed : IsListed recording slots part end left_old left_new None None
+-- These slots of a recording were read behind its head, and these octets of the next one, and a taker was given the strips of the
+-- slots.
+pub record IsStripped {L : Type 0} (Takes : L → Picture → L → Type 0) (recording : Recording) (frames : Frames)
+    (slots : List RecordedSlot) (part : List ℕ) (end : ListingTurn) (left_old left_new : Option (List ℕ)) (old new : L)
+    : Type 0 where
+  pub lines : List BurstLine
+  pub read : IsRead recording slots lines part end left_old left_new
   pub strips : List Picture
-  pub drawn : AreStrips (marks_of frames 0 slots listed.lines) strips
-  pub given : Gains given_old given_new strips
+  pub drawn : AreStrips (marks_of frames 0 slots lines) strips
+  pub given : GivenInTurn Takes old strips new
 
--- They were read, and the strips that are full were given; one with the marks of the last slots waits.
-pub record IsDrawn (recording : Recording) (frames : Frames) (slots : List RecordedSlot) (part : List ℕ) (end : ListingTurn)
-    (left_old left_new : Option (List ℕ)) (waiting : Picture) (given_old given_new : Option (List Picture)) : Type 0 where
-  pub listed : IsListed recording slots part end left_old left_new None None
+-- They were read, and a taker was given the strips that are full; one with the marks of the last slots waits.
+pub record IsDrawn {L : Type 0} (Takes : L → Picture → L → Type 0) (recording : Recording) (frames : Frames)
+    (slots : List RecordedSlot) (part : List ℕ) (end : ListingTurn) (left_old left_new : Option (List ℕ)) (waiting : Picture)
+    (old new : L) : Type 0 where
+  pub lines : List BurstLine
+  pub read : IsRead recording slots lines part end left_old left_new
   pub full : List (Place × Mark)
   pub rest : List (Place × Mark)
-  pub marks : marks_of frames 0 slots listed.lines ≡ full ++ rest
+  pub marks : marks_of frames 0 slots lines ≡ full ++ rest
   pub strips : List Picture
   pub drawn : AreStrips full strips
   pub whole : length full ≡ most_marks * length strips
   pub few : length rest ≤ most_marks
   pub waits : IsStripOf rest waiting
-  pub given : Gains given_old given_new strips
+  pub given : GivenInTurn Takes old strips new
 
--- The recording was read up to a slot that shows this fault, and the strips of the slots before it were given: the fault's place is
--- that slot, and its octet the one at which the slot's record begins.
-pub record IsStrippedUpToFault (recording : Recording) (frames : Frames) (fault : FaultLine) (left_old left_new : Option (List ℕ))
-    (given_old given_new : Option (List Picture)) : Type 0 where
+-- The recording was read up to a slot that shows this fault, and a taker was given the strips of the slots before it.
+pub record IsStrippedUpToFault {L : Type 0} (Takes : L → Picture → L → Type 0) (recording : Recording) (frames : Frames)
+    (fault : FaultLine) (left_old left_new : Option (List ℕ)) (old new : L) : Type 0 where
   pub slots : List RecordedSlot
+  pub lines : List BurstLine
+  pub read : IsReadUpToFault recording slots lines fault left_old left_new
+  pub strips : List Picture
+  pub drawn : AreStrips (marks_of frames 0 slots lines) strips
+  pub given : GivenInTurn Takes old strips new
+
+-- The recording was read up to a slot, and of the strips of these slots a taker was given all but the last, which it refused.
+pub record IsStrippedUpToStrip {L : Type 0} (Takes Refuses : L → Picture → L → Type 0) (recording : Recording) (frames : Frames)
+    (left_old left_new : Option (List ℕ)) (old new : L) : Type 0 where
+  pub slots : List RecordedSlot
+  pub lines : List BurstLine
   pub part : List ℕ
   pub end : ListingTurn
-  pub before : IsStripped recording frames slots part end left_old left_new given_old given_new
-  pub shown : ShowsSlotFaultOf recording (length slots) fault.fault part
-  pub octet : fault.octet ≡ octet_behind (spelling recording) slots
-  pub place : fault.place ≡ Some (place_by_number (length slots))
-
--- The recording was read up to a slot, and of the strips of these slots all but the last, which could not be given, were given.
-pub record IsStrippedUpToStrip (recording : Recording) (frames : Frames) (left_old left_new : Option (List ℕ))
-    (given_old given_new : Option (List Picture)) : Type 0 where
-  pub slots : List RecordedSlot
-  pub part : List ℕ
-  pub end : ListingTurn
-  pub listed : IsListed recording slots part end left_old left_new None None
+  pub read : IsRead recording slots lines part end left_old left_new
   pub strips : List Picture
   pub last : Picture
-  pub drawn : AreStrips (marks_of frames 0 slots listed.lines) (strips ++ last ∷ [])
-  pub given : Gains given_old given_new strips
+  pub drawn : AreStrips (marks_of frames 0 slots lines) (strips ++ last ∷ [])
+  pub given : IsRefusedBehind Takes Refuses old strips last new

@@ -1,10 +1,10 @@
 //! A listing of a whole recording.
-ghost use Rattle.std.specs.Prelude.{◌≡◌, ◌*◌, ◌∷◌, [], ℕ, Option, List, Bool, false, true, length, IfOk, IfErr, OnOk, OnErr};
+ghost use Rattle.std.specs.Prelude.{◌≡◌, ◌*◌, [], ℕ, List, Bool, false, true, length, IfOk, IfErr, OnOk, OnErr};
 ghost use Rattle.std.specs.Io.KnownBytes.{IsAtEnd};
 ghost use Rattle.dmr_record.specs.Devices.{failed_after};
 ghost use Rattle.dmr_record.specs.Faults.{is_of_end, is_device_fault};
 ghost use Rattle.dmr_listing.specs.Endings.{IfFile, IfNotWritten};
-ghost use Rattle.dmr_listing.specs.ListingRules.{Gains, IsListed, IsListedUpToFault, IsListedUpToLine, ListingTurn};
+ghost use Rattle.dmr_listing.specs.ListingRules.{IsListed, IsListedUpToFault, IsListedUpToLine, ListingTurn};
 ghost use Rattle.dmr_listing.specs.Recordings.{RecordedSlot};
 ghost use Rattle.dmr_listing.specs.declared.burst_line.BurstLine.{BurstLine as Line};
 
@@ -18,8 +18,11 @@ use dmr_record::{DeviceFault, Source};
 
 /// Where the lines of a recording go.
 pub trait BurstLines {
-    /// The lines that were given to it, where it tells them.
-    ghost given: { Self → Option (List Line) };
+    /// What it makes of a line that it takes: how it stands behind that.
+    ghost Takes: { Self → Line → Self → Type 0 };
+
+    /// How it stands behind a line that it refuses.
+    ghost Refuses: { Self → Line → Self → Type 0 };
 
     /// Whether it has failed.
     ghost has_failed: { Self → Bool };
@@ -30,8 +33,8 @@ pub trait BurstLines {
     /// Takes the line of a burst. At an `Err` it didn't, and has failed from then on.
     fn put(&mut self, burst: &RecordedBurst, line: &BurstLine) -> Result<(), DeviceFault>
         requires well { has_failed self.old ≡ false }
-        ensures line { OnOk result (Gains (given self.old) (given self.new) (line.now ∷ [])) }
-        ensures none { OnErr result (Gains (given self.old) (given self.new) []) }
+        ensures line { OnOk result (Takes self.old line.now self.new) }
+        ensures none { OnErr result (Refuses self.old line.now self.new) }
         ensures failure { has_failed self.new ≡ failed_after (has_failed self.old) result }
         ensures kept { kept self.new ≡ kept self.old };
 }
@@ -59,16 +62,16 @@ pub fn list_recording<S: Source, L: BurstLines>(
     requires lines { L.has_failed lines.old ≡ false }
     // All slots were read to the end, and their lines given.
     ensures all { IfOk result (λ summary. (slots : List RecordedSlot) × (end : ListingTurn)
-        × IsListed recording slots [] end (S.left source.old) (S.left source.new) (L.given lines.old) (L.given lines.new)
+        × IsListed L.Takes recording slots [] end (S.left source.old) (S.left source.new) lines.old lines.new
         × (2 * summary.frames ≡ length slots) × (summary.bursts ≡ end.bursts)) }
     ensures end { OnOk result (IsAtEnd (S.left source.new)) }
     // Or the slots before the one that shows the fault.
-    ensures fault { IfErr result (λ e. IfFile e (λ fault. IsListedUpToFault recording fault
-        (S.left source.old) (S.left source.new) (L.given lines.old) (L.given lines.new))) }
+    ensures fault { IfErr result (λ e. IfFile e (λ fault. IsListedUpToFault L.Takes recording fault
+        (S.left source.old) (S.left source.new) lines.old lines.new)) }
     ensures cut { IfErr result (λ e. IfFile e (λ fault. is_of_end fault.fault ≡ true → IsAtEnd (S.left source.new))) }
-    // Or the slots before the one whose line could not be given.
-    ensures output { IfErr result (λ e. IfNotWritten e (IsListedUpToLine recording
-        (S.left source.old) (S.left source.new) (L.given lines.old) (L.given lines.new))) }
+    // Or the slots before the one whose line was refused.
+    ensures output { IfErr result (λ e. IfNotWritten e (IsListedUpToLine L.Takes L.Refuses recording
+        (S.left source.old) (S.left source.new) lines.old lines.new)) }
     // `Read` is told exactly where the source failed, and `Output` where the lines did.
     ensures source { IfErr result (λ e. IfFile e (λ fault. S.has_failed source.new ≡ is_device_fault fault.fault)) }
     ensures lines { IfErr result (λ e. IfNotWritten e (L.has_failed lines.new ≡ true)) }

@@ -1,12 +1,11 @@
 //! A listing of a whole outgoing list.
-ghost use Rattle.std.specs.Prelude.{◌≡◌, ◌∷◌, [], ℕ, Option, List, Bool, false, true, length, IfOk, IfErr, OnOk, OnErr};
+ghost use Rattle.std.specs.Prelude.{◌≡◌, [], ℕ, List, Bool, false, true, length, IfOk, IfErr, OnOk, OnErr};
 ghost use Rattle.std.specs.Io.KnownBytes.{IsAtEnd};
 ghost use Rattle.dmr_record.specs.Devices.{failed_after};
 ghost use Rattle.dmr_record.specs.Faults.{is_of_end, is_device_fault};
 ghost use Rattle.dmr_record.specs.Outgoing.{Sending};
 ghost use Rattle.dmr_record.specs.declared.outgoing.Outgoing.{Outgoing as OutgoingRecord};
 ghost use Rattle.dmr_listing.specs.Endings.{IfFile, IfNotWritten};
-ghost use Rattle.dmr_listing.specs.ListingRules.{Gains};
 ghost use Rattle.dmr_listing.specs.OutgoingListings.{IsListed, IsListedUpToFault, IsListedUpToLine};
 
 use crate::fault_line::FaultLine;
@@ -15,8 +14,11 @@ use dmr_record::{DeviceFault, Outgoing, Source, read_outgoing};
 
 /// Where the lines of an outgoing list go.
 pub trait OutgoingLines {
-    /// The records whose lines were given to it, where it tells them.
-    ghost given: { Self → Option (List OutgoingRecord) };
+    /// What it makes of a record that it takes: how it stands behind that.
+    ghost Takes: { Self → OutgoingRecord → Self → Type 0 };
+
+    /// How it stands behind a record that it refuses.
+    ghost Refuses: { Self → OutgoingRecord → Self → Type 0 };
 
     /// Whether it has failed.
     ghost has_failed: { Self → Bool };
@@ -27,8 +29,8 @@ pub trait OutgoingLines {
     /// Takes the line of a record. At an `Err` it didn't, and has failed from then on.
     fn put(&mut self, outgoing: &Outgoing) -> Result<(), DeviceFault>
         requires well { has_failed self.old ≡ false }
-        ensures line { OnOk result (Gains (given self.old) (given self.new) (outgoing.now ∷ [])) }
-        ensures none { OnErr result (Gains (given self.old) (given self.new) []) }
+        ensures line { OnOk result (Takes self.old outgoing.now self.new) }
+        ensures none { OnErr result (Refuses self.old outgoing.now self.new) }
         ensures failure { has_failed self.new ≡ failed_after (has_failed self.old) result }
         ensures kept { kept self.new ≡ kept self.old };
 }
@@ -46,16 +48,16 @@ pub fn list_outgoing<S: Source, L: OutgoingLines>(
     requires lines { L.has_failed lines.old ≡ false }
     // All records were read to the end, and their lines given.
     ensures all { IfOk result (λ count. (sendings : List Sending)
-        × IsListed sendings [] (S.left source.old) (S.left source.new) (L.given lines.old) (L.given lines.new)
+        × IsListed L.Takes sendings [] (S.left source.old) (S.left source.new) lines.old lines.new
         × (count ≡ length sendings)) }
     ensures end { OnOk result (IsAtEnd (S.left source.new)) }
     // Or the records before the one that shows the fault.
-    ensures fault { IfErr result (λ e. IfFile e (λ fault. IsListedUpToFault fault
-        (S.left source.old) (S.left source.new) (L.given lines.old) (L.given lines.new))) }
+    ensures fault { IfErr result (λ e. IfFile e (λ fault. IsListedUpToFault L.Takes fault
+        (S.left source.old) (S.left source.new) lines.old lines.new)) }
     ensures cut { IfErr result (λ e. IfFile e (λ fault. is_of_end fault.fault ≡ true → IsAtEnd (S.left source.new))) }
-    // Or the records before the one whose line could not be given.
-    ensures output { IfErr result (λ e. IfNotWritten e (IsListedUpToLine
-        (S.left source.old) (S.left source.new) (L.given lines.old) (L.given lines.new))) }
+    // Or the records before the one that was refused.
+    ensures output { IfErr result (λ e. IfNotWritten e (IsListedUpToLine L.Takes L.Refuses
+        (S.left source.old) (S.left source.new) lines.old lines.new)) }
     // `Read` is told exactly where the source failed, and `Output` where the lines did.
     ensures source { IfErr result (λ e. IfFile e (λ fault. S.has_failed source.new ≡ is_device_fault fault.fault)) }
     ensures lines { IfErr result (λ e. IfNotWritten e (L.has_failed lines.new ≡ true)) }

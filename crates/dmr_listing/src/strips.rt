@@ -1,11 +1,11 @@
 //! The strips of a whole recording.
-ghost use Rattle.std.specs.Prelude.{◌≡◌, ◌*◌, ◌<◌, ◌∷◌, [], ℕ, Option, List, Bool, false, true, length};
+ghost use Rattle.std.specs.Prelude.{◌≡◌, ◌*◌, ◌<◌, [], ℕ, List, Bool, false, true, length};
 ghost use Rattle.std.specs.Prelude.{IfOk, IfErr, OnOk, OnErr};
 ghost use Rattle.std.specs.Io.KnownBytes.{IsAtEnd};
 ghost use Rattle.dmr_record.specs.Devices.{failed_after};
 ghost use Rattle.dmr_record.specs.Faults.{is_of_end, is_device_fault};
 ghost use Rattle.dmr_listing.specs.Endings.{IfFile, IfNotWritten};
-ghost use Rattle.dmr_listing.specs.ListingRules.{Gains, ListingTurn};
+ghost use Rattle.dmr_listing.specs.ListingRules.{GivenInTurn, ListingTurn};
 ghost use Rattle.dmr_listing.specs.Recordings.{RecordedSlot};
 ghost use Rattle.dmr_listing.specs.Strips.{IsGivenWhereFull, IsStripped, IsStrippedUpToFault, IsStrippedUpToStrip};
 ghost use Rattle.dmr_listing.specs.Strips.{Picture, pushed_in, unless_empty};
@@ -23,8 +23,11 @@ use dmr_record::{DeviceFault, Source};
 
 /// Where the strips of a recording go.
 pub trait StripLines {
-    /// The strips that were given to it, where it tells them.
-    ghost given: { Self → Option (List Picture) };
+    /// What it makes of a strip that it takes: how it stands behind that.
+    ghost Takes: { Self → Picture → Self → Type 0 };
+
+    /// How it stands behind a strip that it refuses.
+    ghost Refuses: { Self → Picture → Self → Type 0 };
 
     /// Whether it has failed.
     ghost has_failed: { Self → Bool };
@@ -35,8 +38,8 @@ pub trait StripLines {
     /// Takes a strip. At an `Err` it didn't, and has failed from then on.
     fn put_strip(&mut self, strip: &Strip) -> Result<(), DeviceFault>
         requires well { has_failed self.old ≡ false }
-        ensures strip { OnOk result (Gains (given self.old) (given self.new) (strip.now ∷ [])) }
-        ensures none { OnErr result (Gains (given self.old) (given self.new) []) }
+        ensures strip { OnOk result (Takes self.old strip.now self.new) }
+        ensures none { OnErr result (Refuses self.old strip.now self.new) }
         ensures failure { has_failed self.new ≡ failed_after (has_failed self.old) result }
         ensures kept { kept self.new ≡ kept self.old };
 }
@@ -51,11 +54,12 @@ fn add<L: StripLines>(
 ) -> Result<(), DeviceFault>
     requires room { length strip.old.marks < 100 }
     requires well { L.has_failed lines.old ≡ false }
-    ensures given { OnOk result (IsGivenWhereFull (pushed_in frames place mark strip.old) strip.new
-        (L.given lines.old) (L.given lines.new)) }
+    ensures given { OnOk result (IsGivenWhereFull L.Takes (pushed_in frames place mark strip.old) strip.new
+        lines.old lines.new) }
     ensures room { OnOk result (length strip.new.marks < 100) }
     ensures none { OnErr result ((length (pushed_in frames place mark strip.old).marks ≡ 100)
-        × (strip.new ≡ pushed_in frames place mark strip.old) × Gains (L.given lines.old) (L.given lines.new) []) }
+        × (strip.new ≡ pushed_in frames place mark strip.old)
+        × L.Refuses lines.old (pushed_in frames place mark strip.old) lines.new) }
     ensures failure { L.has_failed lines.new ≡ failed_after (L.has_failed lines.old) result }
     ensures kept { L.kept lines.new ≡ L.kept lines.old }
 {
@@ -73,8 +77,8 @@ fn add<L: StripLines>(
 /// Gives the strip of the last marks, unless there are none.
 fn put_rest<L: StripLines>(strip: &Strip, lines: &mut L) -> Result<(), DeviceFault>
     requires well { L.has_failed lines.old ≡ false }
-    ensures given { OnOk result (Gains (L.given lines.old) (L.given lines.new) (unless_empty strip.now)) }
-    ensures none { OnErr result ((0 < length strip.now.marks) × Gains (L.given lines.old) (L.given lines.new) []) }
+    ensures given { OnOk result (GivenInTurn L.Takes lines.old (unless_empty strip.now) lines.new) }
+    ensures none { OnErr result ((0 < length strip.now.marks) × L.Refuses lines.old strip.now lines.new) }
     ensures failure { L.has_failed lines.new ≡ failed_after (L.has_failed lines.old) result }
     ensures kept { L.kept lines.new ≡ L.kept lines.old }
 {
@@ -96,16 +100,16 @@ pub fn strip_recording<S: Source, L: StripLines>(
     requires lines { L.has_failed lines.old ≡ false }
     // All slots were read to the end, and their strips given.
     ensures all { IfOk result (λ summary. (slots : List RecordedSlot) × (end : ListingTurn)
-        × IsStripped recording frames slots [] end (S.left source.old) (S.left source.new) (L.given lines.old) (L.given lines.new)
+        × IsStripped L.Takes recording frames slots [] end (S.left source.old) (S.left source.new) lines.old lines.new
         × (2 * summary.frames ≡ length slots) × (summary.bursts ≡ end.bursts)) }
     ensures end { OnOk result (IsAtEnd (S.left source.new)) }
     // Or the slots before the one that shows the fault.
-    ensures fault { IfErr result (λ e. IfFile e (λ fault. IsStrippedUpToFault recording frames fault
-        (S.left source.old) (S.left source.new) (L.given lines.old) (L.given lines.new))) }
+    ensures fault { IfErr result (λ e. IfFile e (λ fault. IsStrippedUpToFault L.Takes recording frames fault
+        (S.left source.old) (S.left source.new) lines.old lines.new)) }
     ensures cut { IfErr result (λ e. IfFile e (λ fault. is_of_end fault.fault ≡ true → IsAtEnd (S.left source.new))) }
-    // Or the strips before the one that could not be given.
-    ensures output { IfErr result (λ e. IfNotWritten e (IsStrippedUpToStrip recording frames
-        (S.left source.old) (S.left source.new) (L.given lines.old) (L.given lines.new))) }
+    // Or the strips before the one that was refused.
+    ensures output { IfErr result (λ e. IfNotWritten e (IsStrippedUpToStrip L.Takes L.Refuses recording frames
+        (S.left source.old) (S.left source.new) lines.old lines.new)) }
     // `Read` is told exactly where the source failed, and `Output` where the lines did.
     ensures source { IfErr result (λ e. IfFile e (λ fault. S.has_failed source.new ≡ is_device_fault fault.fault)) }
     ensures lines { IfErr result (λ e. IfNotWritten e (L.has_failed lines.new ≡ true)) }

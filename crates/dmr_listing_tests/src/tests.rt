@@ -281,25 +281,32 @@ fn lines_of_lists(rt: HostRuntime) -> Result<(), Fail> {
     Ok(())
 }
 
-/// Lines of bursts in the order in which they come, as text, and the faults of whoever takes them.
+/// Lines of bursts in the order in which they come, as text, with their places, and the faults of whoever takes them.
 #[derive(Drop)]
-struct Taken {
+struct TakenLines {
     text: String,
+    places: Vec<Place>,
     room: usize,
     is_failed: bool,
 }
 
-impl BurstLines for Taken {
-    ghost use Rattle.std.specs.Prelude.{None};
+impl BurstLines for TakenLines {
+    ghost use Rattle.std.specs.Prelude.{◌≡◌, ◌∷◌, ◌++◌, []};
 
-    ghost given = { λ taken. None };
+    // The places grow by that of the line.
+    ghost Takes = { λ old line new. new.places.items ≡ old.places.items ++ line.place ∷ [] };
+
+    ghost Refuses = { λ old line new. new.places.items ≡ old.places.items };
 
     ghost has_failed = { λ taken. taken.is_failed };
 
     ghost kept = { λ taken. 0 };
 
     fn put(&mut self, _burst: &RecordedBurst, line: &BurstLine) -> Result<(), DeviceFault> {
-        if self.room == 0 || writeln!(self.text, "{line}").is_err() {
+        if self.room == 0
+            || writeln!(self.text, "{line}").is_err()
+            || self.places.push(line.place).is_err()
+        {
             self.is_failed = true;
             return Err(DeviceFault);
         }
@@ -353,8 +360,9 @@ fn listings_of_recordings(rt: HostRuntime) -> Result<(), Fail> {
         (35, 0, Err(ListingEnd::Output), ""),
     ] {
         let mut source = FromRead::new(octets.get(..count).unwrap_or(&[]));
-        let mut taken = Taken {
+        let mut taken = TakenLines {
             text: String::new(rt.alloc()),
+            places: Vec::new(rt.alloc()),
             room,
             is_failed: false,
         };
@@ -387,12 +395,21 @@ fn letters(rt: HostRuntime) -> Result<(), Fail> {
     Ok(())
 }
 
-impl Taken {
+/// The lines of strips in the order in which they come, and the faults of whoever takes them.
+#[derive(Drop)]
+struct TakenStrips {
+    text: String,
+    room: usize,
+    is_failed: bool,
+}
+
+impl TakenStrips {
     ghost use Rattle.std.specs.Prelude.{◌≡◌};
 
     /// Takes a line, where there is one.
     fn take(&mut self, line: Option<StripLine<'_>>) -> Result<(), AllocError>
         ensures well { self.new.is_failed ≡ self.old.is_failed }
+        ensures room { self.new.room ≡ self.old.room }
     {
         match line {
             Some(line) => writeln!(self.text, "{line}"),
@@ -401,10 +418,13 @@ impl Taken {
     }
 }
 
-impl StripLines for Taken {
-    ghost use Rattle.std.specs.Prelude.{None};
+impl StripLines for TakenStrips {
+    ghost use Rattle.std.specs.Prelude.{◌≡◌, ◌+◌};
 
-    ghost given = { λ taken. None };
+    // There is room for a strip less.
+    ghost Takes = { λ old strip new. old.room ≡ new.room + 1 };
+
+    ghost Refuses = { λ old strip new. new.room ≡ old.room };
 
     ghost has_failed = { λ taken. taken.is_failed };
 
@@ -418,6 +438,7 @@ impl StripLines for Taken {
             self.is_failed = true;
             return Err(DeviceFault);
         }
+        self.room -= 1;
         Ok(())
     }
 }
@@ -447,7 +468,7 @@ fn strips_of_recordings(rt: HostRuntime) -> Result<(), Fail> {
         (0, 0, ListingEnd::Output, ""),
     ] {
         let mut source = FromRead::new(octets.as_slice());
-        let mut taken = Taken {
+        let mut taken = TakenStrips {
             text: String::new(rt.alloc()),
             room,
             is_failed: false,

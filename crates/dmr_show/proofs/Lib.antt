@@ -1,2 +1,3 @@
 pub mod Held
-pub mod Stripped
+pub mod Printed
+pub mod Shown

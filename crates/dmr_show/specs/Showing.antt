@@ -1,10 +1,11 @@
 -- What was read of a file that was shown.
-use Rattle.std.specs.Prelude.{◌≡◌, ◌*◌, ℕ, Bool, false, true, List, [], Option, None, length}
+use Rattle.std.specs.Prelude.{◌≡◌, ◌+◌, ◌*◌, ◌⊎◌, ℕ, Bool, false, true, List, [], Option, None, length}
 use Rattle.std.specs.Io.KnownBytes.{Consumes, IsAtEnd}
 use Rattle.dmr_listing.specs.ListingRules as recording
 use Rattle.dmr_listing.specs.OutgoingListings as outgoing
 use Rattle.dmr_listing.specs.ReceivedListings as received
 use Rattle.dmr_listing.specs.Recordings.{RecordedSlot}
+use Rattle.dmr_listing.specs.declared.burst_line.BurstLine.{BurstLine}
 use Rattle.dmr_listing.specs.declared.fault_line.FaultLine.{FaultLine}
 use Rattle.dmr_listing.specs.declared.recording.Recording.{Recording}
 use Rattle.dmr_listing.specs.declared.recording.Recording.TheVariants as kind
@@ -16,54 +17,59 @@ use Rattle.dmr_record.specs.declared.head.FileFormat.{FileFormat}
 use Rattle.dmr_record.specs.declared.head.FileFormat.TheVariants.{Uplink, Downlink, Outgoing, Received}
 use Rattle.dmr_report.specs.Line.{PutsError}
 use Rattle.dmr_report.specs.Status.{failure}
+use Rattle.dmr_show.specs.Printed.{HasLines, PutsLines, lines_around}
+use Rattle.dmr_show.specs.Records.{Records, Slots, Sendings, Receipts}
 use Rattle.dmr_show.specs.declared.file_summary.FileSummary.{FileSummary}
 use Rattle.dmr_show.specs.declared.file_summary.FileSummary.TheVariants.{OfRecording, OfList}
+use Rattle.dmr_show.specs.declared.filter.Filter.{Filter}
+use Rattle.dmr_show.specs.declared.form.Form.{Form}
+use Rattle.dmr_show.specs.declared.form.Form.TheVariants as form
 
--- The slots of a recording were read to its end behind its head, and its summary is theirs.
-pub record IsRecordingRead (of : Recording) (summary : RecordingSummary) (left_old left_new : Option (List ℕ)) : Type 0 where
-  pub slots : List RecordedSlot
+-- These slots of a recording were read to its end behind its head, with the lines of its bursts, and the summary is theirs.
+pub record IsRecordingRead (of : Recording) (slots : List RecordedSlot) (lines : List BurstLine) (summary : RecordingSummary)
+    (left_old left_new : Option (List ℕ)) : Type 0 where
   pub end : recording.ListingTurn
-  pub listed : recording.IsListed of slots [] end left_old left_new None None
+  pub read : recording.IsRead of slots lines [] end left_old left_new
   pub frames : 2 * summary.frames ≡ length slots
   pub bursts : summary.bursts ≡ end.bursts
 
--- The records of an outgoing list were, and there are so many.
-pub record IsOutgoingRead (count : ℕ) (left_old left_new : Option (List ℕ)) : Type 0 where
-  pub sendings : List Sending
-  pub listed : outgoing.IsListed sendings [] left_old left_new None None
+-- These records of an outgoing list were, and there are so many.
+pub record IsOutgoingRead (sendings : List Sending) (count : ℕ) (left_old left_new : Option (List ℕ)) : Type 0 where
+  pub read : outgoing.IsRead sendings [] left_old left_new
   pub many : count ≡ length sendings
 
--- The records of a received list were, and there are so many.
-pub record IsReceivedRead (count : ℕ) (left_old left_new : Option (List ℕ)) : Type 0 where
-  pub receipts : List Receipt
-  pub listed : received.IsListed receipts [] left_old left_new None None
+-- These records of a received list were, and there are so many.
+pub record IsReceivedRead (receipts : List Receipt) (count : ℕ) (left_old left_new : Option (List ℕ)) : Type 0 where
+  pub read : received.IsRead receipts [] left_old left_new
   pub many : count ≡ length receipts
 
--- All that stands behind the head of a file of this format was read, and this is its summary.
-abbrev pub IsFileRead : FileFormat → FileSummary → Option (List ℕ) → Option (List ℕ) → Type 0
-IsFileRead Uplink (OfRecording summary) old new = IsRecordingRead kind.Uplink summary old new
-IsFileRead Downlink (OfRecording summary) old new = IsRecordingRead kind.Downlink summary old new
-IsFileRead Outgoing (OfList count) old new = IsOutgoingRead count old new
-IsFileRead Received (OfList count) old new = IsReceivedRead count old new
-IsFileRead format summary old new = ⊥
+-- the format of the file of a recording
+abbrev pub format_of : Recording → FileFormat
+format_of kind.Uplink = Uplink
+format_of kind.Downlink = Downlink
 
--- All that stands behind the head of a file of this format was read.
-abbrev pub IsReadWhole : FileFormat → Option (List ℕ) → Option (List ℕ) → Type 0
-IsReadWhole format old new = (summary : FileSummary) × IsFileRead format summary old new
+-- All that stands behind the head of a file of this format was read: it is this, and this is its summary.
+abbrev pub IsFileRead : FileFormat → Records → FileSummary → Option (List ℕ) → Option (List ℕ) → Type 0
+IsFileRead Uplink (Slots slots lines) (OfRecording summary) old new = IsRecordingRead kind.Uplink slots lines summary old new
+IsFileRead Downlink (Slots slots lines) (OfRecording summary) old new = IsRecordingRead kind.Downlink slots lines summary old new
+IsFileRead Outgoing (Sendings sendings) (OfList count) old new = IsOutgoingRead sendings count old new
+IsFileRead Received (Receipts receipts) (OfList count) old new = IsReceivedRead receipts count old new
+IsFileRead format records summary old new = ⊥
 
 -- What stands behind the head of a file of this format was read up to a record that shows this fault.
-abbrev pub IsReadUpToFault : FileFormat → FaultLine → Option (List ℕ) → Option (List ℕ) → Type 0
-IsReadUpToFault Uplink fault old new = recording.IsListedUpToFault kind.Uplink fault old new None None
-IsReadUpToFault Downlink fault old new = recording.IsListedUpToFault kind.Downlink fault old new None None
-IsReadUpToFault Outgoing fault old new = outgoing.IsListedUpToFault fault old new None None
-IsReadUpToFault Received fault old new = received.IsListedUpToFault fault old new None None
+abbrev pub IsReadUpToFault : FileFormat → Records → FaultLine → Option (List ℕ) → Option (List ℕ) → Type 0
+IsReadUpToFault Uplink (Slots slots lines) fault old new = recording.IsReadUpToFault kind.Uplink slots lines fault old new
+IsReadUpToFault Downlink (Slots slots lines) fault old new = recording.IsReadUpToFault kind.Downlink slots lines fault old new
+IsReadUpToFault Outgoing (Sendings sendings) fault old new = outgoing.IsReadUpToFault sendings fault old new
+IsReadUpToFault Received (Receipts receipts) fault old new = received.IsReadUpToFault receipts fault old new
+IsReadUpToFault format records fault old new = ⊥
 
--- A file of one of the formats was read whole, head and all.
-pub record IsWhole (summary : FileSummary) (left_old left_new : Option (List ℕ)) : Type 0 where
+-- A file of one of the formats was read whole, head and all: this stands behind its head.
+pub record IsWhole (records : Records) (summary : FileSummary) (left_old left_new : Option (List ℕ)) : Type 0 where
   pub format : FileFormat
   pub behind : Option (List ℕ)
   pub head : Consumes left_old behind (head_octets (magic_of format))
-  pub rest : IsFileRead format summary behind left_new
+  pub rest : IsFileRead format records summary behind left_new
   pub end : IsAtEnd left_new
 
 -- The fault is one of the head, which begins at octet 0 and in no slot.
@@ -74,16 +80,62 @@ pub record IsHeadFault (fault : FaultLine) (left_old left_new : Option (List ℕ
   pub octet : fault.octet ≡ 0
   pub place : fault.place ≡ None
 
--- The fault is one behind the head.
-pub record IsRecordFault (fault : FaultLine) (left_old left_new : Option (List ℕ)) : Type 0 where
+-- The fault is one behind the head, and behind this.
+pub record IsRecordFault (records : Records) (fault : FaultLine) (left_old left_new : Option (List ℕ)) : Type 0 where
   pub format : FileFormat
   pub behind : Option (List ℕ)
   pub head : Consumes left_old behind (head_octets (magic_of format))
-  pub rest : IsReadUpToFault format fault behind left_new
+  pub rest : IsReadUpToFault format records fault behind left_new
 
--- Some file was.
-abbrev pub IsShownWhole : Option (List ℕ) → Option (List ℕ) → Type 0
-IsShownWhole left_old left_new = (summary : FileSummary) × IsWhole summary left_old left_new
+-- What stands behind the head of a file of this format was read, and its lines in a form were put, between so many before them and
+-- so many behind.
+pub record IsRestShown (form : Form) (filter : Filter) (format : FileFormat) (summary : FileSummary) (before behind : ℕ)
+    (left_old left_new held_old held_new : Option (List ℕ)) : Type 0 where
+  pub records : Records
+  pub read : IsFileRead format records summary left_old left_new
+  pub count : ℕ
+  pub lines : HasLines form filter records count
+  pub put : PutsLines (before + count + behind) held_old held_new
+
+-- It was read up to a record that shows this fault, and the lines of what stands before that were put, behind so many others.
+pub record IsRestShownUpToFault (form : Form) (filter : Filter) (format : FileFormat) (fault : FaultLine) (before : ℕ)
+    (left_old left_new held_old held_new : Option (List ℕ)) : Type 0 where
+  pub records : Records
+  pub read : IsReadUpToFault format records fault left_old left_new
+  pub count : ℕ
+  pub lines : HasLines form filter records count
+  pub put : PutsLines (before + count) held_old held_new
+
+-- A file was read whole, and the first sink holds the lines that it has in a form, as far as the filter lets them pass: one for the
+-- file, those of its bursts, records or strips, and one for all that it holds; a strip has neither the first nor the last.
+pub record IsShownWhole (form : Form) (filter : Filter) (left_old left_new held_old held_new : Option (List ℕ)) : Type 0 where
+  pub records : Records
+  pub summary : FileSummary
+  pub whole : IsWhole records summary left_old left_new
+  pub count : ℕ
+  pub lines : HasLines form filter records count
+  pub put : PutsLines (lines_around form + count + lines_around form) held_old held_new
+
+-- A file was read up to a record that shows this fault, and the first sink holds one line for the file and those of what stands
+-- before that record, in a form and as far as the filter lets them pass; a strip has no line for the file.
+pub record IsShownUpToFault (form : Form) (filter : Filter) (fault : FaultLine)
+    (left_old left_new held_old held_new : Option (List ℕ)) : Type 0 where
+  pub records : Records
+  pub read : IsRecordFault records fault left_old left_new
+  pub count : ℕ
+  pub lines : HasLines form filter records count
+  pub put : PutsLines (lines_around form + count) held_old held_new
+
+-- The head of a file shows this fault, and no line was put.
+pub record IsHeadFaultAlone (fault : FaultLine) (left_old left_new held_old held_new : Option (List ℕ)) : Type 0 where
+  pub head : IsHeadFault fault left_old left_new
+  pub put : PutsLines 0 held_old held_new
+
+-- The file is at fault: in its head, or behind it.
+abbrev pub IsAtFault : Form → Filter → FaultLine → (left_old left_new held_old held_new : Option (List ℕ)) → Type 0
+IsAtFault form filter fault left_old left_new held_old held_new =
+    IsHeadFaultAlone fault left_old left_new held_old held_new
+    ⊎ IsShownUpToFault form filter fault left_old left_new held_old held_new
 
 -- A fault is told: behind what is listed, a line of error goes to the other sink.
 pub record TellsFault (status : ℕ) (out_failed err_failed : Bool) (held_old held_new : Option (List ℕ)) : Type 0 where
@@ -103,3 +155,21 @@ abbrev pub BeginsWithStrip : Bool → Option (List ℕ) → Type 0
 BeginsWithStrip is_so left =
     (format : FileFormat) × (behind : Option (List ℕ)) × Consumes left behind (head_octets (magic_of format))
     × (has_strip format ≡ is_so)
+
+-- A list has no strip, and no line of it was put.
+pub record IsWithoutStrip (asked : Form) (left held_old held_new : Option (List ℕ)) : Type 0 where
+  pub strip : asked ≡ form.Strip
+  pub list : BeginsWithStrip false left
+  pub put : PutsLines 0 held_old held_new
+
+-- There was no memory: nothing was read, and nothing put.
+pub record IsUntouched (left_old left_new held_old held_new : Option (List ℕ)) : Type 0 where
+  pub read : left_new ≡ left_old
+  pub put : held_new ≡ held_old
+
+-- A file wasn't shown whole: there was no memory, it is a list, which has no strip, or it is at fault, and shown up to that.
+abbrev pub IsShownInPart : Form → Filter → (left_old left_new held_old held_new : Option (List ℕ)) → Type 0
+IsShownInPart form filter left_old left_new held_old held_new =
+    IsUntouched left_old left_new held_old held_new
+    ⊎ (IsWithoutStrip form left_old held_old held_new
+    ⊎ ((fault : FaultLine) × IsAtFault form filter fault left_old left_new held_old held_new))

@@ -1,12 +1,14 @@
 //! A listing of a whole file, head and all.
-ghost use Rattle.std.specs.Prelude.{◌≡◌, ◌≤◌, ◌⊎◌, true, false, None, length, IfOk, IfErr, OnOk};
+ghost use Rattle.std.specs.Prelude.{◌≡◌, ◌≤◌, true, false, None, length, IfOk, IfErr, OnOk};
 ghost use Rattle.std.specs.Io.KnownBytes.{IsAtEnd};
 ghost use Rattle.dmr_record.specs.Faults.{is_of_end, is_device_fault};
 ghost use Rattle.dmr_listing.specs.Endings.{IfFile, IfNotWritten};
-ghost use Rattle.dmr_listing.specs.ListingRules.{IsListedUpToFault};
 ghost use Rattle.dmr_show.specs.Forms.{notation_of};
-ghost use Rattle.dmr_show.specs.Showing.{BeginsWithStrip, IsHeadFault, IsFileRead, IsReadUpToFault, IsReadWhole, IsRecordFault};
-ghost use Rattle.dmr_show.specs.Showing.{IsRecordingRead, IsShownWhole, has_strip};
+ghost use Rattle.dmr_show.specs.Held.{held_by};
+ghost use Rattle.dmr_show.specs.Showing.{BeginsWithStrip, IsAtFault, IsRestShown, IsRestShownUpToFault, IsShownWhole};
+ghost use Rattle.dmr_show.specs.Showing.{IsWithoutStrip, format_of, has_strip};
+ghost use Rattle.dmr_show.specs.declared.file_summary.FileSummary.{FileSummary as Summary};
+ghost use Rattle.dmr_show.specs.declared.file_summary.FileSummary.TheVariants.{OfRecording};
 
 use crate::file_summary::FileSummary;
 use crate::form::Form;
@@ -40,9 +42,13 @@ fn list_behind<S: Source, K: Sink>(
     requires source { S.has_failed source.old ≡ false }
     requires lines { K.has_failed lines.old.sink.now ≡ false }
     requires room { 65535 ≤ length room.old }
-    ensures whole { IfOk result (λ summary. IsFileRead format summary (S.left source.old) (S.left source.new)) }
+    ensures whole { IfOk result (λ summary. IsRestShown Form.Listing lines.old.filter format summary 0 0
+        (S.left source.old) (S.left source.new)
+        (held_by (K.held lines.old.sink.now) lines.old.waiting) (held_by (K.held lines.new.sink.now) lines.new.waiting)) }
     ensures end { OnOk result (IsAtEnd (S.left source.new)) }
-    ensures fault { IfErr result (λ e. IfFile e (λ fault. IsReadUpToFault format fault (S.left source.old) (S.left source.new))) }
+    ensures fault { IfErr result (λ e. IfFile e (λ fault. IsRestShownUpToFault Form.Listing lines.old.filter format fault 0
+        (S.left source.old) (S.left source.new)
+        (held_by (K.held lines.old.sink.now) lines.old.waiting) (held_by (K.held lines.new.sink.now) lines.new.waiting))) }
     ensures cut { IfErr result (λ e. IfFile e (λ fault. is_of_end fault.fault ≡ true → IsAtEnd (S.left source.new))) }
     ensures source { IfErr result (λ e. IfFile e (λ fault. S.has_failed source.new ≡ is_device_fault fault.fault)) }
     ensures output { IfErr result (λ e. IfNotWritten e (K.has_failed lines.new.sink.now ≡ true)) }
@@ -80,6 +86,7 @@ pub(crate) enum Shown {
 }
 
 /// Lists what stands behind the head of a file of this format, between a line for the file and one with what all of it holds.
+#[tactic(auto, using(crate::proofs::Shown::rest_between, crate::proofs::Shown::rest_behind))]
 fn list_rest<S: Source, K: Sink>(
     source: &mut S,
     format: FileFormat,
@@ -89,10 +96,14 @@ fn list_rest<S: Source, K: Sink>(
     requires source { S.has_failed source.old ≡ false }
     requires lines { K.has_failed lines.old.sink.now ≡ false }
     requires room { 65535 ≤ length room.old }
-    ensures whole { OnOk result (IsReadWhole format (S.left source.old) (S.left source.new)) }
+    ensures whole { OnOk result ((summary : Summary) × IsRestShown Form.Listing lines.old.filter format summary 1 1
+        (S.left source.old) (S.left source.new)
+        (held_by (K.held lines.old.sink.now) lines.old.waiting) (held_by (K.held lines.new.sink.now) lines.new.waiting)) }
     ensures shown { IfOk result (λ shown. shown ≡ Shown.Whole) }
     ensures end { OnOk result (IsAtEnd (S.left source.new)) }
-    ensures fault { IfErr result (λ e. IfFile e (λ fault. IsReadUpToFault format fault (S.left source.old) (S.left source.new))) }
+    ensures fault { IfErr result (λ e. IfFile e (λ fault. IsRestShownUpToFault Form.Listing lines.old.filter format fault 1
+        (S.left source.old) (S.left source.new)
+        (held_by (K.held lines.old.sink.now) lines.old.waiting) (held_by (K.held lines.new.sink.now) lines.new.waiting))) }
     ensures cut { IfErr result (λ e. IfFile e (λ fault. is_of_end fault.fault ≡ true → IsAtEnd (S.left source.new))) }
     ensures source { IfErr result (λ e. IfFile e (λ fault. S.has_failed source.new ≡ is_device_fault fault.fault)) }
     ensures output { IfErr result (λ e. IfNotWritten e (K.has_failed lines.new.sink.now ≡ true)) }
@@ -111,7 +122,6 @@ fn list_rest<S: Source, K: Sink>(
 }
 
 /// Prints the strip of what stands behind the head of a recording, whose frames the filter of the lines tells.
-#[tactic(auto, using(crate::proofs::Stripped::stripped_read, crate::proofs::Stripped::stripped_fault))]
 fn strip_behind<S: Source, K: Sink>(
     source: &mut S,
     recording: Recording,
@@ -119,10 +129,14 @@ fn strip_behind<S: Source, K: Sink>(
 ) -> Result<RecordingSummary, ListingEnd>
     requires source { S.has_failed source.old ≡ false }
     requires lines { K.has_failed lines.old.sink.now ≡ false }
-    ensures whole { IfOk result (λ summary. IsRecordingRead recording summary (S.left source.old) (S.left source.new)) }
+    ensures whole { IfOk result (λ summary. IsRestShown Form.Strip lines.old.filter (format_of recording) (OfRecording summary) 0 0
+        (S.left source.old) (S.left source.new)
+        (held_by (K.held lines.old.sink.now) lines.old.waiting) (held_by (K.held lines.new.sink.now) lines.new.waiting)) }
     ensures end { OnOk result (IsAtEnd (S.left source.new)) }
-    ensures fault { IfErr result (λ e. IfFile e (λ fault. IsListedUpToFault recording fault
-        (S.left source.old) (S.left source.new) None None)) }
+    ensures fault { IfErr result (λ e. IfFile e (λ fault. IsRestShownUpToFault
+        Form.Strip lines.old.filter (format_of recording) fault 0
+        (S.left source.old) (S.left source.new)
+        (held_by (K.held lines.old.sink.now) lines.old.waiting) (held_by (K.held lines.new.sink.now) lines.new.waiting))) }
     ensures cut { IfErr result (λ e. IfFile e (λ fault. is_of_end fault.fault ≡ true → IsAtEnd (S.left source.new))) }
     ensures source { IfErr result (λ e. IfFile e (λ fault. S.has_failed source.new ≡ is_device_fault fault.fault)) }
     ensures output { IfErr result (λ e. IfNotWritten e (K.has_failed lines.new.sink.now ≡ true)) }
@@ -142,11 +156,17 @@ fn strip_rest<S: Source, K: Sink>(
 ) -> Result<Shown, ListingEnd>
     requires source { S.has_failed source.old ≡ false }
     requires lines { K.has_failed lines.old.sink.now ≡ false }
-    ensures whole { IfOk result (λ shown. shown ≡ Shown.Whole → IsReadWhole format (S.left source.old) (S.left source.new)) }
+    ensures whole { IfOk result (λ shown. shown ≡ Shown.Whole
+        → (summary : Summary) × IsRestShown Form.Strip lines.old.filter format summary 0 0
+        (S.left source.old) (S.left source.new)
+        (held_by (K.held lines.old.sink.now) lines.old.waiting) (held_by (K.held lines.new.sink.now) lines.new.waiting)) }
     ensures shown { IfOk result (λ shown. shown ≡ Shown.Whole → has_strip format ≡ true) }
     ensures none { IfOk result (λ shown. shown ≡ Shown.NoStrip → has_strip format ≡ false) }
+    ensures untouched { IfOk result (λ shown. shown ≡ Shown.NoStrip → lines.new ≡ lines.old) }
     ensures end { IfOk result (λ shown. shown ≡ Shown.Whole → IsAtEnd (S.left source.new)) }
-    ensures fault { IfErr result (λ e. IfFile e (λ fault. IsReadUpToFault format fault (S.left source.old) (S.left source.new))) }
+    ensures fault { IfErr result (λ e. IfFile e (λ fault. IsRestShownUpToFault Form.Strip lines.old.filter format fault 0
+        (S.left source.old) (S.left source.new)
+        (held_by (K.held lines.old.sink.now) lines.old.waiting) (held_by (K.held lines.new.sink.now) lines.new.waiting))) }
     ensures cut { IfErr result (λ e. IfFile e (λ fault. is_of_end fault.fault ≡ true → IsAtEnd (S.left source.new))) }
     ensures source { IfErr result (λ e. IfFile e (λ fault. S.has_failed source.new ≡ is_device_fault fault.fault)) }
     ensures output { IfErr result (λ e. IfNotWritten e (K.has_failed lines.new.sink.now ≡ true)) }
@@ -179,12 +199,16 @@ fn show_file<S: Source, K: Sink>(
     requires lines { K.has_failed lines.old.sink.now ≡ false }
     requires notation { lines.old.notation ≡ notation_of form }
     requires room { 65535 ≤ length room.old }
-    ensures whole { IfOk result (λ shown. shown ≡ Shown.Whole → IsShownWhole (S.left source.old) (S.left source.new)) }
+    ensures whole { IfOk result (λ shown. shown ≡ Shown.Whole → IsShownWhole form lines.old.filter
+        (S.left source.old) (S.left source.new)
+        (held_by (K.held lines.old.sink.now) lines.old.waiting) (held_by (K.held lines.new.sink.now) lines.new.waiting)) }
     // A strip is of a recording, and a list alone has none.
     ensures strip { IfOk result (λ shown. shown ≡ Shown.Whole → form ≡ Form.Strip → BeginsWithStrip true (S.left source.old)) }
-    ensures none { IfOk result (λ shown. shown ≡ Shown.NoStrip → (form ≡ Form.Strip) × BeginsWithStrip false (S.left source.old)) }
-    ensures fault { IfErr result (λ e. IfFile e (λ fault. IsHeadFault fault (S.left source.old) (S.left source.new)
-        ⊎ IsRecordFault fault (S.left source.old) (S.left source.new))) }
+    ensures none { IfOk result (λ shown. shown ≡ Shown.NoStrip → IsWithoutStrip form (S.left source.old)
+        (held_by (K.held lines.old.sink.now) lines.old.waiting) (held_by (K.held lines.new.sink.now) lines.new.waiting)) }
+    ensures fault { IfErr result (λ e. IfFile e (λ fault. IsAtFault form lines.old.filter fault
+        (S.left source.old) (S.left source.new)
+        (held_by (K.held lines.old.sink.now) lines.old.waiting) (held_by (K.held lines.new.sink.now) lines.new.waiting))) }
     ensures cut { IfErr result (λ e. IfFile e (λ fault. is_of_end fault.fault ≡ true → IsAtEnd (S.left source.new))) }
     ensures source { IfErr result (λ e. IfFile e (λ fault. S.has_failed source.new ≡ is_device_fault fault.fault)) }
     ensures output { IfErr result (λ e. IfNotWritten e (K.has_failed lines.new.sink.now ≡ true)) }
@@ -203,6 +227,7 @@ fn show_file<S: Source, K: Sink>(
 }
 
 /// Shows a file in this form, and writes all that waits, whether the file is at fault or not, but to no sink that has failed.
+#[tactic(auto, using(crate::proofs::Shown::whole_flushed, crate::proofs::Shown::fault_flushed, crate::proofs::Shown::none_flushed))]
 pub(crate) fn show_all<S: Source, K: Sink>(
     form: Form,
     source: &mut S,
@@ -213,12 +238,16 @@ pub(crate) fn show_all<S: Source, K: Sink>(
     requires lines { K.has_failed lines.old.sink.now ≡ false }
     requires notation { lines.old.notation ≡ notation_of form }
     requires room { 65535 ≤ length room.old }
-    ensures whole { IfOk result (λ shown. shown ≡ Shown.Whole → IsShownWhole (S.left source.old) (S.left source.new)) }
+    ensures whole { IfOk result (λ shown. shown ≡ Shown.Whole → IsShownWhole form lines.old.filter
+        (S.left source.old) (S.left source.new)
+        (held_by (K.held lines.old.sink.now) lines.old.waiting) (K.held lines.new.sink.now)) }
     // A strip is of a recording, and a list alone has none.
     ensures strip { IfOk result (λ shown. shown ≡ Shown.Whole → form ≡ Form.Strip → BeginsWithStrip true (S.left source.old)) }
-    ensures none { IfOk result (λ shown. shown ≡ Shown.NoStrip → (form ≡ Form.Strip) × BeginsWithStrip false (S.left source.old)) }
-    ensures fault { IfErr result (λ e. IfFile e (λ fault. IsHeadFault fault (S.left source.old) (S.left source.new)
-        ⊎ IsRecordFault fault (S.left source.old) (S.left source.new))) }
+    ensures none { IfOk result (λ shown. shown ≡ Shown.NoStrip → IsWithoutStrip form (S.left source.old)
+        (held_by (K.held lines.old.sink.now) lines.old.waiting) (K.held lines.new.sink.now)) }
+    ensures fault { IfErr result (λ e. IfFile e (λ fault. IsAtFault form lines.old.filter fault
+        (S.left source.old) (S.left source.new)
+        (held_by (K.held lines.old.sink.now) lines.old.waiting) (K.held lines.new.sink.now))) }
     ensures cut { IfErr result (λ e. IfFile e (λ fault. is_of_end fault.fault ≡ true → IsAtEnd (S.left source.new))) }
     ensures source { IfErr result (λ e. IfFile e (λ fault. S.has_failed source.new ≡ is_device_fault fault.fault)) }
     ensures output { IfErr result (λ e. IfNotWritten e (K.has_failed lines.new.sink.now ≡ true)) }

@@ -1,6 +1,7 @@
 //! Which lines are shown.
 ghost use Rattle.std.specs.Prelude.{◌≡◌, ◌↔◌, ◌-◌, ◌^◌, IsTrue, unwrap_or};
-ghost use Rattle.dmr_show.specs.Filter.{IsInSlot, Passes};
+ghost use Rattle.dmr_show.specs.Filter.{IsInSlot, Passes, is_in_slot, lets_pass};
+ghost use Rattle.dmr_show.specs.Printed.{frames_of};
 
 use dmr_listing::{Frames, Place};
 
@@ -19,6 +20,7 @@ impl Filter {
     /// Whether what stands in a slot has a line, in some frame.
     pub(crate) fn has_slot(&self, number: u8) -> bool
         ensures has { IsTrue result ↔ IsInSlot self.now number }
+        ensures value { result ≡ is_in_slot self.now number }
     {
         match self.slot {
             Some(slot) => number == slot,
@@ -29,6 +31,7 @@ impl Filter {
     /// Whether what stands in a place has a line.
     pub fn passes(&self, place: Place) -> bool
         ensures passes { IsTrue result ↔ Passes self.now place }
+        ensures value { result ≡ lets_pass self.now place }
     {
         let is_in_slot = match self.slot {
             Some(slot) => place.slot == slot,
@@ -49,6 +52,7 @@ impl Filter {
     pub(crate) fn frames(&self) -> Frames
         ensures first { result.first ≡ unwrap_or self.now.from 0 }
         ensures last { result.last ≡ unwrap_or self.now.to (2 ^ 32 - 1) }
+        ensures value { result ≡ frames_of self.now }
     {
         Frames {
             first: self.from.unwrap_or(0),

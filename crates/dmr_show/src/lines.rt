@@ -1,10 +1,12 @@
 //! The lines of a file, printed in a notation.
 ghost use Rattle.std.specs.Io.KnownBytes.{Appends};
-ghost use Rattle.std.specs.Prelude.{◌≡◌, ◌≤◌, [], None, OnOk, false, length};
+ghost use Rattle.std.specs.Prelude.{◌≡◌, ◌≤◌, [], OnOk, false, length};
 ghost use Rattle.dmr_record.specs.Devices.{failed_after};
 ghost use Rattle.dmr_report.specs.Line.{PutsLine};
 ghost use Rattle.dmr_show.specs.Held.{held_by};
 ghost use Rattle.dmr_show.specs.Filter.{IsInSlot, Passes};
+ghost use Rattle.dmr_show.specs.Printed.{PutsLines, frames_of, lines_at, lines_of_slot, lines_of_strip};
+ghost use Rattle.dmr_show.specs.Records.{place_of_outgoing, place_of_receipt};
 
 use crate::file_summary::FileSummary;
 use crate::filter::Filter;
@@ -24,9 +26,9 @@ use std::fmt::{Display, Write};
 pub(crate) struct Lines<'a, K> {
     pub(crate) sink: &'a mut K,
     /// What waits to be written to it.
-    waiting: Waiting,
+    pub(crate) waiting: Waiting,
     pub(crate) notation: Notation,
-    filter: Filter,
+    pub(crate) filter: Filter,
     /// The line that is printed; there is room for every line.
     text: &'a mut String,
 }
@@ -51,7 +53,9 @@ impl<'a, K: Sink> Lines<'a, K> {
     ) -> Lines<'a, K>
         ensures same_sink { result.sink.ghost_name ≡ sink.entry.ghost_name }
         ensures sink { result.sink.now ≡ sink.old }
+        ensures waiting { result.waiting ≡ [] }
         ensures notation { result.notation ≡ notation }
+        ensures filter { result.filter ≡ filter }
     {
         Lines {
             sink,
@@ -80,6 +84,8 @@ impl<'a, K: Sink> Lines<'a, K> {
             (held_by (K.held self.new.sink.now) self.new.waiting)) }
         ensures failure { K.has_failed self.new.sink.now ≡ failed_after (K.has_failed self.old.sink.now) result }
         ensures same_sink { self.new.sink.ghost_name ≡ self.old.sink.ghost_name }
+        ensures same_notation { self.new.notation ≡ self.old.notation }
+        ensures same_filter { self.new.filter ≡ self.old.filter }
     {
         self.text.clear();
         // There is room for every line, and nothing else makes this fail.
@@ -95,6 +101,8 @@ impl<'a, K: Sink> Lines<'a, K> {
             (held_by (K.held self.new.sink.now) self.new.waiting)) }
         ensures failure { K.has_failed self.new.sink.now ≡ failed_after (K.has_failed self.old.sink.now) result }
         ensures same_sink { self.new.sink.ghost_name ≡ self.old.sink.ghost_name }
+        ensures same_notation { self.new.notation ≡ self.old.notation }
+        ensures same_filter { self.new.filter ≡ self.old.filter }
     {
         self.write(line)
     }
@@ -106,6 +114,8 @@ impl<'a, K: Sink> Lines<'a, K> {
             (held_by (K.held self.new.sink.now) self.new.waiting)) }
         ensures failure { K.has_failed self.new.sink.now ≡ failed_after (K.has_failed self.old.sink.now) result }
         ensures same_sink { self.new.sink.ghost_name ≡ self.old.sink.ghost_name }
+        ensures same_notation { self.new.notation ≡ self.old.notation }
+        ensures same_filter { self.new.filter ≡ self.old.filter }
     {
         match self.notation {
             Notation::Text => self.waiting.put_line(self.sink, head_of(format)),
@@ -120,6 +130,8 @@ impl<'a, K: Sink> Lines<'a, K> {
             (held_by (K.held self.new.sink.now) self.new.waiting)) }
         ensures failure { K.has_failed self.new.sink.now ≡ failed_after (K.has_failed self.old.sink.now) result }
         ensures same_sink { self.new.sink.ghost_name ≡ self.old.sink.ghost_name }
+        ensures same_notation { self.new.notation ≡ self.old.notation }
+        ensures same_filter { self.new.filter ≡ self.old.filter }
     {
         match (self.notation, *summary) {
             (Notation::Text, _) => self.print(summary),
@@ -137,9 +149,14 @@ impl<'a, K: Sink> Lines<'a, K> {
         ensures line { OnOk result (Passes self.old.filter place
             → PutsLine (held_by (K.held self.old.sink.now) self.old.waiting)
             (held_by (K.held self.new.sink.now) self.new.waiting)) }
-        ensures others { OnOk result ((Passes self.old.filter place → ⊥) → self.new.sink.now ≡ self.old.sink.now) }
+        ensures others { OnOk result ((Passes self.old.filter place → ⊥)
+            → (self.new.sink.now ≡ self.old.sink.now) × (self.new.waiting ≡ self.old.waiting)) }
+        ensures lines { OnOk result (PutsLines (lines_at self.old.filter place)
+            (held_by (K.held self.old.sink.now) self.old.waiting) (held_by (K.held self.new.sink.now) self.new.waiting)) }
         ensures failure { K.has_failed self.new.sink.now ≡ failed_after (K.has_failed self.old.sink.now) result }
         ensures same_sink { self.new.sink.ghost_name ≡ self.old.sink.ghost_name }
+        ensures same_notation { self.new.notation ≡ self.old.notation }
+        ensures same_filter { self.new.filter ≡ self.old.filter }
     {
         if self.filter.passes(place) {
             self.print(line)
@@ -149,7 +166,9 @@ impl<'a, K: Sink> Lines<'a, K> {
     }
 
     /// The frames that the filter lets pass.
-    pub(crate) fn frames(&self) -> Frames {
+    pub(crate) fn frames(&self) -> Frames
+        ensures value { result ≡ frames_of self.now.filter }
+    {
         self.filter.frames()
     }
 
@@ -159,8 +178,12 @@ impl<'a, K: Sink> Lines<'a, K> {
         ensures line { OnOk result (IsInSlot self.old.filter slot → slot ≤ length strip.now.marks
             → PutsLine (held_by (K.held self.old.sink.now) self.old.waiting)
             (held_by (K.held self.new.sink.now) self.new.waiting)) }
+        ensures lines { OnOk result (PutsLines (lines_of_slot self.old.filter slot strip.now)
+            (held_by (K.held self.old.sink.now) self.old.waiting) (held_by (K.held self.new.sink.now) self.new.waiting)) }
         ensures failure { K.has_failed self.new.sink.now ≡ failed_after (K.has_failed self.old.sink.now) result }
         ensures same_sink { self.new.sink.ghost_name ≡ self.old.sink.ghost_name }
+        ensures same_notation { self.new.notation ≡ self.old.notation }
+        ensures same_filter { self.new.filter ≡ self.old.filter }
     {
         match strip.line(slot) {
             Some(line) if self.filter.has_slot(slot) => self.write(&line),
@@ -170,7 +193,11 @@ impl<'a, K: Sink> Lines<'a, K> {
 }
 
 impl<K: Sink> BurstLines for Lines<'_, K> {
-    ghost given = { λ lines. None };
+    ghost Takes = { λ old line new. (new.filter ≡ old.filter) × (new.notation ≡ old.notation)
+        × PutsLines (lines_at old.filter line.place)
+        (held_by (K.held old.sink.now) old.waiting) (held_by (K.held new.sink.now) new.waiting) };
+
+    ghost Refuses = { λ old line new. (new.filter ≡ old.filter) × (new.notation ≡ old.notation) };
 
     ghost has_failed = { λ lines. K.has_failed lines.sink.now };
 
@@ -185,7 +212,11 @@ impl<K: Sink> BurstLines for Lines<'_, K> {
 }
 
 impl<K: Sink> OutgoingLines for Lines<'_, K> {
-    ghost given = { λ lines. None };
+    ghost Takes = { λ old outgoing new. (new.filter ≡ old.filter) × (new.notation ≡ old.notation)
+        × PutsLines (lines_at old.filter (place_of_outgoing outgoing))
+        (held_by (K.held old.sink.now) old.waiting) (held_by (K.held new.sink.now) new.waiting) };
+
+    ghost Refuses = { λ old outgoing new. (new.filter ≡ old.filter) × (new.notation ≡ old.notation) };
 
     ghost has_failed = { λ lines. K.has_failed lines.sink.now };
 
@@ -205,7 +236,11 @@ impl<K: Sink> OutgoingLines for Lines<'_, K> {
 }
 
 impl<K: Sink> ReceivedLines for Lines<'_, K> {
-    ghost given = { λ lines. None };
+    ghost Takes = { λ old receipt new. (new.filter ≡ old.filter) × (new.notation ≡ old.notation)
+        × PutsLines (lines_at old.filter (place_of_receipt receipt))
+        (held_by (K.held old.sink.now) old.waiting) (held_by (K.held new.sink.now) new.waiting) };
+
+    ghost Refuses = { λ old receipt new. (new.filter ≡ old.filter) × (new.notation ≡ old.notation) };
 
     ghost has_failed = { λ lines. K.has_failed lines.sink.now };
 
@@ -225,7 +260,11 @@ impl<K: Sink> ReceivedLines for Lines<'_, K> {
 }
 
 impl<K: Sink> StripLines for Lines<'_, K> {
-    ghost given = { λ lines. None };
+    ghost Takes = { λ old strip new. (new.filter ≡ old.filter) × (new.notation ≡ old.notation)
+        × PutsLines (lines_of_strip old.filter strip)
+        (held_by (K.held old.sink.now) old.waiting) (held_by (K.held new.sink.now) new.waiting) };
+
+    ghost Refuses = { λ old strip new. (new.filter ≡ old.filter) × (new.notation ≡ old.notation) };
 
     ghost has_failed = { λ lines. K.has_failed lines.sink.now };
 

@@ -3,7 +3,7 @@ ghost use Rattle.std.specs.Prelude.{◌≡◌, ◌≤◌, ◌⊎◌, false, true
 ghost use Rattle.dmr_listing.specs.Endings.{IfFile, IfNotWritten};
 ghost use Rattle.dmr_report.specs.Line.{PutsError};
 ghost use Rattle.dmr_report.specs.Status.{failure, success};
-ghost use Rattle.dmr_show.specs.Showing.{BeginsWithStrip, IsShownWhole, TellsFault};
+ghost use Rattle.dmr_show.specs.Showing.{BeginsWithStrip, IsAtFault, IsShownInPart, IsShownWhole, IsWithoutStrip, TellsFault};
 
 use crate::file_listing::{Shown, show_all};
 use crate::filter::Filter;
@@ -18,6 +18,7 @@ use std::alloc::{AllocError, Global};
 const LONGEST_LINE: usize = 2 * OCTET_LIMIT + 100;
 
 /// Prints a file in a form to a sink, which has all that was printed once this answers.
+#[tactic(auto, using(crate::proofs::Shown::whole_begun, crate::proofs::Shown::fault_begun, crate::proofs::Shown::none_begun))]
 fn show_to<S: Source, K: Sink>(
     form: Form,
     source: &mut S,
@@ -29,9 +30,13 @@ fn show_to<S: Source, K: Sink>(
     requires source { S.has_failed source.old ≡ false }
     requires out { K.has_failed out.old ≡ false }
     requires room { 65535 ≤ length room.old }
-    ensures whole { IfOk result (λ shown. shown ≡ Shown.Whole → IsShownWhole (S.left source.old) (S.left source.new)) }
+    ensures whole { IfOk result (λ shown. shown ≡ Shown.Whole → IsShownWhole form filter
+        (S.left source.old) (S.left source.new) (K.held out.old) (K.held out.new)) }
     ensures strip { IfOk result (λ shown. shown ≡ Shown.Whole → form ≡ Form.Strip → BeginsWithStrip true (S.left source.old)) }
-    ensures none { IfOk result (λ shown. shown ≡ Shown.NoStrip → (form ≡ Form.Strip) × BeginsWithStrip false (S.left source.old)) }
+    ensures none { IfOk result (λ shown. shown ≡ Shown.NoStrip
+        → IsWithoutStrip form (S.left source.old) (K.held out.old) (K.held out.new)) }
+    ensures fault { IfErr result (λ e. IfFile e (λ fault. IsAtFault form filter fault
+        (S.left source.old) (S.left source.new) (K.held out.old) (K.held out.new))) }
     ensures output { IfErr result (λ e. IfNotWritten e (K.has_failed out.new ≡ true)) }
     ensures others { IfErr result (λ e. IfFile e (λ fault. K.has_failed out.new ≡ false)) }
     ensures well { OnOk result (K.has_failed out.new ≡ false) }
@@ -102,14 +107,18 @@ pub fn show<S: Source, K: Sink, E: Sink>(
     requires source { S.has_failed source.old ≡ false }
     requires out { K.has_failed out.old ≡ false }
     requires err { E.has_failed err.old ≡ false }
-    // A file of one of the formats was read whole, head and all, and no error is told.
-    ensures whole { result ≡ success → IsShownWhole (S.left source.old) (S.left source.new) }
+    // A file of one of the formats was read whole, head and all, its lines were printed, and no error is told.
+    ensures whole { result ≡ success → IsShownWhole form filter
+        (S.left source.old) (S.left source.new) (K.held out.old) (K.held out.new) }
     ensures success { result ≡ success → err.new ≡ err.old }
     // A strip is of a recording.
     ensures strip { result ≡ success → form ≡ Form.Strip → BeginsWithStrip true (S.left source.old) }
     // Or its fault is told, unless what is shown can't be printed.
     ensures fault { result ≡ failure → K.has_failed out.new ≡ false
         → TellsFault result (K.has_failed out.new) (E.has_failed err.new) (E.held err.old) (E.held err.new) }
+    // Or it was shown in part: up to a fault, or not at all.
+    ensures part { result ≡ failure → K.has_failed out.new ≡ false → IsShownInPart form filter
+        (S.left source.old) (S.left source.new) (K.held out.old) (K.held out.new) }
     ensures alone { (err.new ≡ err.old)
         ⊎ TellsFault result (K.has_failed out.new) (E.has_failed err.new) (E.held err.old) (E.held err.new) }
 

@@ -1,7 +1,7 @@
 use Rattle.std.proofs.Common.{rules, ◌+◌, [], ◌∷◌, ◌++◌, None, Some, sym, ap, ◌∙◌, subst, arith}
 use Rattle.std.proofs.lemmas.List.{length_push}
 use Rattle.dmr_listing.specs.ListingRules.{IsListed, ListingTurn}
-use Rattle.dmr_listing.proofs.Listings.{listed_burst, listed_part, listed_silence, octets_more}
+use Rattle.dmr_listing.proofs.Listings.{listed_burst, listed_none, listed_silence, octets_more, read_part}
 use Rattle.dmr_listing.proofs.listing.list_recording.Goals as goal
 
 pub loop-slot-preserved-in-None : goal.loop-slot-preserved-in-None
@@ -27,12 +27,29 @@ loop-slot-preserved-in-None g c =
         slots ++ None ∷ [],
         omega (arith, more, counted, later),
         ap (λ n. c.loop-slot.octet + n) long ∙ next,
-        subst (λ (t : ListingTurn). IsListed c.args.recording (slots ++ None ∷ []) [] t (g.S.Source.left c.args.source.now)
-            (g.S.Source.left c.read_recording.new.source) (g.L.BurstLines.given c.args.lines.now)
-            (g.L.BurstLines.given c.loop-slot.lines)) (sym turn)
-            (listed_silence c.args.recording slots c.loop-slot.view _ _ _ _ _ listed silence),
+        subst (λ (t : ListingTurn). IsListed g.L.BurstLines.Takes c.args.recording (slots ++ None ∷ []) [] t
+            (g.S.Source.left c.args.source.now) (g.S.Source.left c.read_recording.new.source) c.args.lines.now
+            c.loop-slot.lines) (sym turn)
+            (listed_silence g.L.BurstLines.Takes c.args.recording slots c.loop-slot.view _ _ _ _ _ listed silence),
       );
     }
+
+pub loop-slot-init : goal.loop-slot-init
+loop-slot-init g c = record {
+  source = search rules;
+  lines = search rules;
+  kept = search rules;
+  few = search rules;
+  room = search rules;
+  so_far = (
+    [],
+    search rules,
+    search rules,
+    subst (λ (t : ListingTurn). IsListed g.L.BurstLines.Takes c.args.recording [] [] t (g.S.Source.left c.args.source.now)
+        (g.S.Source.left c.args.source.now) c.args.lines.now c.args.lines.now) (sym c.new-view.ensures.value)
+        (listed_none g.L.BurstLines.Takes c.args.recording _ _),
+  );
+}
 
 pub returns-then-is_err-clause-output : goal.returns-then-is_err-clause-output
 returns-then-is_err-clause-output g c =
@@ -41,9 +58,13 @@ returns-then-is_err-clause-output g c =
     let burst = rw c.in-Some.is at read in
     record {
       slots = slots;
+      lines = listed.lines;
       burst = c.in-Some.burst;
       end = c.loop-slot.view;
-      before = listed_part c.args.recording slots _ c.loop-slot.view _ _ _ _ _ _ listed burst (search rules);
+      read = read_part c.args.recording slots listed.lines _ c.loop-slot.view _ _ _ listed.read burst;
+      line = c.line-line.result;
+      next = c.line-line.ensures.line;
+      given = record { between = c.loop-slot.lines; taken = listed.given; last = search rules };
     }
 
 pub loop-slot-preserved : goal.loop-slot-preserved
@@ -71,10 +92,10 @@ loop-slot-preserved g c =
         slots ++ Some burst ∷ [],
         omega (arith, more, counted, later),
         ap (λ n. c.loop-slot.octet + n) long ∙ next,
-        subst (λ (t : ListingTurn). IsListed c.args.recording (slots ++ Some burst ∷ []) [] t (g.S.Source.left c.args.source.now)
-            (g.S.Source.left c.read_recording.new.source) (g.L.BurstLines.given c.args.lines.now)
-            (g.L.BurstLines.given c.put.new.self)) (sym turn)
-            (listed_burst c.args.recording slots c.loop-slot.view burst c.line-line.result _ _ _ _ _ _ listed is_burst spelled
-            c.line-line.ensures.line (search rules)),
+        subst (λ (t : ListingTurn). IsListed g.L.BurstLines.Takes c.args.recording (slots ++ Some burst ∷ []) [] t
+            (g.S.Source.left c.args.source.now) (g.S.Source.left c.read_recording.new.source) c.args.lines.now
+            c.put.new.self) (sym turn)
+            (listed_burst g.L.BurstLines.Takes c.args.recording slots c.loop-slot.view burst c.line-line.result _ _ _ _ _ _
+            listed is_burst spelled c.line-line.ensures.line (search rules)),
       );
     }

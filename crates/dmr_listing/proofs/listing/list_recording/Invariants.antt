@@ -13,8 +13,8 @@ invariant-loop-slot g l = record {
   few : l.view.slots ≤ most_slots_of l.recording;
   room : l.octet ≤ 8 + 37 * l.view.slots;
   so_far : (slots : List RecordedSlot) × (length slots ≡ l.view.slots) × (l.octet ≡ octet_behind (spelling l.recording) slots)
-      × IsListed l.recording slots [] l.view (g.S.Source.left l.initial.source) (g.S.Source.left l.source)
-      (g.L.BurstLines.given l.initial.lines) (g.L.BurstLines.given l.lines);
+      × IsListed g.L.BurstLines.Takes l.recording slots [] l.view (g.S.Source.left l.initial.source) (g.S.Source.left l.source)
+      l.initial.lines l.lines;
 }
 
 abbrev pub decreases-loop-slot : goal.decreases-loop-slot

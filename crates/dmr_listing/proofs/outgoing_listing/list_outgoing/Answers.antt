@@ -1,4 +1,4 @@
-use Rattle.std.proofs.Common.{rules, ◌+◌, [], ◌∷◌, ◌++◌, ap, ◌∙◌, arith}
+use Rattle.std.proofs.Common.{rules, ◌+◌, [], ◌∷◌, ◌++◌, refl, ap, ◌∙◌, arith}
 use Rattle.std.proofs.lemmas.List.{length_push}
 use Rattle.dmr_record.specs.Outgoing.{Sending, sending_octets, sending_of}
 use Rattle.dmr_listing.proofs.OutgoingListings.{last_more, outgoing_more, outgoing_octets_more, outgoing_part}
@@ -13,7 +13,12 @@ returns-then-is_err-clause-output g c =
     record {
       sendings = sendings;
       next = next;
-      before = outgoing_part sendings (sending_octets next) _ _ _ _ _ _ listed took (search rules);
+      read = outgoing_part sendings (sending_octets next) _ _ _ listed.read took;
+      between = c.loop-record.lines;
+      given = listed.given;
+      refused = c.in-Ok-Some.record;
+      same = record { keeps = keeps; same = refl };
+      last = search rules;
     }
 
 pub loop-record-preserved : goal.loop-record-preserved
@@ -40,7 +45,7 @@ loop-record-preserved g c =
         omega (arith, more, counted),
         last_more 0 sendings next,
         ap (λ n. c.loop-record.octet + (9 + n)) (from ∙ long) ∙ begins,
-        outgoing_more sendings datagram read _ _ _ _ _ _ listed keeps is_sending (omega (arith, frame, behind)) took (search
-            rules),
+        outgoing_more g.L.OutgoingLines.Takes sendings datagram read _ _ _ _ _ _ listed keeps is_sending
+            (omega (arith, frame, behind)) took (search rules),
       );
     }

@@ -15,8 +15,8 @@ invariant-loop-record g l = record {
   room : l.octet ≤ 8 + 65544 * l.count;
   so_far : (sendings : List Sending) × (length sendings ≡ l.count) × (frame_of_last 0 sendings ≡ l.last)
       × (l.octet ≡ octet_behind sending_octets sendings)
-      × IsListed sendings [] (g.S.Source.left l.initial.source) (g.S.Source.left l.source)
-      (g.L.OutgoingLines.given l.initial.lines) (g.L.OutgoingLines.given l.lines);
+      × IsListed g.L.OutgoingLines.Takes sendings [] (g.S.Source.left l.initial.source) (g.S.Source.left l.source)
+      l.initial.lines l.lines;
 }
 
 abbrev pub decreases-loop-record : goal.decreases-loop-record

@@ -20,7 +20,8 @@ returns-then-is_err-clause-output g c =
     record {
       receipts = receipts;
       next = next;
-      before = received_part receipts (receipt_octets next) _ _ _ _ _ _ listed took (search rules);
+      read = received_part receipts (receipt_octets next) _ _ _ listed.read took;
+      given = record { between = c.loop-received.lines; taken = listed.given; last = search rules };
     }
 
 pub loop-received-preserved : goal.loop-received-preserved
@@ -50,6 +51,6 @@ loop-received-preserved g c =
         omega (arith, more, counted),
         last_more None receipts next ∙ ap Some same,
         ap (λ n. c.loop-received.octet + (12 + n)) (from ∙ sym whole) ∙ begins,
-        received_more receipts next _ _ _ _ _ _ listed (is_receipt, is_slot) behind took (search rules),
+        received_more g.L.ReceivedLines.Takes receipts next _ _ _ _ _ _ listed (is_receipt, is_slot) behind took (search rules),
       );
     }

@@ -14,8 +14,8 @@ invariant-loop-received g l = record {
   room : l.octet ≤ 8 + 65547 * l.count;
   so_far : (receipts : List Receipt) × (length receipts ≡ l.count) × (last_fields None receipts ≡ last_read l.last)
       × (l.octet ≡ octet_behind receipt_octets receipts)
-      × IsListed receipts [] (g.S.Source.left l.initial.source) (g.S.Source.left l.source)
-      (g.L.ReceivedLines.given l.initial.lines) (g.L.ReceivedLines.given l.lines);
+      × IsListed g.L.ReceivedLines.Takes receipts [] (g.S.Source.left l.initial.source) (g.S.Source.left l.source)
+      l.initial.lines l.lines;
 }
 
 abbrev pub decreases-loop-received : goal.decreases-loop-received

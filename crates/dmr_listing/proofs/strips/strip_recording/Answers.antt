@@ -21,10 +21,10 @@ loop-slot-init g c = record {
     [],
     search rules,
     search rules,
-    subst (λ (t : ListingTurn). IsDrawn c.args.recording c.args.frames [] [] t (g.S.Source.left c.args.source.now)
-        (g.S.Source.left c.args.source.now) c.new-strip.result (g.L.StripLines.given c.args.lines.now)
-        (g.L.StripLines.given c.args.lines.now)) (sym c.new-view.ensures.value)
-        (drawn_none c.args.recording c.args.frames _ c.new-strip.result _ c.new-strip.ensures.none),
+    subst (λ (t : ListingTurn). IsDrawn g.L.StripLines.Takes c.args.recording c.args.frames [] [] t
+        (g.S.Source.left c.args.source.now) (g.S.Source.left c.args.source.now) c.new-strip.result c.args.lines.now
+        c.args.lines.now) (sym c.new-view.ensures.value)
+        (drawn_none g.L.StripLines.Takes c.args.recording c.args.frames _ c.new-strip.result _ c.new-strip.ensures.none),
   );
 }
 
@@ -32,8 +32,10 @@ pub returns-then-is_err-clause-output : goal.returns-then-is_err-clause-output
 returns-then-is_err-clause-output g c =
     let (slots, counted, octet, drawn) = c.loop-slot.invariant.so_far in
     let (even, read, at_end) = rw c.in-Ok-None.field-0-is at c.in-Ok-None.ensures.end in
-    stripped_up_to_strip c.args.recording c.args.frames slots [] c.loop-slot.view _ _ c.loop-slot.strip _ _ _
-    (drawn_part c.args.recording c.args.frames slots [] c.loop-slot.view _ _ _ c.loop-slot.strip _ _ drawn read)
+    stripped_up_to_strip g.L.StripLines.Takes g.L.StripLines.Refuses c.args.recording c.args.frames slots [] c.loop-slot.view
+    _ _ c.loop-slot.strip _ _ _
+    (drawn_part g.L.StripLines.Takes c.args.recording c.args.frames slots [] c.loop-slot.view _ _ _ c.loop-slot.strip _ _
+    drawn read)
     (search rules) (search rules)
 
 pub returns-in-Ok-None-clause-all : goal.returns-in-Ok-None-clause-all
@@ -44,8 +46,9 @@ returns-in-Ok-None-clause-all g c =
     let after = c.slots-frames.ensures.value in (
       slots,
       c.loop-slot.view,
-      stripped c.args.recording c.args.frames slots [] c.loop-slot.view _ _ c.loop-slot.strip _ _ _
-          (drawn_part c.args.recording c.args.frames slots [] c.loop-slot.view _ _ _ c.loop-slot.strip _ _ drawn read)
+      stripped g.L.StripLines.Takes c.args.recording c.args.frames slots [] c.loop-slot.view _ _ c.loop-slot.strip _ _ _
+          (drawn_part g.L.StripLines.Takes c.args.recording c.args.frames slots [] c.loop-slot.view _ _ _ c.loop-slot.strip _
+          _ drawn read)
           (search rules),
       omega (arith, even, before, after, counted),
       c.bursts-bursts.ensures.value,
@@ -55,8 +58,10 @@ pub returns-then-is_err-2-clause-output : goal.returns-then-is_err-2-clause-outp
 returns-then-is_err-2-clause-output g c =
     let (slots, counted, octet, drawn) = c.loop-slot.invariant.so_far in
     let (taken, read, fault) = c.in-Err.ensures.fault in
-    stripped_up_to_strip c.args.recording c.args.frames slots taken c.loop-slot.view _ _ c.loop-slot.strip _ _ _
-    (drawn_part c.args.recording c.args.frames slots taken c.loop-slot.view _ _ _ c.loop-slot.strip _ _ drawn read)
+    stripped_up_to_strip g.L.StripLines.Takes g.L.StripLines.Refuses c.args.recording c.args.frames slots taken
+    c.loop-slot.view _ _ c.loop-slot.strip _ _ _
+    (drawn_part g.L.StripLines.Takes c.args.recording c.args.frames slots taken c.loop-slot.view _ _ _ c.loop-slot.strip _ _
+    drawn read)
     (search rules) (search rules)
 
 pub returns-in-Err-clause-fault : goal.returns-in-Err-clause-fault
@@ -65,16 +70,23 @@ returns-in-Err-clause-fault g c =
     let (taken, read, fault) = c.in-Err.ensures.fault in
     let before = c.slots.ensures.value in
     let after = c.slots-in-Err.ensures.value in
+    let all = stripped g.L.StripLines.Takes c.args.recording c.args.frames slots taken c.loop-slot.view _ _ c.loop-slot.strip _ _ _
+    (drawn_part g.L.StripLines.Takes c.args.recording c.args.frames slots taken c.loop-slot.view _ _ _ c.loop-slot.strip _ _ drawn
+    read) (search rules) in
     record {
       slots = slots;
-      part = taken;
-      end = c.loop-slot.view;
-      before = stripped c.args.recording c.args.frames slots taken c.loop-slot.view _ _ c.loop-slot.strip _ _ _
-          (drawn_part c.args.recording c.args.frames slots taken c.loop-slot.view _ _ _ c.loop-slot.strip _ _ drawn read)
-          (search rules);
-      shown = subst (λ n. ShowsSlotFaultOf c.args.recording n c.in-Err.fault taken) (before ∙ sym counted) fault;
-      octet = octet;
-      place = ap Some (c.of_slot.ensures.value ∙ ap place_by_number (after ∙ sym counted));
+      lines = all.lines;
+      read = record {
+        part = taken;
+        end = c.loop-slot.view;
+        before = all.read;
+        shown = subst (λ n. ShowsSlotFaultOf c.args.recording n c.in-Err.fault taken) (before ∙ sym counted) fault;
+        octet = octet;
+        place = ap Some (c.of_slot.ensures.value ∙ ap place_by_number (after ∙ sym counted));
+      };
+      strips = all.strips;
+      drawn = all.drawn;
+      given = all.given;
     }
 
 pub returns-then-is_err-3-clause-output : goal.returns-then-is_err-3-clause-output
@@ -82,9 +94,10 @@ returns-then-is_err-3-clause-output g c =
     let (slots, counted, octet, drawn) = c.loop-slot.invariant.so_far in
     let (below, is_slot, read) = rw c.in-Ok-Some.field-0-is at c.in-Ok-Some.ensures.slot in
     let at = c.of_slot-place.ensures.value ∙ ap place_by_number c.slots-in-loop-slot.ensures.value in
-    full_up_to_strip c.args.recording c.args.frames (slots ++ c.in-Ok-Some.slot ∷ []) c.mark-mark.new.self _ _ _
+    full_up_to_strip g.L.StripLines.Takes g.L.StripLines.Refuses c.args.recording c.args.frames (slots ++ c.in-Ok-Some.slot ∷
+    []) c.mark-mark.new.self _ _ _
     c.add.new.strip _ _ _
-    (drawn_pushed c.args.recording c.args.frames slots c.loop-slot.view c.in-Ok-Some.slot c.mark-mark.result
+    (drawn_pushed g.L.StripLines.Takes c.args.recording c.args.frames slots c.loop-slot.view c.in-Ok-Some.slot c.mark-mark.result
     c.mark-mark.new.self c.of_slot-place.result _ _ _ c.loop-slot.strip _ _ drawn c.loop-slot.invariant.free is_slot read
     c.mark-mark.ensures.mark at) (search rules)
 
@@ -112,8 +125,10 @@ loop-slot-preserved g c =
         slots ++ slot ∷ [],
         omega (arith, more, counted, later),
         ap (λ n. c.loop-slot.octet + n) long ∙ next,
-        drawn_given c.args.recording c.args.frames (slots ++ slot ∷ []) c.mark-mark.new.self _ _ _ c.add.new.strip _ _ _
-            (drawn_pushed c.args.recording c.args.frames slots c.loop-slot.view slot c.mark-mark.result c.mark-mark.new.self
+        drawn_given g.L.StripLines.Takes c.args.recording c.args.frames (slots ++ slot ∷ []) c.mark-mark.new.self _ _ _
+            c.add.new.strip _ _ _
+            (drawn_pushed g.L.StripLines.Takes c.args.recording c.args.frames slots c.loop-slot.view slot c.mark-mark.result
+            c.mark-mark.new.self
             c.of_slot-place.result _ _ _ c.loop-slot.strip _ _ drawn inv.free is_slot read c.mark-mark.ensures.mark at)
             (search rules),
       );

@@ -14,8 +14,8 @@ invariant-loop-slot g l = record {
   room : l.octet ≤ 8 + 37 * l.view.slots;
   free : length l.strip.marks < most_marks;
   so_far : (slots : List RecordedSlot) × (length slots ≡ l.view.slots) × (l.octet ≡ octet_behind (spelling l.recording) slots)
-      × IsDrawn l.recording l.frames slots [] l.view (g.S.Source.left l.initial.source) (g.S.Source.left l.source) l.strip
-      (g.L.StripLines.given l.initial.lines) (g.L.StripLines.given l.lines);
+      × IsDrawn g.L.StripLines.Takes l.recording l.frames slots [] l.view (g.S.Source.left l.initial.source)
+      (g.S.Source.left l.source) l.strip l.initial.lines l.lines;
 }
 
 abbrev pub decreases-loop-slot : goal.decreases-loop-slot
