@@ -2,7 +2,8 @@
 use native.Mathlib.Omega.{arith}
 use Rattle.std.proofs.Common.{◌≡◌, ◌∙◌, ℕ, ◌+◌, ◌<◌, ◌≤◌, List, [], ◌∷◌, ◌++◌, length, take, drop, slice_set, ap, sym}
 use Rattle.std.proofs.Math.Seq.{paste}
-use Rattle.std.proofs.lemmas.List.{drop-set-add, drop-take, take_more_set, take_at, drop-drop, length-drop, length-append, length-take-le}
+use Rattle.std.proofs.lemmas.List.{drop-set-add, drop-take, take_more_set, take_at, drop-drop}
+use Rattle.std.proofs.lemmas.List.{length-drop, length-append, length-take-le}
 
 -- One place on, what is heard in it stands behind the five that stay.
 pub slides : {X : Type 0} (places : List X) (from : ℕ) (heard : X) → from + 6 < length places
