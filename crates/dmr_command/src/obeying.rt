@@ -9,7 +9,9 @@ use crate::request::{Request, request_of};
 use clap::Error;
 use dmr_files::{OpenFault, Place, System, open_source, run_places};
 use dmr_record::Sink;
-use dmr_report::{FAILURE, RunEnd, SUCCESS, USAGE, print_end, print_error, print_slot, print_text};
+use dmr_report::{
+    FAILURE, RunEnd, SUCCESS, USAGE, line_of, print_end, print_error, print_slot, print_text,
+};
 use dmr_show::{Filter, Form, print_want_of_memory, show};
 use std::alloc::Global;
 use std::convert::AsStr;
@@ -37,9 +39,10 @@ fn print_cannot_open<E: Sink>(alloc: Global, name: &str, err: &mut E)
     requires err { E.has_failed err.old ≡ false }
     ensures error { E.has_failed err.new ≡ false → PutsError (E.held err.old) (E.held err.new) }
 {
+    let name = line_of(name);
     match format!(in alloc; "{name}: cannot open") {
         Ok(text) => {
-            let _failure = print_error(err, text.as_str(), FAILURE);
+            let _failure = print_error(err, line_of(text.as_str()), FAILURE);
         }
         Err(_) => print_want_of_memory(err),
     }

@@ -1,6 +1,11 @@
 -- The octets of lines.
-use Rattle.std.specs.Prelude.{ℕ, List, ◌++◌, Option, codes}
+use Rattle.std.specs.Prelude.{ℕ, ◌≢◌, List, ◌++◌, Option, codes}
 use Rattle.std.specs.Io.KnownBytes.{Appends}
+use Rattle.std.specs.List.{All}
+
+-- a text with no line feed in it
+abbrev pub IsOneLine : List ℕ → Type 0
+IsOneLine text = All (λ octet. octet ≢ 10) text
 
 -- a text and a line feed
 abbrev pub line_octets : List ℕ → List ℕ
@@ -13,9 +18,11 @@ error_octets message = codes "error: " ++ line_octets message
 -- One line was put, of some text.
 pub record PutsLine (old new : Option (List ℕ)) : Type 0 where
   pub text : List ℕ
+  pub one : IsOneLine text
   pub octets : Appends old new (line_octets text)
 
 -- One line was put that begins with `error: `.
 pub record PutsError (old new : Option (List ℕ)) : Type 0 where
   pub message : List ℕ
+  pub one : IsOneLine message
   pub octets : Appends old new (error_octets message)

@@ -4,7 +4,7 @@ ghost use Rattle.dmr_report.specs.Line.{PutsError, PutsLine};
 ghost use Rattle.dmr_report.specs.RunEnd.{IsDone, status_of};
 ghost use Rattle.dmr_report.specs.Status.{failure};
 
-use crate::line::{print_error, print_line, text_of};
+use crate::line::{line_of, print_error, print_line, text_of};
 use crate::status::{FAILURE, SUCCESS, USAGE};
 use dmr_gateway::ConfigFault;
 use dmr_record::Sink;
@@ -71,10 +71,11 @@ pub fn print_end<K: Sink, E: Sink>(end: &RunEnd, out: &mut K, err: &mut E) -> u8
     ensures err_failed { E.has_failed err.new ≡ true → result ≡ failure }
 {
     let text = text_of(end);
+    let line = line_of(text.as_str());
     match end {
-        RunEnd::Done(_) => print_line(out, text.as_str(), SUCCESS),
-        RunEnd::Fault(_) => print_error(err, text.as_str(), FAILURE),
-        RunEnd::CannotOpen(_) => print_error(err, text.as_str(), FAILURE),
-        RunEnd::Setting(_) => print_error(err, text.as_str(), USAGE),
+        RunEnd::Done(_) => print_line(out, line, SUCCESS),
+        RunEnd::Fault(_) => print_error(err, line, FAILURE),
+        RunEnd::CannotOpen(_) => print_error(err, line, FAILURE),
+        RunEnd::Setting(_) => print_error(err, line, USAGE),
     }
 }

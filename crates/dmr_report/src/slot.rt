@@ -6,7 +6,7 @@ ghost use Rattle.dmr_report.specs.Line.{error_octets, PutsLine};
 ghost use Rattle.dmr_report.specs.Digits.{IsBurstText};
 ghost use Rattle.dmr_report.specs.Status.{failure, success, usage};
 
-use crate::line::{print_error, print_line, text_of};
+use crate::line::{line_of, print_error, print_line, text_of};
 use crate::reading::read_burst;
 use crate::status::{SUCCESS, USAGE};
 use dmr_record::Sink;
@@ -41,8 +41,8 @@ pub fn print_slot<K: Sink, E: Sink>(text: &str, out: &mut K, err: &mut E) -> u8
 {
     match burst_of(text) {
         Some(burst) => {
-            let line = text_of(&read_burst(&burst));
-            print_line(out, line.as_str(), SUCCESS)
+            let text = text_of(&read_burst(&burst));
+            print_line(out, line_of(text.as_str()), SUCCESS)
         }
         None => print_error(err, "a burst is 66 hexadecimal digits", USAGE),
     }

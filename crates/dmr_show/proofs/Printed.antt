@@ -5,12 +5,13 @@ use Rattle.std.specs.Prelude.{Result, Ok, Err, OnOk}
 use Rattle.std.proofs.Common.{ap, ◌∙◌, subst, arith, append-nil}
 use Rattle.std.proofs.KnownBytes.{Appends-nil, Appends-trans}
 use Rattle.std.proofs.lemmas.List.{length-append}
+use Rattle.std.proofs.lemmas.List.Elements.{All-append, All-cons, All-nil}
 use Rattle.std.proofs.lemmas.List.Concat.{flat_map-append}
 use Rattle.std.proofs.lemmas.List.Sums.{sum_by-cons}
 use Rattle.std.specs.Io.KnownBytes.{Appends}
 use Rattle.std.specs.List.{sum_by}
 use Rattle.dmr_listing.specs.ListingRules.{GivenInTurn}
-use Rattle.dmr_report.specs.Line.{PutsLine, line_octets}
+use Rattle.dmr_report.specs.Line.{IsOneLine, PutsLine, line_octets}
 use Rattle.dmr_show.specs.Held.{held_by}
 use Rattle.dmr_show.specs.Printed.{PutsLines, lines_of_slot, lines_of_strip}
 use Rattle.dmr_show.specs.declared.filter.Filter.{Filter}
@@ -18,12 +19,13 @@ use Rattle.dmr_show.specs.declared.form.Notation.{Notation}
 use Rattle.dmr_listing.specs.Strips.{Picture}
 
 pub puts_none : (a : Option (List ℕ)) → PutsLines 0 a a
-puts_none a = record { texts = []; many = refl; octets = Appends-nil a }
+puts_none a = record { texts = []; many = refl; each = All-nil IsOneLine; octets = Appends-nil a }
 
 pub puts_one : (a b : Option (List ℕ)) → PutsLine a b → PutsLines 1 a b
 puts_one a b line = record {
   texts = line.text ∷ [];
   many = refl;
+  each = All-cons IsOneLine line.text [] line.one (All-nil IsOneLine);
   octets = subst (Appends a b) (sym (append-nil (line_octets line.text))) line.octets;
 }
 
@@ -31,6 +33,7 @@ pub puts_more : (m n : ℕ) (a b c : Option (List ℕ)) → PutsLines m a b → 
 puts_more m n a b c first next = record {
   texts = first.texts ++ next.texts;
   many = omega (arith, length-append first.texts next.texts, first.many, next.many);
+  each = All-append IsOneLine first.texts next.texts first.each next.each;
   octets = subst (Appends a c) (sym (flat_map-append line_octets first.texts next.texts))
       (Appends-trans a b c _ _ first.octets next.octets);
 }
@@ -92,7 +95,12 @@ appended_flushed (Some xs) (Some ys) (Some zs) w octets p q = q ∙ p
 pub puts_flushed : (count : ℕ) (a b c : Option (List ℕ)) (w : List ℕ) → PutsLines count a (held_by b w) → Appends b c w
     → PutsLines count a c
 puts_flushed count a b c w lines flushed =
-    record { texts = lines.texts; many = lines.many; octets = appended_flushed a b c w _ lines.octets flushed }
+    record {
+      texts = lines.texts;
+      many = lines.many;
+      each = lines.each;
+      octets = appended_flushed a b c w _ lines.octets flushed;
+    }
 
 -- what is held where nothing waits
 pub held_alone : (a : Option (List ℕ)) (w : List ℕ) → w ≡ [] → held_by a w ≡ a

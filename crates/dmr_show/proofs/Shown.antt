@@ -286,13 +286,14 @@ rest_between asked filter used of summary a b h i j k same rest first last = rec
 }
 
 -- a line before them
-pub rest_behind : (asked : Form) (filter : Filter) (of : FileFormat) (fault : FaultLine) (a b h i j : Option (List ℕ))
-    → PutsLine h i → IsRestShownUpToFault asked filter of fault 0 a b i j → IsRestShownUpToFault asked filter of fault 1 a b h j
-rest_behind asked filter of fault a b h i j first rest = record {
+pub rest_behind : (asked : Form) (filter used : Filter) (of : FileFormat) (fault : FaultLine) (a b h i j : Option (List ℕ))
+    → used ≡ filter → PutsLine h i → IsRestShownUpToFault asked used of fault 0 a b i j
+    → IsRestShownUpToFault asked filter of fault 1 a b h j
+rest_behind asked filter used of fault a b h i j same first rest = record {
   records = rest.records;
   read = rest.read;
   count = rest.count;
-  lines = rest.lines;
+  lines = subst (λ f. HasLines asked f rest.records rest.count) same rest.lines;
   put = puts_as (1 + (0 + rest.count)) _ _ _ (omega arith) (puts_more 1 _ h i j (puts_one h i first) rest.put);
 }
 

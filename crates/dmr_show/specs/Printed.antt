@@ -1,11 +1,11 @@
 -- How many lines are printed of a file.
 use Rattle.std.specs.Prelude.{◌≡◌, ℕ, ◌+◌, ◌-◌, ◌^◌, ◌&&◌, List, Option, if◌then◌else◌, length, nat_le, unwrap_or}
 use Rattle.std.specs.Io.KnownBytes.{Appends}
-use Rattle.std.specs.List.{flat_map, sum_by}
+use Rattle.std.specs.List.{All, flat_map, sum_by}
 use Rattle.dmr_listing.specs.Strips.{AreStrips, Picture, marks_of}
 use Rattle.dmr_listing.specs.declared.frames.Frames.{Frames}
 use Rattle.dmr_listing.specs.declared.place.Place.{Place}
-use Rattle.dmr_report.specs.Line.{line_octets}
+use Rattle.dmr_report.specs.Line.{IsOneLine, line_octets}
 use Rattle.dmr_show.specs.Filter.{is_in_slot, lets_pass}
 use Rattle.dmr_show.specs.Records.{Records, Slots, places_of}
 use Rattle.dmr_show.specs.declared.filter.Filter.{Filter}
@@ -16,6 +16,7 @@ use Rattle.dmr_show.specs.declared.form.Form.TheVariants as form
 pub record PutsLines (count : ℕ) (old new : Option (List ℕ)) : Type 0 where
   pub texts : List (List ℕ)
   pub many : length texts ≡ count
+  pub each : All IsOneLine texts
   pub octets : Appends old new (flat_map line_octets texts)
 
 -- the lines of what stands in a place: one where the filter lets it pass, and else none

@@ -86,7 +86,6 @@ pub(crate) enum Shown {
 }
 
 /// Lists what stands behind the head of a file of this format, between a line for the file and one with what all of it holds.
-#[tactic(auto, using(crate::proofs::Shown::rest_between, crate::proofs::Shown::rest_behind))]
 fn list_rest<S: Source, K: Sink>(
     source: &mut S,
     format: FileFormat,

@@ -6,7 +6,7 @@
 //! Which lines there are and what they show is `dmr_listing`'s, and the objects of JSON are `dmr_json`'s. Contracts cite
 //! `specs/Showing.antt` for files that were read to their end or to a fault, `specs/Records.antt` for what was read of them,
 //! `specs/Printed.antt` for how many lines it has, `specs/Filter.antt`, `specs/Forms.antt` for what lines are written in, and
-//! `specs/Held.antt` for lines that wait to be written. They leave open what the texts are, and whether one has line feeds.
+//! `specs/Held.antt` for lines that wait to be written. They leave open what the texts are, but that each is one line.
 #![tactic(auto)]
 
 mod file_listing;

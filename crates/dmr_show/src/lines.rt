@@ -19,6 +19,7 @@ use dmr_listing::{
     RecordedBurst, RecordingSummary, Strip, StripLines,
 };
 use dmr_record::{DeviceFault, FileFormat, Outgoing, Received, Sink};
+use dmr_report::line_of;
 use std::fmt::{Display, Write};
 
 /// Prints the lines of a file to a sink, each in a notation, as far as a filter lets them pass.
@@ -90,7 +91,8 @@ impl<'a, K: Sink> Lines<'a, K> {
         self.text.clear();
         // There is room for every line, and nothing else makes this fail.
         let _ = write!(self.text, "{line}");
-        self.waiting.put_line(self.sink, self.text.as_str())
+        self.waiting
+            .put_line(self.sink, line_of(self.text.as_str()))
     }
 
     /// Prints a line of the notation that is asked for.
@@ -118,7 +120,7 @@ impl<'a, K: Sink> Lines<'a, K> {
         ensures same_filter { self.new.filter ≡ self.old.filter }
     {
         match self.notation {
-            Notation::Text => self.waiting.put_line(self.sink, head_of(format)),
+            Notation::Text => self.write(&head_of(format)),
             Notation::Json => self.print(&FileObject { format }),
         }
     }

@@ -11,7 +11,7 @@ use crate::form::Form;
 use crate::lines::Lines;
 use dmr_listing::{FaultLine, ListingEnd};
 use dmr_record::{OCTET_LIMIT, Sink, Source};
-use dmr_report::{FAILURE, SUCCESS, print_error};
+use dmr_report::{FAILURE, SUCCESS, line_of, print_error};
 use std::alloc::{AllocError, Global};
 
 /// How many octets the longest line has at most: a received record that is no datagram, in digits, behind its other columns.
@@ -50,7 +50,7 @@ fn tell<E: Sink>(err: &mut E, what: &str)
     requires err { E.has_failed err.old ≡ false }
     ensures error { E.has_failed err.new ≡ false → PutsError (E.held err.old) (E.held err.new) }
 {
-    let _failure = print_error(err, what, FAILURE);
+    let _failure = print_error(err, line_of(what), FAILURE);
 }
 
 /// Tells that there is no memory.
@@ -66,6 +66,8 @@ fn print_fault<E: Sink>(alloc: Global, name: &str, fault: &FaultLine, err: &mut 
     requires err { E.has_failed err.old ≡ false }
     ensures error { E.has_failed err.new ≡ false → PutsError (E.held err.old) (E.held err.new) }
 {
+    // A name may have line feeds: what is told stands behind it in its line.
+    let name = line_of(name);
     match format!(in alloc; "{name}: {fault}") {
         Ok(text) => tell(err, text.as_str()),
         Err(_) => print_want_of_memory(err),
@@ -77,6 +79,7 @@ fn print_no_strip<E: Sink>(alloc: Global, name: &str, err: &mut E)
     requires err { E.has_failed err.old ≡ false }
     ensures error { E.has_failed err.new ≡ false → PutsError (E.held err.old) (E.held err.new) }
 {
+    let name = line_of(name);
     match format!(in alloc; "{name}: a list has no strip") {
         Ok(text) => tell(err, text.as_str()),
         Err(_) => print_want_of_memory(err),

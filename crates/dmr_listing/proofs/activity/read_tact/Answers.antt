@@ -1,0 +1,5 @@
+use Rattle.std.proofs.Common.{rules}
+use Rattle.dmr_listing.proofs.activity.read_tact.Goals as goal
+
+pub returns-clause-read : goal.returns-clause-read
+returns-clause-read c = search rules

@@ -1,0 +1,16 @@
+use Rattle.std.proofs.Common.{◌≢◌, ℕ, ◌<◌, List, length, get_or, None, Some, ◌∙◌, arith}
+use Rattle.std.proofs.lemmas.List.{get_or_default}
+use Rattle.std.proofs.lemmas.Str.Pattern.{split_parts}
+use Rattle.dmr_report.specs.Line.{IsOneLine}
+use Rattle.dmr_report.proofs.line.line_of.Goals as goal
+
+one_line : (text : List ℕ) → ((i : ℕ) → i < length text → get_or text i 0 ≢ 10) → IsOneLine text
+one_line text lacks = λ k d within is. lacks k within (get_or_default text k 0 d within ∙ is)
+
+pub returns-in-Some-clause-one : goal.returns-in-Some-clause-one
+returns-in-Some-clause-one c =
+    let parts = split_parts 10 c.args.text.now (Some (c.in-Some.line, c.in-Some.field-0-1)) c.in-Some.ensures.cases (omega arith) in
+    one_line _ parts.1
+
+pub returns-in-None-clause-one : goal.returns-in-None-clause-one
+returns-in-None-clause-one c = one_line _ (split_parts 10 c.args.text.now None c.in-None.ensures.cases (omega arith))
