@@ -114,6 +114,26 @@ fn refused_offers(rt: HostRuntime) {
     assert!(rt; frame(&mut gateway, None).is_none());
 }
 
+// A gateway that refused datagrams sends the next one as one does that was never offered them.
+#[test]
+fn datagram_behind_refused_ones(rt: HostRuntime) {
+    let mut refusing = gateway(&rt, rt.alloc());
+    let mut other = gateway(&rt, rt.alloc());
+    for (confirmed, octets, fault) in REFUSED {
+        let offered = refusing.offer(&outgoing(confirmed, octets));
+        assert!(rt; offered == Err(fault), "{fault}");
+    }
+    assert!(rt; refusing.offer(&outgoing(false, &EMPTY_DATAGRAM)).is_ok());
+    assert!(rt; other.offer(&outgoing(false, &EMPTY_DATAGRAM)).is_ok());
+    let first = frame(&mut refusing, None);
+    assert!(rt; first.is_some());
+    assert!(rt; first == frame(&mut other, None));
+    for place in 1..6u8 {
+        let burst = frame(&mut refusing, None);
+        assert!(rt; burst == frame(&mut other, None), "burst {place}");
+    }
+}
+
 // With another destination its checksum is wrong, so that it has no compressed form: three blocks, which count five bursts.
 #[test]
 fn datagram_to_a_group(rt: HostRuntime) {
