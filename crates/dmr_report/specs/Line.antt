@@ -1,11 +1,15 @@
 -- The octets of lines.
-use Rattle.std.specs.Prelude.{ℕ, ◌≢◌, List, ◌++◌, Option, codes}
+use Rattle.std.specs.Prelude.{ℕ, ◌≢◌, ◌==◌, List, ◌++◌, Option, codes}
 use Rattle.std.specs.Io.KnownBytes.{Appends}
-use Rattle.std.specs.List.{All}
+use Rattle.std.specs.List.{All, before_first}
 
 -- a text with no line feed in it
 abbrev pub IsOneLine : List ℕ → Type 0
 IsOneLine text = All (λ octet. octet ≢ 10) text
+
+-- what stands before the first line feed of a text, or all of it where it has none
+abbrev pub first_line : List ℕ → List ℕ
+first_line = before_first (λ octet. octet == 10)
 
 -- a text and a line feed
 abbrev pub line_octets : List ℕ → List ℕ

@@ -2,7 +2,7 @@
 ghost use Rattle.std.specs.Prelude.{◌≡◌, false, true, OnOk, OnErr};
 ghost use Rattle.std.specs.Io.KnownBytes.{Appends};
 ghost use Rattle.dmr_record.specs.Devices.{Tears};
-ghost use Rattle.dmr_report.specs.Line.{IsOneLine, error_octets, line_octets};
+ghost use Rattle.dmr_report.specs.Line.{IsOneLine, error_octets, first_line, line_octets};
 ghost use Rattle.dmr_report.specs.Status.{failure};
 
 use crate::status::FAILURE;
@@ -23,6 +23,7 @@ pub(crate) fn text_of<T: Display>(value: &T) -> Text {
 
 /// A text up to its first line feed, so that it has one line whatever it prints: all of it, where it has none.
 pub fn line_of(text: &str) -> &str
+    ensures line { result.now ≡ first_line text.now }
     ensures one { IsOneLine result.now }
     ensures whole { IsOneLine text.now → result.now ≡ text.now }
 {

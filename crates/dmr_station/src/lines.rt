@@ -97,12 +97,16 @@ impl Lines {
         ensures bound { result.1 ≤ 2 }
     {
         let outs = [self.first.push(&frame[0]), self.second.push(&frame[1])];
-        let first = next_burst(&mut self.gateway, 1, &outs[0]);
-        let second = next_burst(&mut self.gateway, 2, &outs[1]);
-        let bursts = self.channel.frame(&outs, &[first, second]);
+        let gate = [
+            next_burst(&mut self.gateway, 1, &outs[0]),
+            next_burst(&mut self.gateway, 2, &outs[1]),
+        ];
+        let bursts = self.channel.frame(&outs, &gate);
         let message = self.announcer.next(&outs);
         let records = encode_frame(place, message, &outs, &bursts, fragments);
-        (records, count_repeated(&outs, &bursts))
+        let repeated = count_repeated(&outs, &bursts);
+        self.channel.go_on(&outs, &gate);
+        (records, repeated)
     }
 
     /// Whether the gateway received nothing that isn't taken yet.

@@ -1,5 +1,5 @@
 //! The octets of what a slot of the downlink sends.
-ghost use Rattle.std.specs.Prelude.{◌≡◌, ◌≤◌, ◌<◌, ◌^◌, ◌+◌, IfSome, All};
+ghost use Rattle.std.specs.Prelude.{◌≡◌, ◌≤◌, ◌<◌, ◌^◌, ◌+◌, IfSome, All, map, option_copied};
 ghost use Rattle.dmr_burst.specs.Burst.{IsBurst};
 ghost use Rattle.dmr_station.specs.Announced.{IsFitMessage};
 ghost use Rattle.dmr_station.specs.DownlinkRules.{is_repeated as slot_is_repeated, repeated_count};
@@ -25,12 +25,12 @@ fn encode_slot(
     place: u32,
     message: Message,
     out: &SlotOut,
-    burst: &Option<Burst>,
+    burst: Option<&Burst>,
     fragments: &mut Fragments,
 ) -> Option<([u8; 3], [u8; 33])>
     requires message { IsFitMessage message }
-    requires fits { IfSome burst.now IsBurst }
-    ensures sent { IsSentAs place (marked message out.now burst.now) result }
+    requires fits { IfSome (option_copied burst) IsBurst }
+    ensures sent { IsSentAs place (marked message out.now (option_copied burst.entry)) result }
 {
     match burst {
         Some(burst) => {
@@ -53,31 +53,31 @@ pub(crate) fn encode_frame(
     place: u32,
     message: Message,
     outs: &[SlotOut; 2],
-    bursts: &[Option<Burst>; 2],
+    bursts: &[Option<&Burst>; 2],
     fragments: &mut Fragments,
 ) -> [Option<([u8; 3], [u8; 33])>; 2]
     requires message { IsFitMessage message }
-    requires fit { All (λ burst. IfSome burst IsBurst) bursts.now }
+    requires fit { All (λ burst. IfSome burst IsBurst) (map option_copied bursts.now) }
     requires room { place + 1 < 2 ^ 32 }
-    ensures sent { AreSentAs place (marked_slots message outs.now bursts.now) result }
+    ensures sent { AreSentAs place (marked_slots message outs.now (map option_copied bursts.now)) result }
 {
     [
-        encode_slot(place, message, &outs[0], &bursts[0], fragments),
-        encode_slot(place + 1, message, &outs[1], &bursts[1], fragments),
+        encode_slot(place, message, &outs[0], bursts[0], fragments),
+        encode_slot(place + 1, message, &outs[1], bursts[1], fragments),
     ]
 }
 
 /// Whether a slot sends a repeated burst.
-fn is_repeated(out: &SlotOut, burst: &Option<Burst>) -> bool
-    ensures value { (message : Message) → result ≡ slot_is_repeated (marked message out.now burst.now) }
+fn is_repeated(out: &SlotOut, burst: Option<&Burst>) -> bool
+    ensures value { (message : Message) → result ≡ slot_is_repeated (marked message out.now (option_copied burst.entry)) }
 {
     out.repeated.is_some() && burst.is_some()
 }
 
 /// How many slots of a frame repeat a burst.
-pub(crate) fn count_repeated(outs: &[SlotOut; 2], bursts: &[Option<Burst>; 2]) -> u32
-    ensures value { (message : Message) → result ≡ repeated_count (marked_slots message outs.now bursts.now) }
+pub(crate) fn count_repeated(outs: &[SlotOut; 2], bursts: &[Option<&Burst>; 2]) -> u32
+    ensures value { (message : Message) → result ≡ repeated_count (marked_slots message outs.now (map option_copied bursts.now)) }
     ensures bound { result ≤ 2 }
 {
-    u32::from(is_repeated(&outs[0], &bursts[0])) + u32::from(is_repeated(&outs[1], &bursts[1]))
+    u32::from(is_repeated(&outs[0], bursts[0])) + u32::from(is_repeated(&outs[1], bursts[1]))
 }

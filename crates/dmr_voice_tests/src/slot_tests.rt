@@ -95,7 +95,7 @@ fn sent(letter: u8, colour: u8) -> Option<[u8; 33]>
 
 /// The letter of a burst that goes out: `T` for the call's terminator and `I` for idle, `.` for nothing, and `?` for a burst
 /// that has no letter.
-fn letter_of(burst: &Option<Burst>) -> u8 {
+fn letter_of(burst: Option<&Burst>) -> u8 {
     let Some(burst) = burst else {
         return b'.';
     };
@@ -143,8 +143,11 @@ impl Repeater {
     fn frame(&mut self, first: u8, second: u8) -> (u8, u8) {
         let first = self.first.push(&sent(first, 1));
         let second = self.second.push(&sent(second, 2));
-        let frame = self.channel.frame(&[first, second], &[None, None]);
-        (letter_of(&frame[0]), letter_of(&frame[1]))
+        let (slots, gate) = ([first, second], [None, None]);
+        let frame = self.channel.frame(&slots, &gate);
+        let letters = (letter_of(frame[0]), letter_of(frame[1]));
+        self.channel.go_on(&slots, &gate);
+        letters
     }
 }
 
@@ -209,7 +212,7 @@ fn damaged_call(rt: HostRuntime) -> Result<(), Fail> {
             None => None,
         };
         let slot = line.push(&burst);
-        out.push(letter_of(&slot.repeated.or(slot.hang)))?;
+        out.push(letter_of(slot.repeated.or(slot.hang).as_ref()))?;
     }
     assert_eq!(rt; out.as_slice(), b"......HABCDEFTTT....".as_slice());
     Ok(())
@@ -293,11 +296,12 @@ fn held(letter: u8) -> SlotOut {
 
 /// What the channel sends in both slots, in letters, where their lines hold them with these bursts, and the gateway has these.
 fn channel_frame(channel: &mut Channel, hang: &[u8; 2], gate: &[u8; 2]) -> [u8; 2] {
-    let frame = channel.frame(
-        &[held(hang[0]), held(hang[1])],
-        &[burst_of(gate[0], 1), burst_of(gate[1], 1)],
-    );
-    [letter_of(&frame[0]), letter_of(&frame[1])]
+    let slots = [held(hang[0]), held(hang[1])];
+    let gate = [burst_of(gate[0], 1), burst_of(gate[1], 1)];
+    let frame = channel.frame(&slots, &gate);
+    let letters = [letter_of(frame[0]), letter_of(frame[1])];
+    channel.go_on(&slots, &gate);
+    letters
 }
 
 #[test]
