@@ -107,7 +107,8 @@ impl Station {
         ensures exchanged { IsExchanged self.old frame.now result self.new }
     {
         let place = 2 * self.counts.frames;
-        let (records, repeated) = self.lines.pass(frame, place, &mut self.fragments);
+        let mut records = [None, None];
+        let repeated = self.lines.pass(frame, place, &mut self.fragments, &mut records);
         let outcomes = self.lines.take_outcomes();
         self.counts.frames += 1;
         self.counts.repeated += repeated;
