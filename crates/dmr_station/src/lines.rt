@@ -90,12 +90,11 @@ impl Lines {
         frame: &[Option<[u8; 33]>; 2],
         place: u32,
         fragments: &mut Fragments,
-        records: &mut [Option<([u8; 3], [u8; 33])>; 2],
-    ) -> u32
+    ) -> ([Option<([u8; 3], [u8; 33])>; 2], u32)
         requires room { place + 1 < 2 ^ 32 }
         ensures sent { (sending : List (Option DownlinkBurst)) × IsAsked self.old frame.now sending self.new
-            × AreSentAs place sending records.new × (result ≡ repeated_count sending) }
-        ensures bound { result ≤ 2 }
+            × AreSentAs place sending result.0 × (result.1 ≡ repeated_count sending) }
+        ensures bound { result.1 ≤ 2 }
     {
         let outs = [self.first.push(&frame[0]), self.second.push(&frame[1])];
         let gate = [
@@ -104,10 +103,10 @@ impl Lines {
         ];
         let bursts = self.channel.frame(&outs, &gate);
         let message = self.announcer.next(&outs);
-        *records = encode_frame(place, message, &outs, &bursts, fragments);
+        let records = encode_frame(place, message, &outs, &bursts, fragments);
         let repeated = count_repeated(&outs, &bursts);
         self.channel.go_on(&outs, &gate);
-        repeated
+        (records, repeated)
     }
 
     /// Whether the gateway received nothing that isn't taken yet.

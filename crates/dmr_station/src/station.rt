@@ -107,8 +107,7 @@ impl Station {
         ensures exchanged { IsExchanged self.old frame.now result self.new }
     {
         let place = 2 * self.counts.frames;
-        let mut records = [None, None];
-        let repeated = self.lines.pass(frame, place, &mut self.fragments, &mut records);
+        let (records, repeated) = self.lines.pass(frame, place, &mut self.fragments);
         let outcomes = self.lines.take_outcomes();
         self.counts.frames += 1;
         self.counts.repeated += repeated;
