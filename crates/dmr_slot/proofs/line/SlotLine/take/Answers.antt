@@ -2,7 +2,7 @@ use Rattle.std.proofs.Common.{◌≡◌, ◌∙◌, ap, refl, subst, sym, All}
 use Rattle.dmr_hearing.specs.Fit.{IsFitHeard}
 use Rattle.dmr_voice.specs.Tracking.{Tracking}
 use Rattle.dmr_slot.proofs.Pushing.{fit_after, push_is, sound_after}
-use Rattle.dmr_slot.specs.LineRules.{EndsSilent}
+use Rattle.dmr_slot.specs.LineRules.{EndsSilent, known_after, call_left_after}
 use Rattle.dmr_slot.proofs.Quiet.{heard_silent, state_silent}
 use Rattle.dmr_slot.proofs.line.SlotLine.take.Goals as goal
 
@@ -13,28 +13,40 @@ step-decided-requires c = record {
       (fit_after c.self.inside.recent c.hear-heard.result c.self.invariant.0.heard_fit c.hear-heard.ensures.fit);
 }
 
-ends_after : (c : goal.After-give) → EndsSilent c.silent_after-self-inside.result c.move_on.new.self
+ends_after : (c : goal.After-advance) → EndsSilent c.silent_after-self-inside.result c.move_on.new.self
 ends_after c =
     subst (EndsSilent c.silent_after-self-inside.result)
     (sym c.move_on.ensures.moved)
     (c.silent_after-self-inside.ensures.silent c.self.inside.recent c.hear-heard.result c.self.invariant.1
     (heard_silent c.self.inside.colour c.args.slot.now c.hear-heard.result c.hear-heard.ensures.heard))
 
+-- the call hang goes on from what it was
+known_is : (c : goal.After-advance)
+    → c.advance.new.self.link_control ≡ known_after c.self.inside.hang.link_control c.role_of.result
+known_is c = c.advance.ensures.link_control ∙ ap (λ lc. known_after lc c.role_of.result) c.slot_out-out.ensures.link_control
+
+left_is : (c : goal.After-advance)
+    → c.advance.new.self.left ≡ call_left_after c.self.inside.hang.frames c.self.inside.hang.left c.role_of.result
+left_is c =
+    c.advance.ensures.left
+    ∙ ap (λ frames. call_left_after frames c.slot_out-out.new.hang.left c.role_of.result) c.slot_out-out.ensures.frames
+    ∙ ap (λ left. call_left_after c.self.inside.hang.frames left c.role_of.result) c.slot_out-out.ensures.left
+
 pub invariant_of-self : goal.invariant_of-self
 invariant_of-self c = record {
   0 = sound_after c.self.inside.colour c.self.inside.track c.step-decided.new.self c.self.inside.recent
-      c.move_on.new.self c.self.inside.hang.link_control c.give.new.hang.link_control
-      c.hear-heard.result c.role_of-role.result c.self.invariant.0
+      c.move_on.new.self c.self.inside.hang.link_control c.advance.new.self.link_control
+      c.hear-heard.result c.role_of.result c.self.invariant.0
       c.move_on.ensures.moved c.hear-heard.ensures.fit
       (let k = c.step-decided.ensures.out in ap (λ (t : Tracking). t.colour) (c.step-decided.ensures.state k.0 k.1))
-      c.role_of-role.ensures.fit c.give.ensures.link_control;
+      c.role_of.ensures.fit (known_is c);
   1 = ends_after c;
   2 = let k = c.step-decided.ensures.out in
       state_silent c.self.inside.track.colour c.silent_after-self-inside.result c.self.inside.track.state
       c.step-decided.new.self.state
       c.places.result.now k.0 (subst (EndsSilent c.silent_after-self-inside.result) (sym c.places.ensures.value) (ends_after c))
       (ap (λ (t : Tracking). t.state) (c.step-decided.ensures.state k.0 k.1));
-  3 = c.give.ensures.kept;
+  3 = c.advance.ensures.kept c.self.inside.colour c.slot_out-out.ensures.kept;
 }
 
 pub returns-clause-pushed : goal.returns-clause-pushed
@@ -49,8 +61,8 @@ returns-clause-pushed c =
       lc = c.self.inside.hang.link_control;
     })
     c.self.inside.track c.step-decided.new.self c.args.slot.now c.hear-heard.result c.places.result.now
-    c.step-decided.result c.give.result c.role_of-role.result
-    c.give.new.hang.frames c.give.new.hang.left c.move_on.new.self c.give.new.hang.link_control
+    c.step-decided.result c.slot_out-out.result c.role_of.result
+    c.advance.new.self.frames c.advance.new.self.left c.move_on.new.self c.advance.new.self.link_control
     (record {
       colour_is = c.self.invariant.0.same;
       state_is = refl;
@@ -58,7 +70,7 @@ returns-clause-pushed c =
       hears = record { by_fields = c.hear-heard.ensures.heard; damaged = c.hear-heard.ensures.damaged };
       says = c.step-decided.ensures.out;
       steps = c.step-decided.ensures.state;
-      gives = c.give.ensures.out;
-      role_is = c.role_of-role.ensures.role;
+      gives = c.slot_out-out.ensures.out;
+      role_is = c.role_of.ensures.role;
     })
-    c.give.ensures.frames (sym c.places.ensures.value) c.give.ensures.left c.give.ensures.link_control)
+    (c.advance.ensures.frames ∙ c.slot_out-out.ensures.frames) (sym c.places.ensures.value) (left_is c) (known_is c))
