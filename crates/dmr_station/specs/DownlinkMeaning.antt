@@ -23,14 +23,14 @@ use Rattle.dmr_station.specs.GatewayMeaning.{IsGatewayOf}
 
 -- 1. What both slots mean.
 
--- The line of a slot in which this was sent: six frames later what it means, with the vocoder bits of the recording, or else
--- the call hang.
-abbrev pub line_of_meaning : Settings → List Cell → List (Option (List ℕ)) → List LineOut
-line_of_meaning s cells slots = lines s.call_hang [] (replicate 6 Nothing ++ meant cells slots)
-
 -- What the line of a slot gives, as bursts of the own colour code, is the line of what was sent in the slot.
 abbrev pub IsLineOfWhatIsMeant : Settings → List Cell → List (Option (List ℕ)) → List SlotOut → Type 0
 IsLineOfWhatIsMeant s cells slots outs = AreSlotOuts s.colour (line_of_meaning s cells slots) outs
+  where
+    -- The line of a slot in which this was sent: six frames later what it means, with the vocoder bits of the recording, or else
+    -- the call hang.
+    line_of_meaning : Settings → List Cell → List (Option (List ℕ)) → List LineOut
+    line_of_meaning s cells slots = lines s.call_hang [] (replicate 6 Nothing ++ meant cells slots)
 
 -- The first so many frames of such a line.
 abbrev pub IsFrontOfWhatIsMeant : Settings → List Cell → List (Option (List ℕ)) → ℕ → List SlotOut → Type 0
