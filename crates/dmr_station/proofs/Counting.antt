@@ -3,10 +3,10 @@ use Rattle.std.proofs.Common.{◌≡◌, ℕ, ◌+◌, cond, List, [], ◌∷◌
 use Rattle.std.proofs.lemmas.List.{length-append, length-map}
 use Rattle.std.proofs.lemmas.List.Sums.{sum_by-append, sum_by-cons}
 use Rattle.std.proofs.lemmas.List.Concat.{flat_map-cons}
-use Rattle.std.specs.Prelude.{option_to_list}
+use Rattle.std.specs.Prelude.{option_to_list, flat_map, sum}
 use Rattle.dmr_arq.specs.declared.sender_state.Outcome.{Outcome}
 use Rattle.dmr_arq.specs.declared.sender_state.Outcome.TheVariants.{Delivered, Sent, GivenUp}
-use Rattle.dmr_station.specs.GatewayMeaning.{Given, receipt_in, receipts_of, outcomes_of, outcomes_in, refused_in, counts_of}
+use Rattle.dmr_station.specs.GatewayMeaning.{Given, receipt_in, receipts_of, counts_of}
 use Rattle.dmr_station.specs.StationRules.{FrameGiven, Counts, added, all_counted, counted_frame, is_outcome, outcome_count}
 use Rattle.dmr_station.specs.Station.{receipts_from}
 use Rattle.dmr_station.proofs.Exchanging.{given_in, givens_of}
@@ -38,6 +38,17 @@ receipts_counted frame (a ∷ first) (b ∷ second) =
     ∙ ap (λ n. length (a.received ++ b.received) + n) (receipts_counted (frame + 1) first second)
 
 -- 2. Outcomes and refusals.
+
+-- What became of packets in one slot, and how many ended so.
+abbrev outcomes_of : List Given → List Outcome
+outcomes_of givens = flat_map (λ (g : Given). option_to_list g.outcome) givens
+
+abbrev outcomes_in : Outcome → List Given → ℕ
+outcomes_in outcome givens = outcome_count outcome (outcomes_of givens)
+
+-- How many datagrams one slot refused.
+abbrev refused_in : List Given → ℕ
+refused_in givens = sum (map (λ (g : Given). g.refused) givens)
 
 outcomes_cons : (outcome : Outcome) (g : Given) (more : List Given)
     → outcomes_in outcome (g ∷ more) ≡ outcome_count outcome (option_to_list g.outcome) + outcomes_in outcome more
