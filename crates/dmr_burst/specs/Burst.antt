@@ -1,5 +1,5 @@
 -- Bursts, as they are sent, and what is read back of them. ETSI TS 102 361-1, clauses 6.1, 6.2 and 9.1.
-use Rattle.std.specs.Prelude.{ℕ, ◌≡◌, ◌<◌, Bool, true, false, List, length}
+use Rattle.std.specs.Prelude.{◌≡◌, ◌<◌, Bool, true, false, List, length}
 use Rattle.dmr_bits.specs.Bits.{number_of}
 use Rattle.dmr_codes.specs.Seven.{IsGolay20, IsResidue16}
 use Rattle.dmr_burst.specs.Emb.{emb_of, HasEmb}
