@@ -59,7 +59,8 @@ one_read true None None llid slot o s more packets Rest e m r rest p =
     let faultless_rest = faultless (of_slot slot more) in
     let found : AllZip (IsOffer llid) (s ∷ faultless_rest) packets =
     subst (AllZip (IsOffer llid) (s ∷ faultless_rest)) (sym p.3) (packet_read llid o s p.0 r (sym m) p.2, rest p.1 p.4) in
-    subst (λ (f : Option GatewayFault). AllZip (IsOffer llid) (cond (is_none f) (s ∷ faultless_rest) faultless_rest) packets) m found
+    subst (λ (f : Option GatewayFault). AllZip (IsOffer llid) (cond (is_none f) (s ∷ faultless_rest) faultless_rest) packets) m
+    found
 one_read true (Some fault) (Some other) llid slot o s more packets Rest e m r rest p =
     let faultless_rest = faultless (of_slot slot more) in
     subst (λ (f : Option GatewayFault). AllZip (IsOffer llid) (cond (is_none f) (s ∷ faultless_rest) faultless_rest) packets) m

@@ -60,8 +60,8 @@ pub record Given : Type 0 where
   pub outcome : Option Outcome
   pub refused : ℕ
 
--- What happens in the slot in a frame: a packet is offered for each of these datagrams that has no fault of its own, in their order,
--- the gateway hears what its line repeats, and the slot is free where its line gives nothing.
+-- What happens in the slot in a frame: a packet is offered for each of these datagrams that has no fault of its own, in their
+-- order, the gateway hears what its line repeats, and the slot is free where its line gives nothing.
 pub record Happens (s : Settings) (offered : List Sending) (out : SlotOut) (h : Happening) : Type 0 where
   pub offers : AllZip (λ d packet. IsPacketFor s.llid d.confirmed d.full d.datagram packet)
       (filter (λ d. is_none (record_fault d)) offered) h.offers
