@@ -19,14 +19,14 @@ use Rattle.dmr_gateway.specs.BothSlots.{SlotTurn, Stands, FrameAsMeant, IsFrameO
 use Rattle.dmr_gateway.proofs.BothSlots.{frames_as_meant}
 use Rattle.dmr_station.specs.DownlinkRules.{slots_in, frames_in, marked_frames}
 use Rattle.dmr_station.specs.GatewayMeaning.{AreReadFrom, AreForSlots}
-use Rattle.dmr_station.specs.GatewayMeaning.{of_slot, record_fault, Given, AreGiven, Happens, IsGiven}
+use Rattle.dmr_station.specs.GatewayMeaning.{record_fault, Given, AreGiven, Happens, IsGiven}
 use Rattle.dmr_station.proofs.Frames.{gates_of, claims_in}
 use Rattle.dmr_station.specs.StationRules.{Settings, StationMemory, FrameGiven, IsAsked, IsPassed, ArePassed, taken_of, is_free}
 use Rattle.std.specs.List.{AllZip}
 use Rattle.dmr_station.specs.declared.announcing.Message.{Message}
 use Rattle.dmr_station.specs.Sending.{DownlinkBurst}
 use Rattle.dmr_station.proofs.LookingBack.{Announces}
-use Rattle.dmr_station.proofs.Offering.{offers_read, faults_read, record_faults}
+use Rattle.dmr_station.proofs.Offering.{offers_read, faults_read, of_slot, record_faults}
 
 -- 1. Faults of both slots.
 

@@ -1,7 +1,7 @@
 -- The packets that are offered are those of the datagrams that were read.
 use Rattle.std.proofs.Common.{◌≡◌, ℕ, ◌+◌, eqb, Bool, true, false, cond, List, [], ◌∷◌, length, take, Option, Some, None}
 use Rattle.std.proofs.Common.{is_some, refl, sym, ◌∙◌, ap, subst}
-use Rattle.std.specs.Prelude.{filter, is_none, count_by}
+use Rattle.std.specs.Prelude.{◌==◌, filter, is_none, count_by}
 use Rattle.std.proofs.lemmas.List.Sums.{sum_by-cons}
 use Rattle.dmr_record.specs.Outgoing.{Sending}
 use Rattle.dmr_record.specs.declared.outgoing.Outgoing.{Outgoing}
@@ -11,7 +11,7 @@ use Rattle.dmr_gateway.specs.Packets as asked
 use Rattle.dmr_gateway.specs.declared.fault.GatewayFault.{GatewayFault}
 use Rattle.dmr_gateway.specs.declared.queue.Queued.{Queued}
 use Rattle.dmr_gateway.proofs.Kept.{kept}
-use Rattle.dmr_station.specs.GatewayMeaning.{IsReadOutgoing, of_slot, record_fault}
+use Rattle.dmr_station.specs.GatewayMeaning.{IsReadOutgoing, record_fault}
 use Rattle.std.specs.List.{AllZip}
 
 -- a record and its datagram
@@ -30,6 +30,10 @@ packet_read llid o s q r none p =
     let a : IsPacketFor llid o.confirmed o.full s.datagram q =
     subst (λ octets. IsPacketFor llid o.confirmed o.full octets q) same p in
     subst (λ (x : Sending). IsPacketFor llid x.confirmed x.full s.datagram q) r.fields a
+
+-- The datagrams for a slot, in their order.
+abbrev pub of_slot : ℕ → List Sending → List Sending
+of_slot slot ss = filter (λ (s : Sending). s.slot == slot) ss
 
 -- The packets that are offered for these datagrams: one of each that has no fault of its own.
 abbrev IsOffer : ℕ → Sending → Queued → Type 0

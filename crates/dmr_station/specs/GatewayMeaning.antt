@@ -37,10 +37,6 @@ AreReadFrom records sendings = AllZip IsReadOutgoing records sendings
 abbrev pub AreForSlots : List Sending → Type 0
 AreForSlots sendings = AllByRecursion (λ s. IsSlot s.slot) sendings
 
--- The datagrams for a slot, in their order.
-abbrev pub of_slot : ℕ → List Sending → List Sending
-of_slot slot sendings = filter (λ s. s.slot == slot) sendings
-
 -- The datagrams of so many frames, from this one on: of each frame those that the outgoing file has for it.
 abbrev pub by_frame : ℕ → ℕ → List Sending → List (List Sending)
 by_frame frame zero sendings = []
@@ -76,12 +72,13 @@ pub record IsGiven (s : Settings) (slot : ℕ) (frames : List Happening) (offere
   pub outcome : given.outcome ≡ (attempts s.queue s.llid (brings s.llid frames)).ledger.outcome
   pub refused : given.refused ≡ count_by (λ d. is_some (record_fault d)) offered + refused_now s.queue s.llid (brings s.llid frames)
 
--- Frame by frame, each with the datagrams that are offered in it, after those that happened before, the newest of them first.
+-- Frame by frame, each with the datagrams that are offered in it for this slot, after those that happened before, the newest of
+-- them first.
 abbrev pub AreGiven : Settings → ℕ → List Happening → List (List Sending) → List SlotOut → List Given → Type 0
 AreGiven s slot back [] [] [] = Unit {0}
 AreGiven s slot back (offered ∷ offers) (out ∷ outs) (given ∷ more) =
-    (h : Happening) × Happens s (of_slot slot offered) out h × IsGiven s slot (h ∷ back) (of_slot slot offered) given
-    × AreGiven s slot (h ∷ back) offers outs more
+    let own = filter (λ d. d.slot == slot) offered in
+    (h : Happening) × Happens s own out h × IsGiven s slot (h ∷ back) own given × AreGiven s slot (h ∷ back) offers outs more
 AreGiven s slot back offers outs givens = ⊥
 
 -- 3. Both slots.
