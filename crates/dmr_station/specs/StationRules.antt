@@ -116,16 +116,16 @@ added a b =
       refused = a.refused + b.refused;
     }
 
--- Both packets were delivered, or both were sent, or both were given up.
-abbrev pub is_outcome : Outcome → Outcome → Bool
-is_outcome Delivered Delivered = true
-is_outcome Sent Sent = true
-is_outcome GivenUp GivenUp = true
-is_outcome outcome other = false
-
 -- How many of these outcomes are this one.
 abbrev pub outcome_count : Outcome → List Outcome → ℕ
 outcome_count outcome outcomes = count_by (is_outcome outcome) outcomes
+  where
+    -- Both packets were delivered, or both were sent, or both were given up.
+    is_outcome : Outcome → Outcome → Bool
+    is_outcome Delivered Delivered = true
+    is_outcome Sent Sent = true
+    is_outcome GivenUp GivenUp = true
+    is_outcome outcome other = false
 
 -- What one frame counts: its records, its packets by what became of them, and the offers that it refused.
 abbrev pub counted_frame : FrameGiven → Counts
