@@ -1,5 +1,5 @@
 -- Bursts, as they are sent, and what is read back of them. ETSI TS 102 361-1, clauses 6.1, 6.2 and 9.1.
-use Rattle.std.specs.Prelude.{ℕ, ◌≡◌, ◌<◌, Bool, true, false, List, length}
+use Rattle.std.specs.Prelude.{◌≡◌, ◌<◌, Bool, true, false, List, length}
 use Rattle.dmr_bits.specs.Bits.{number_of}
 use Rattle.dmr_codes.specs.Seven.{IsGolay20, IsResidue16}
 use Rattle.dmr_burst.specs.Emb.{emb_of, HasEmb}
@@ -8,8 +8,6 @@ use Rattle.dmr_burst.specs.SlotType.{slot_type_of, HasSlotType}
 use Rattle.dmr_burst.specs.Sync.{sync_word, HasSync}
 use Rattle.dmr_burst.specs.declared.burst.Burst.{Burst}
 use Rattle.dmr_burst.specs.declared.burst.Burst.TheVariants.{Data, VoiceSync, Voice}
-use Rattle.dmr_burst.specs.declared.emb.Emb.{Emb}
-use Rattle.dmr_burst.specs.declared.slot_type.SlotType.{SlotType}
 use Rattle.dmr_burst.specs.declared.sync.Side.{Side}
 
 -- the numbers of a burst fit their bits
@@ -18,33 +16,20 @@ IsBurst (Data colour kind information) = (colour < 16) × (kind < 16)
 IsBurst (VoiceSync vocoder) = Unit {0}
 IsBurst (Voice emb embedded vocoder) = (emb.colour < 16) × (emb.lcss < 4)
 
--- a data burst has its information, the data sync of its side, and a Golay word that says its slot type
-pub record IsDataBurst (slot_type : SlotType) (information : List Bool) (side : Side) (bits : List Bool) : Type 0 where
-  pub long : length bits ≡ 264
-  pub word : IsGolay20 (slot_type_field bits)
-  pub says : slot_type_of (slot_type_field bits) ≡ slot_type
-  pub holds : information_field bits ≡ information
-  pub sync : sync_field bits ≡ sync_word side false
-
--- the first voice burst has its vocoder bits and the voice sync of its side
-pub record IsVoiceSyncBurst (vocoder : List Bool) (side : Side) (bits : List Bool) : Type 0 where
-  pub long : length bits ≡ 264
-  pub holds : vocoder_field bits ≡ vocoder
-  pub sync : sync_field bits ≡ sync_word side true
-
--- any other voice burst has a residue word that says its EMB, its embedded field, and its vocoder bits
-pub record IsVoiceBurst (emb : Emb) (embedded : ℕ) (vocoder : List Bool) (bits : List Bool) : Type 0 where
-  pub long : length bits ≡ 264
-  pub holds : vocoder_field bits ≡ vocoder
-  pub word : IsResidue16 (emb_field bits)
-  pub says : emb_of (emb_field bits) ≡ emb
-  pub field : number_of (embedded_field bits) ≡ embedded
-
--- the bits that a side sends for a burst
+-- The 264 bits that a side sends for a burst. A data burst has a Golay word that says its slot type, its information, and the data
+-- sync of its side.
 abbrev pub IsEncoding : Burst → Side → List Bool → Type 0
-IsEncoding (Data colour kind information) side bits = IsDataBurst (record { colour = colour; kind = kind }) information side bits
-IsEncoding (VoiceSync vocoder) side bits = IsVoiceSyncBurst vocoder side bits
-IsEncoding (Voice emb embedded vocoder) side bits = IsVoiceBurst emb embedded vocoder bits
+IsEncoding (Data colour kind information) side bits =
+    (length bits ≡ 264) × IsGolay20 (slot_type_field bits)
+    × (slot_type_of (slot_type_field bits) ≡ record { colour = colour; kind = kind })
+    × (information_field bits ≡ information) × (sync_field bits ≡ sync_word side false)
+-- The first voice burst has its vocoder bits and the voice sync of its side.
+IsEncoding (VoiceSync vocoder) side bits =
+    (length bits ≡ 264) × (vocoder_field bits ≡ vocoder) × (sync_field bits ≡ sync_word side true)
+-- Any other voice burst has a residue word that says its EMB, its embedded field, and its vocoder bits.
+IsEncoding (Voice emb embedded vocoder) side bits =
+    (length bits ≡ 264) × IsResidue16 (emb_field bits) × (emb_of (emb_field bits) ≡ emb)
+    × (number_of (embedded_field bits) ≡ embedded) × (vocoder_field bits ≡ vocoder)
 
 -- the fields of a burst that was sent, as its readers find them
 abbrev pub IsReadBack : Burst → Side → List Bool → Type 0

@@ -25,7 +25,7 @@ use Rattle.dmr_codes.specs.LeastWords.{least_by_words}
 use Rattle.dmr_codes.specs.Seven.{golay20_columns, golay20_shaped, residue16_columns, residue16_shaped}
 use Rattle.dmr_codes.specs.Seven.{IsHamming15, hamming15_columns, hamming15_shaped, hamming13_columns, hamming13_shaped}
 use Rattle.dmr_codes.specs.Words.{one_within, IsWord-xor}
-use Rattle.dmr_hearing.specs.Damage.{Sends, HoldsDamaged, IsDamagedPayload}
+use Rattle.dmr_hearing.specs.Damage.{Sends, IsDamagedPayload}
 use Rattle.dmr_hearing.specs.Hearing.{IsEncoded}
 use Rattle.dmr_hearing.specs.declared.data_types.Payload.{Payload}
 use Rattle.dmr_hearing.specs.declared.data_types.Payload.TheVariants.{Word, Sealed, LinkControl, Raw, Nothing}
@@ -109,15 +109,18 @@ one_held received v w p q (bad, near) (other, near') =
     information_same v w (λ r c h l. cells_of_row v w r c l (rows r h))
 
 -- ---- what information is of
-one_message : (received i j : List Bool) → HoldsDamaged i received → HoldsDamaged j received → held_by i ≡ held_by j
+one_message : (received i j : List Bool) → IsDamagedPayload Word i received → IsDamagedPayload Word j received
+    → held_by i ≡ held_by j
 one_message received i j (v, product, same, near) (w, product', same', near') =
     sym same ∙ one_held received v w product product' near near' ∙ same'
 
-message_is : (received m n i j : List Bool) → IsEncoded m i → IsEncoded n j → HoldsDamaged i received → HoldsDamaged j received
+message_is : (received m n i j : List Bool) → IsEncoded m i → IsEncoded n j → IsDamagedPayload Word i received
+    → IsDamagedPayload Word j received
     → m ≡ n
 message_is received m n i j e f p q = sym e.written.holds ∙ one_message received i j p q ∙ f.written.holds
 
-information_is : (received m n i j : List Bool) → IsEncoded m i → IsEncoded n j → HoldsDamaged i received → HoldsDamaged j received
+information_is : (received m n i j : List Bool) → IsEncoded m i → IsEncoded n j → IsDamagedPayload Word i received
+    → IsDamagedPayload Word j received
     → i ≡ j
 information_is received m n i j e f p q = one_encoded m n i j (message_is received m n i j e f p q) e f
 

@@ -7,7 +7,7 @@ use Rattle.dmr_bptc.proofs.Decoded.{one_decoded, undone as undamaged}
 use Rattle.dmr_bptc.proofs.Written.{one_written}
 use Rattle.dmr_checks.specs.Sealed.{IsSealed}
 use Rattle.dmr_checks.specs.declared.sealing.Mask.{Mask}
-use Rattle.dmr_hearing.specs.Damage.{HoldsDamaged}
+use Rattle.dmr_hearing.specs.Damage.{IsDamagedPayload}
 use Rattle.dmr_hearing.specs.Hearing.{IsEncoded}
 use Rattle.dmr_hearing.specs.Reading.{IsReading}
 use Rattle.dmr_hearing.specs.declared.data_types.Payload.TheVariants.{Word, Sealed, LinkControl}
@@ -38,7 +38,7 @@ one_encoded m n a b e p q = one_written n a b p.long q.long (subst (λ (x : List
 
 -- what decoding answers, of information in a product word
 held : (received information message : List Bool) (result : Option (List Bool)) → IsDecoded received result
-    → IsEncoded message information → HoldsDamaged information received
+    → IsEncoded message information → IsDamagedPayload Word information received
     → result ≡ Some message
 held received information message result decoded encoded (word, product, same, damaged) =
     undamaged received word result decoded product damaged ∙ ap Some (same ∙ encoded.written.holds)

@@ -11,7 +11,7 @@ use Rattle.dmr_burst.specs.declared.emb.Emb.{Emb}
 use Rattle.dmr_burst.specs.declared.sync.Side.TheVariants.{Ms}
 use Rattle.dmr_burst.proofs.Same.{read_back}
 use Rattle.dmr_hearing.specs.DataTypes.{payload_of}
-use Rattle.dmr_hearing.specs.Damage.{Sends, HoldsDamaged, IsDamagedPayload, IsSentSlot, IsRecordedAs, HasNoMobileSync}
+use Rattle.dmr_hearing.specs.Damage.{Sends, IsDamagedPayload, IsSentSlot, IsRecordedAs, HasNoMobileSync}
 use Rattle.dmr_hearing.specs.Hearing.{IsEncoded}
 use Rattle.dmr_hearing.specs.Slots.{Data, VoiceSync, Voice, ForeignVoice, ForeignData}
 use Rattle.dmr_hearing.specs.declared.data_types.Payload.{Payload}
@@ -19,7 +19,7 @@ use Rattle.dmr_hearing.specs.declared.data_types.Payload.TheVariants.{Word, Seal
 use Rattle.dmr_link.specs.declared.full_lc.FullLc.{FullLc}
 
 undamaged : (message information received : List Bool) → received ≡ information → IsEncoded message information
-    → HoldsDamaged information received
+    → IsDamagedPayload Word information received
 undamaged message information received same encoded =
     let itself : IsDamaged information information = (0, λ c h apart. omega (arith, no_distance (column information c))) in
     (information, encoded.written.word, refl, subst (IsDamaged information) (sym same) itself)

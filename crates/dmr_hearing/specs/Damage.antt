@@ -1,5 +1,5 @@
 -- What a slot sends, and what it may be recorded as.
-use Rattle.std.specs.Prelude.{◌≡◌, ◌≢◌, ℕ, ◌<◌, Bool, true, false, List, Option, Some, None, length}
+use Rattle.std.specs.Prelude.{◌≡◌, ◌≢◌, ℕ, ◌<◌, Bool, true, false, List, Option, None, Some, MatchOption, length}
 use Rattle.dmr_bits.specs.Bits.{bits_of_octets, number_of, octets_of, distance}
 use Rattle.dmr_bptc.specs.Decoding.{IsDamaged}
 use Rattle.dmr_bptc.specs.ProductWord.{IsProductWord, information as held_by}
@@ -43,20 +43,15 @@ IsSentSlot colour ForeignData = Unit {0}
 IsSentSlot colour CutOff = Unit {0}
 
 -- ---- what is recorded
--- Information in a product word: of a word that holds the same 96 bits, whatever its reserved bits, at most one bit is wrong
--- in each column but one, and any in that one and in R(3).
-abbrev pub HoldsDamaged : List Bool → List Bool → Type 0
-HoldsDamaged information received =
-    (word : List Bool) × IsProductWord word × (held_by word ≡ held_by information) × IsDamaged word received
-
--- What the information of a data burst may be recorded as, by what it holds: damaged within the limits in a product word, and as
--- it is sent where it is raw.
+-- What the information of a data burst may be recorded as, by what it holds: as it is sent where it is raw, and damaged within
+-- the limits in a product word.
 abbrev pub IsDamagedPayload : Payload → List Bool → List Bool → Type 0
-IsDamagedPayload Word information received = HoldsDamaged information received
-IsDamagedPayload (Sealed mask) information received = HoldsDamaged information received
-IsDamagedPayload (LinkControl lc_use) information received = HoldsDamaged information received
 IsDamagedPayload Raw information received = received ≡ information
 IsDamagedPayload Nothing information received = ⊥
+-- in a product word: of a word that holds the same 96 bits, whatever its reserved bits, at most one bit is wrong in each column
+-- but one, and any in that one and in R(3)
+IsDamagedPayload product information received =
+    (word : List Bool) × IsProductWord word × (held_by word ≡ held_by information) × IsDamaged word received
 
 -- A data burst of the colour code: at most three wrong bits in the sync, and three in the slot type.
 pub record IsDamagedData (colour kind : ℕ) (information bits : List Bool) : Type 0 where
@@ -90,12 +85,7 @@ IsDamagedBurst colour (ForeignVoice emb) bits = HasEmb emb bits × HasNoMobileSy
 IsDamagedBurst colour ForeignData bits = IsDamagedForeignData colour bits
 IsDamagedBurst colour CutOff bits = HasNoMobileSync bits
 
--- Silence is recorded as silence, and a burst as a burst.
-abbrev pub IsDamagedSlot : ℕ → SentSlot → Option (List ℕ) → Type 0
-IsDamagedSlot colour slot None = slot ≡ Silent
-IsDamagedSlot colour slot (Some octets) = IsDamagedBurst colour slot (bits_of_octets octets)
-
--- What a slot that was sent is recorded as, damaged within the limits.
+-- What a slot that was sent is recorded as, damaged within the limits: silence as nothing, and a burst as a burst.
 pub record IsRecordedAs (colour : ℕ) (slot : SentSlot) (recorded : Option (List ℕ)) : Type 0 where
   pub sent : IsSentSlot colour slot
-  pub damaged : IsDamagedSlot colour slot recorded
+  pub damaged : MatchOption recorded (slot ≡ Silent) (λ octets. IsDamagedBurst colour slot (bits_of_octets octets))

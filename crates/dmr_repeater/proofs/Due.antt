@@ -7,13 +7,13 @@ use Rattle.std.proofs.KnownBytes.{Consumes-nil}
 use Rattle.dmr_record.specs.declared.outgoing.Outgoing.{Outgoing}
 use Rattle.dmr_record.specs.Outgoing.{Sending}
 use Rattle.dmr_station.specs.GatewayMeaning.{IsReadOutgoing}
-use Rattle.dmr_station.specs.Pairs.{Pairwise}
+use Rattle.std.specs.List.{AllZip}
 use Rattle.dmr_repeater.specs.Runs.{ReadsDue, ReadsRecords}
 use Rattle.dmr_repeater.specs.Schedule.{ReadingProgress, unread, waiting, AreDue, AreOfferedInTurn, Gives, IsPast}
 use Rattle.dmr_repeater.proofs.InTurn.{apart, given_in_turn, read_in_turn}
 use Rattle.dmr_repeater.proofs.Records.{Gives-same}
 
-pub due_records : (frame : ℕ) (found : List Outgoing) (sendings : List Sending) → Pairwise IsReadOutgoing found sendings
+pub due_records : (frame : ℕ) (found : List Outgoing) (sendings : List Sending) → AllZip IsReadOutgoing found sendings
     → AreDue frame found → AllByRecursion (λ s. s.frame ≤ frame) sendings
 due_records frame [] [] u due = tt
 due_records frame [] (s ∷ ss) u due = absurd u
@@ -27,11 +27,11 @@ due_records frame (o ∷ os) (s ∷ ss) u due =
 abbrev pub nothing_more : (p : ReadingProgress) (a : Option (List ℕ)) → Gives p p [] [] a a
 nothing_more p a = Gives-same p p a a refl refl refl (Consumes-nil a) (λ end. end)
 
-none_read : (sendings : List Sending) → Pairwise IsReadOutgoing [] sendings → sendings ≡ []
+none_read : (sendings : List Sending) → AllZip IsReadOutgoing [] sendings → sendings ≡ []
 none_read [] u = refl
 none_read (s ∷ sendings) u = absurd u
 
-one_read : (o : Outgoing) (sendings : List Sending) → Pairwise IsReadOutgoing (o ∷ []) sendings
+one_read : (o : Outgoing) (sendings : List Sending) → AllZip IsReadOutgoing (o ∷ []) sendings
     → (s : Sending) × (sendings ≡ s ∷ []) × (o.frame ≡ s.frame)
 one_read o [] u = absurd u
 one_read o (s ∷ sendings) u =
@@ -39,18 +39,18 @@ one_read o (s ∷ sendings) u =
 
 -- at most one record is ahead, of a later frame, or the end was met
 one_ahead : (frame : ℕ) (now : ReadingProgress) (back : List Sending) (left : Option (List ℕ)) → IsPast frame now
-    → Pairwise IsReadOutgoing (waiting now) back → (now.at_end ≡ true → IsAtEnd left)
+    → AllZip IsReadOutgoing (waiting now) back → (now.at_end ≡ true → IsAtEnd left)
     → (ahead : Option Sending) × (back ≡ option_to_list ahead)
     × (IsSomeAnd ahead (λ s. frame < s.frame) ⊎ ((ahead ≡ None) × IsAtEnd left))
 one_ahead frame now back left (inl (o, is, last, late, small)) read met =
-    let (s, same, frames) = one_read o back (subst (λ (x : Option Outgoing). Pairwise IsReadOutgoing (option_to_list x) back) is
+    let (s, same, frames) = one_read o back (subst (λ (x : Option Outgoing). AllZip IsReadOutgoing (option_to_list x) back) is
     read)
     in
     let later : frame < s.frame = omega (arith, frames, late) in
     (Some s, same, inl later)
 one_ahead frame now back left (inr (none, end)) read met = (
   None,
-  none_read back (subst (λ (x : Option Outgoing). Pairwise IsReadOutgoing (option_to_list x) back) none read),
+  none_read back (subst (λ (x : Option Outgoing). AllZip IsReadOutgoing (option_to_list x) back) none read),
   inr (refl, met end),
 )
 
@@ -62,7 +62,7 @@ reads_due frame offers now o p left u many past met reads =
     let turn = given_in_turn 0 frame offers unread now p left u (omega (arith, many)) in
     let g = turn.due.gives in
     let cut = apart IsReadOutgoing turn.due.given (waiting now) g.sendings
-    (subst (λ (l : List Outgoing). Pairwise IsReadOutgoing l g.sendings) g.all g.kept) in
+    (subst (λ (l : List Outgoing). AllZip IsReadOutgoing l g.sendings) g.all g.kept) in
     let (ahead, is, late) = one_ahead frame now cut.rest left past cut.second met in
     record {
       reads = reads;

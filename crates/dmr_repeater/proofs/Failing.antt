@@ -17,7 +17,7 @@ use Rattle.dmr_record.specs.Uplink.{frames_octets}
 use Rattle.dmr_station.specs.DownlinkRules.{silent_frame, handed_frames}
 use Rattle.dmr_station.specs.StationRules.{Settings, received_of}
 use Rattle.dmr_station.specs.GatewayMeaning.{AreReadFrom, by_frame, receipt_in}
-use Rattle.dmr_station.specs.Pairs.{Pairwise}
+use Rattle.std.specs.List.{AllZip}
 use Rattle.dmr_station.specs.Station.{State, fresh, all_received_taken, records_of, receipts_from, AreExchanged}
 use Rattle.dmr_station.proofs.Exchanges.{exchanged-append}
 use Rattle.dmr_repeater.specs.declared.fault.Stream.{Stream}
@@ -47,8 +47,8 @@ Tears-after output m n xs ys frame outgoing downlink received before u = record 
 
 -- what was offered in the first frames of a file goes together with what it has for these
 pairs_front : (f : ℕ) (offers more : List (List Outgoing)) (ss : List Sending)
-    → Pairwise AreReadFrom (offers ++ more) (by_frame f (length (offers ++ more)) ss)
-    → Pairwise AreReadFrom offers (by_frame f (length offers) ss)
+    → AllZip AreReadFrom (offers ++ more) (by_frame f (length (offers ++ more)) ss)
+    → AllZip AreReadFrom offers (by_frame f (length offers) ss)
 pairs_front f [] more ss u = tt
 pairs_front f (o ∷ offers) more ss u = (u.0, pairs_front (f + 1) offers more ss u.1)
 

@@ -16,7 +16,7 @@ use Rattle.std.specs.Io.KnownBytes.{Consumes}
 use Rattle.dmr_record.specs.declared.outgoing.Outgoing.{Outgoing}
 use Rattle.dmr_record.specs.Outgoing.{Sending, IsSending, AreInFrameOrder, sendings_octets}
 use Rattle.dmr_station.specs.GatewayMeaning.{IsReadOutgoing, AreReadFrom, AreForSlots, by_frame}
-use Rattle.dmr_station.specs.Pairs.{Pairwise}
+use Rattle.std.specs.List.{AllZip}
 use Rattle.dmr_repeater.specs.Schedule.{ReadingProgress, unread, waiting, last_frame, Gives, AreDue, GivesDue, IsPast}
 use Rattle.dmr_repeater.specs.Schedule.{AreOfferedInTurn}
 
@@ -26,10 +26,10 @@ pub record Apart {X Y : Type 0} (R : X → Y → Type 0) (xs ys : List X) (zs : 
   pub front : List Y
   pub rest : List Y
   pub whole : zs ≡ front ++ rest
-  pub first : Pairwise R xs front
-  pub second : Pairwise R ys rest
+  pub first : AllZip R xs front
+  pub second : AllZip R ys rest
 
-pub apart : {X Y : Type 0} (R : X → Y → Type 0) (xs ys : List X) (zs : List Y) → Pairwise R (xs ++ ys) zs → Apart R xs ys zs
+pub apart : {X Y : Type 0} (R : X → Y → Type 0) (xs ys : List X) (zs : List Y) → AllZip R (xs ++ ys) zs → Apart R xs ys zs
 apart R [] ys zs p = record { front = []; rest = zs; whole = refl; first = tt; second = p }
 apart R (x ∷ xs) ys [] p = absurd p
 apart R (x ∷ xs) ys (z ∷ zs) p =
@@ -42,8 +42,8 @@ apart R (x ∷ xs) ys (z ∷ zs) p =
       second = more.second;
     }
 
-together : {X Y : Type 0} (R : X → Y → Type 0) (xs ys : List X) (us vs : List Y) → Pairwise R xs us → Pairwise R ys vs
-    → Pairwise R (xs ++ ys) (us ++ vs)
+together : {X Y : Type 0} (R : X → Y → Type 0) (xs ys : List X) (us vs : List Y) → AllZip R xs us → AllZip R ys vs
+    → AllZip R (xs ++ ys) (us ++ vs)
 together R [] ys [] vs p q = q
 together R [] ys (u ∷ us) vs p q = absurd p
 together R (x ∷ xs) ys [] vs p q = absurd p
@@ -139,7 +139,7 @@ none_behind f (given ∷ more) p q a b u rest h e =
     ap (λ l. (l ++ read_in_turn (f + 1) more u.0 q u.1 b u.5) ++ rest) now.0 ∙ behind
 
 -- what is left behind a frame is of later frames
-next_waits : (f : ℕ) (o : Outgoing) (ws rest : List Sending) → Pairwise IsReadOutgoing (o ∷ []) ws → f < o.frame
+next_waits : (f : ℕ) (o : Outgoing) (ws rest : List Sending) → AllZip IsReadOutgoing (o ∷ []) ws → f < o.frame
     → AreInFrameOrder f (ws ++ rest) → AreInFrameOrder (f + 1) (ws ++ rest)
 next_waits f o [] rest pairs less order = absurd pairs
 next_waits f o (s ∷ []) rest pairs less order =
@@ -147,17 +147,17 @@ next_waits f o (s ∷ []) rest pairs less order =
     (omega (arith, same, less), order.1)
 next_waits f o (s ∷ t ∷ ws) rest pairs less order = absurd pairs.1
 
-none_waits : (f : ℕ) (ws rest : List Sending) → Pairwise IsReadOutgoing [] ws → rest ≡ [] → AreInFrameOrder (f + 1) (ws ++ rest)
+none_waits : (f : ℕ) (ws rest : List Sending) → AllZip IsReadOutgoing [] ws → rest ≡ [] → AreInFrameOrder (f + 1) (ws ++ rest)
 none_waits f [] rest pairs none = subst (AreInFrameOrder (f + 1)) (sym none) tt
 none_waits f (s ∷ ws) rest pairs none = absurd pairs
 
-left_behind : (f : ℕ) (p : ReadingProgress) (ws rest : List Sending) → IsPast f p → Pairwise IsReadOutgoing (waiting p) ws
+left_behind : (f : ℕ) (p : ReadingProgress) (ws rest : List Sending) → IsPast f p → AllZip IsReadOutgoing (waiting p) ws
     → (p.at_end ≡ true → rest ≡ []) → AreInFrameOrder f (ws ++ rest) → AreInFrameOrder (f + 1) (ws ++ rest)
 left_behind f p ws rest (inl past) pairs end order =
     next_waits f past.0 ws rest
-    (subst (λ (x : Option Outgoing). Pairwise IsReadOutgoing (option_to_list x) ws) past.1 pairs) past.3 order
+    (subst (λ (x : Option Outgoing). AllZip IsReadOutgoing (option_to_list x) ws) past.1 pairs) past.3 order
 left_behind f p ws rest (inr past) pairs end order =
-    none_waits f ws rest (subst (λ (x : Option Outgoing). Pairwise IsReadOutgoing (option_to_list x) ws) past.0 pairs) (end past.1)
+    none_waits f ws rest (subst (λ (x : Option Outgoing). AllZip IsReadOutgoing (option_to_list x) ws) past.0 pairs) (end past.1)
 
 -- one list, cut in two ways
 regrouped : (w s t rest front behind : List Sending) → w ++ s ≡ front ++ behind
@@ -170,15 +170,15 @@ regrouped w s t rest front behind e =
 -- each frame those are offered that are of that frame.
 pub in_turn : (f : ℕ) (offers : List (List Outgoing)) (p q : ReadingProgress) (a b : Option (List ℕ))
     (u : AreOfferedInTurn f offers p q a b)
-    (waits rest : List Sending) → Pairwise IsReadOutgoing (waiting p) waits → (q.at_end ≡ true → rest ≡ [])
+    (waits rest : List Sending) → AllZip IsReadOutgoing (waiting p) waits → (q.at_end ≡ true → rest ≡ [])
     → AreInFrameOrder f (waits ++ (read_in_turn f offers p q a b u ++ rest))
-    → Pairwise AreReadFrom offers (by_frame f (length offers) (waits ++ (read_in_turn f offers p q a b u ++ rest)))
+    → AllZip AreReadFrom offers (by_frame f (length offers) (waits ++ (read_in_turn f offers p q a b u ++ rest)))
 in_turn f [] p q a b u waits rest pairs end order = tt
 in_turn f (given ∷ more) p q a b u waits rest pairs end order =
     let g : Gives p u.0 given [] a u.1 = u.3 in
     let behind : List Sending = read_in_turn (f + 1) more u.0 q u.1 b u.5 in
     let cut = apart IsReadOutgoing given (waiting u.0) (waits ++ g.sendings)
-    (subst (λ l. Pairwise IsReadOutgoing l (waits ++ g.sendings)) g.all
+    (subst (λ l. AllZip IsReadOutgoing l (waits ++ g.sendings)) g.all
     (together IsReadOutgoing (waiting p) g.found waits g.sendings pairs g.kept)) in
     let left : List Sending = cut.rest ++ (behind ++ rest) in
     let whole : waits ++ ((g.sendings ++ behind) ++ rest) ≡ cut.front ++ left =
@@ -188,9 +188,9 @@ in_turn f (given ∷ more) p q a b u waits rest pairs end order =
     let next : AreInFrameOrder (f + 1) left = left_behind f u.0 cut.rest (behind ++ rest) u.4 cut.second ends due.1 in
     let now : filter (λ (s : Sending). eqb s.frame f) (cut.front ++ left) ≡ cut.front =
     all_of f cut.front left due.0 ∙ ap (λ l. cut.front ++ l) (none_of f (f + 1) left (omega arith) next) ∙ append-nil cut.front in
-    subst (λ l. Pairwise AreReadFrom (given ∷ more) (by_frame f (length (given ∷ more)) l)) (sym whole) (
+    subst (λ l. AllZip AreReadFrom (given ∷ more) (by_frame f (length (given ∷ more)) l)) (sym whole) (
       subst (λ l. AreReadFrom given l) (sym now) cut.first,
-      subst (λ l. Pairwise AreReadFrom more l) (sym (passed f (f + 1) (length more) cut.front left (omega arith) due.0))
+      subst (λ l. AllZip AreReadFrom more l) (sym (passed f (f + 1) (length more) cut.front left (omega arith) due.0))
           (in_turn (f + 1) more u.0 q u.1 b u.5 cut.rest rest cut.second end next),
     )
 
@@ -245,7 +245,7 @@ pub record ReadInAll (offers : List (List Outgoing)) (r : ReadingProgress) (part
     (ss : List Sending) : Type 0
   where
     pub reads : ReadsRecords ss part o d
-    pub pairs : Pairwise AreReadFrom offers (by_frame 0 (length offers) ss)
+    pub pairs : AllZip AreReadFrom offers (by_frame 0 (length offers) ss)
     pub slots : AllByRecursion AreForSlots (by_frame 0 (length offers) ss)
     pub last : r.last ≡ last_frame 0 ss
     pub count : r.records ≡ length ss
@@ -298,13 +298,13 @@ abbrev total : List (List Sending) → ℕ
 total [] = 0
 total (ss ∷ more) = length ss + total more
 
-counted_pairs : {X Y : Type 0} (R : X → Y → Type 0) (xs : List X) (ys : List Y) → Pairwise R xs ys → length xs ≡ length ys
+counted_pairs : {X Y : Type 0} (R : X → Y → Type 0) (xs : List X) (ys : List Y) → AllZip R xs ys → length xs ≡ length ys
 counted_pairs R [] [] u = refl
 counted_pairs R [] (y ∷ ys) u = absurd u
 counted_pairs R (x ∷ xs) [] u = absurd u
 counted_pairs R (x ∷ xs) (y ∷ ys) u = let more = counted_pairs R xs ys u.1 in omega arith
 
-counted_offers : (offers : List (List Outgoing)) (ss : List (List Sending)) → Pairwise AreReadFrom offers ss
+counted_offers : (offers : List (List Outgoing)) (ss : List (List Sending)) → AllZip AreReadFrom offers ss
     → offer_count offers ≡ total ss
 counted_offers [] [] u = refl
 counted_offers [] (s ∷ ss) u = absurd u
@@ -369,7 +369,7 @@ all_from_0 (s ∷ ss) =
 
 -- those that are not offered are of frames that the run has not
 pub unoffered_are : (offers : List (List Outgoing)) (frames : ℕ) (ss : List Sending) → length offers ≡ frames
-    → Pairwise AreReadFrom offers (by_frame 0 (length offers) ss)
+    → AllZip AreReadFrom offers (by_frame 0 (length offers) ss)
     → length ss ≡ offer_count offers + length (from_frame frames ss)
 unoffered_are offers frames ss e pairs =
     let all = all_from_0 ss in

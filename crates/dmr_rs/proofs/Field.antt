@@ -1,7 +1,7 @@
 -- Sums and products of octets.
 use Rattle.std.proofs.Common.{◌≡◌, ◌≢◌, ℕ, ◌-◌, ◌*◌, ◌/◌, ◌%◌, ◌^◌, ◌<◌, ◌==◌, Bool, true, false}
 use Rattle.std.proofs.Common.{List, [], ◌∷◌, ◌++◌, length, refl, sym, ◌∙◌, ap, arith, cond, lit<, eqb, eqb-true}
-use Rattle.std.specs.Prelude.{bit_xor}
+use Rattle.std.specs.Prelude.{bit_xor, fold}
 use Rattle.std.specs.Int.Bits.{xor_assoc, xor_self, xor_zero_l, xor_zero_r}
 use Rattle.std.proofs.Math.Nat.{mod-lt, mod-eq_of_lt}
 use Rattle.std.proofs.lemmas.Nat.{xor_comm, xor_lt, xor_mod}
@@ -10,7 +10,11 @@ use Rattle.dmr_bits.specs.Bits.{bits_of, xor, xor_bits}
 use Rattle.dmr_bits.proofs.Lists.{length-bits_of, bits_of_next, bits_of_none}
 use Rattle.dmr_bits.proofs.Numbers.{bits_of_xor, bits_of_mod, bits_of_double, bits_of_same}
 use Rattle.dmr_bits.proofs.Dividing.{Laws}
-use Rattle.dmr_rs.specs.Field.{times_x, sum_over, times, octet_field}
+use Rattle.dmr_rs.specs.Field.{times_x, times, octet_field}
+
+-- for each bit, the highest first: the sum so far times x, and `b` added where the bit is one
+abbrev pub sum_over : List Bool → ℕ → ℕ → ℕ
+sum_over bits b sum = fold (λ (sum : ℕ) (bit : Bool). bit_xor (times_x sum) (cond bit b 0)) sum bits
 
 -- ---- sums
 pub xor_swap : (a b c d : ℕ) → bit_xor (bit_xor a b) (bit_xor c d) ≡ bit_xor (bit_xor a c) (bit_xor b d)

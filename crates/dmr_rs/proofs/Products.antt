@@ -11,8 +11,8 @@ use Rattle.dmr_bits.proofs.Dividing.{binary_laws, product_step, add_front_twice,
 use Rattle.dmr_bits.proofs.Dividing.{add_front_to_nones, add_front_bits, scale_true, scale_false, only_completion}
 use Rattle.std.proofs.lemmas.List.{take-append-drop, length-take-le, length-drop}
 use Rattle.dmr_bits.specs.Register.{register_after}
-use Rattle.dmr_rs.specs.Field.{times_x, sum_over, times, IsProduct}
-use Rattle.dmr_rs.proofs.Field.{low_bits}
+use Rattle.dmr_rs.specs.Field.{times_x, times, IsProduct}
+use Rattle.dmr_rs.proofs.Field.{low_bits, sum_over}
 
 -- ---- sums of lists of bits
 xor_between : (a b c : Bool) → xor a (xor b c) ≡ xor b (xor a c)

@@ -12,7 +12,7 @@ use Rattle.dmr_bits.specs.Polynomials.{add_front, product}
 use Rattle.dmr_bits.specs.Register.{register_after}
 use Rattle.dmr_bits.proofs.Dividing.{completes, only_completion, length-run, length-add_front, All-run, All-add_front, All-product}
 use Rattle.dmr_rs.specs.Field.{times_x, times, octet_field}
-use Rattle.dmr_rs.specs.Word.{generator, generator_low, IsRsWord, value_at, power, IsZeroAtRoots, octet_distance}
+use Rattle.dmr_rs.specs.Word.{generator_low, IsRsWord, value_at, power, IsZeroAtRoots, octet_distance}
 use Rattle.dmr_rs.proofs.Field.{IsLinear, none_is, times_x-mod, times-xor, times-lt, xor_swap, xor_none, octet_laws}
 use Rattle.dmr_rs.proofs.Powers.{shifted, shifted_linear, shifted-times, horner, horner-append}
 use Rattle.dmr_rs.proofs.Powers.{horner-xor, horner-none, at_power, wrong, all_zero}
@@ -54,7 +54,8 @@ All-check message =
 
 pub words_are_octets : (word : List ℕ) → IsRsWord word → All (λ octet. octet < 256) word
 words_are_octets word is =
-    All-same (λ octet. octet < 256) word (product octet_field is.0 generator) (sym is.1) (All-product octet_laws is.0 generator)
+    All-same (λ octet. octet < 256) word (product octet_field is.0 (1 ∷ generator_low)) (sym is.1)
+    (All-product octet_laws is.0 (1 ∷ generator_low))
 
 -- ---- roots of the generator
 pub record IsRoot (f : ℕ → ℕ) : Type 0 where

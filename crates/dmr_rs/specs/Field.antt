@@ -1,6 +1,7 @@
 -- Octets as the elements of a field of 256: each stands for the polynomial over bits of its eight bits, and products
 -- are taken modulo x^8 + x^4 + x^3 + x^2 + 1.
-use Rattle.std.specs.Prelude.{ℕ, ◌*◌, ◌/◌, ◌%◌, ◌==◌, Bool, true, false, List, [], ◌∷◌, ◌++◌, replicate, bit_xor, if◌then◌else◌}
+use Rattle.std.specs.Prelude.{ℕ, ◌*◌, ◌/◌, ◌%◌, ◌==◌, Bool, true, false, List, ◌∷◌, ◌++◌, replicate, fold, bit_xor}
+use Rattle.std.specs.Prelude.{if◌then◌else◌}
 use Rattle.dmr_bits.specs.Bits.{bits_of, xor_bits}
 use Rattle.dmr_bits.specs.Polynomials.{Coefficients, binary_field, product, IsMultiple}
 
@@ -12,14 +13,10 @@ field_polynomial = true ∷ bits_of 8 0x1D
 abbrev pub times_x : ℕ → ℕ
 times_x a = bit_xor (2 * a % 256) (if a / 128 % 2 == 1 then 0x1D else 0)
 
--- for each bit, the highest first: the sum so far times x, and `b` added where the bit is one
-abbrev pub sum_over : List Bool → ℕ → ℕ → ℕ
-sum_over [] b sum = sum
-sum_over (bit ∷ bits) b sum = sum_over bits b (bit_xor (times_x sum) (if bit then b else 0))
-
--- the product of two octets; of greater numbers it reads the lowest eight bits
+-- The product of two octets: for each bit of the first, the highest first, the sum so far times x, and the second added where the
+-- bit is one. Of greater numbers it reads the lowest eight bits.
 unfoldable pub times : ℕ → ℕ → ℕ
-times a b = sum_over (bits_of 8 a) (b % 256) 0
+times a b = fold (λ sum bit. bit_xor (times_x sum) (if bit then b % 256 else 0)) 0 (bits_of 8 a)
 
 -- octets as coefficients: the sum goes bit by bit
 abbrev pub octet_field : Coefficients ℕ

@@ -7,13 +7,10 @@ use Rattle.dmr_rs.specs.Field.{times, octet_field}
 abbrev pub generator_low : List ℕ
 generator_low = 0x0E ∷ 0x38 ∷ 0x40 ∷ []
 
+-- octets, twelve wherever a word is meant, are one where they are the coefficients of a multiple of the generator, which is
 -- x^3 + 0E x^2 + 38 x + 40
-abbrev pub generator : List ℕ
-generator = 1 ∷ generator_low
-
--- octets, twelve wherever a word is meant, are one where they are the coefficients of a multiple of the generator
 abbrev pub IsRsWord : List ℕ → Type 0
-IsRsWord octets = IsMultiple octet_field generator octets
+IsRsWord octets = IsMultiple octet_field (1 ∷ generator_low) octets
 
 -- the value of the polynomial with these coefficients, the highest power first, where x is an octet
 unfoldable pub value_at : ℕ → List ℕ → ℕ

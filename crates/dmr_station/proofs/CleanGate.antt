@@ -23,7 +23,8 @@ use Rattle.dmr_gateway.specs.Runs.{Happening}
 use Rattle.dmr_gateway.specs.declared.answers.Due.{Due}
 use Rattle.dmr_gateway.specs.declared.outbox.SlotBurst.{SlotBurst}
 use Rattle.dmr_gateway.specs.declared.outbox.SlotBurst.TheVariants as burst
-use Rattle.dmr_station.specs.GatewayMeaning.{Given, AreGiven, gates_of}
+use Rattle.dmr_station.specs.GatewayMeaning.{Given, AreGiven}
+use Rattle.dmr_station.proofs.Frames.{gates_of}
 use Rattle.dmr_station.specs.StationRules.{Settings}
 
 -- 1. One burst.

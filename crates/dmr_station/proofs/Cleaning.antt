@@ -3,7 +3,8 @@ use Rattle.std.proofs.Common.{◌≡◌, ℕ, suc, ◌+◌, ◌%◌, ◌==◌, B
 use Rattle.std.proofs.Common.{refl, sym, ap, ◌∙◌, subst, arith}
 use Rattle.std.proofs.lemmas.List.{length-map}
 use Rattle.dmr_burst.specs.declared.burst.Burst.{Burst}
-use Rattle.dmr_slot.specs.ChannelMeaning.{Claim, ChannelOut, claims_of, frame_of, channel_frames, has_traffic_within}
+use Rattle.dmr_slot.specs.ChannelMeaning.{Claim, ChannelOut, claims_of, channel_frames}
+use Rattle.dmr_slot.proofs.Channels.{has_traffic_within, frame_of}
 use Rattle.dmr_slot.specs.Clean.{AreCleanBursts, line_burst}
 use Rattle.dmr_slot.specs.ChannelRules.{AreSent}
 use Rattle.dmr_slot.specs.LineRules.{LineMemory as Line, ArePushed}
@@ -15,15 +16,16 @@ use Rattle.dmr_station.specs.declared.announcing.Message.{Message}
 use Rattle.dmr_station.specs.Sending.{DownlinkBurst}
 use Rattle.dmr_station.specs.Clean.{AreCleanSlots, IsCleanCach, IsCleanDownlink, IsEncodedAs, burst_sent, bursts_in, first_slots}
 use Rattle.dmr_station.specs.Clean.{second_slots}
-use Rattle.dmr_station.specs.DownlinkRules.{Makes, slots_of, slots_in, frames_in, claims_in, marked_frames}
+use Rattle.dmr_station.specs.DownlinkRules.{Makes, slots_of, slots_in, frames_in, marked_frames}
 use Rattle.dmr_record.specs.Outgoing.{Sending}
 use Rattle.dmr_record.specs.Received.{Receipt}
 use Rattle.dmr_gateway.specs.Runs.{Happening}
-use Rattle.dmr_station.specs.GatewayMeaning.{Given, AreGiven, gates_of}
-use Rattle.dmr_station.specs.StationRules.{Settings, Counts, slot_in, marked}
+use Rattle.dmr_station.specs.GatewayMeaning.{Given, AreGiven}
+use Rattle.dmr_station.proofs.Frames.{slot_in, gates_of, claims_in}
+use Rattle.dmr_station.specs.StationRules.{Settings, Counts, marked}
 use Rattle.dmr_station.proofs.CleanGate.{clean_givens, gate_pairs, first_gates, second_gates}
 use Rattle.dmr_station.proofs.Made.{given_length}
-use Rattle.dmr_station.specs.Pairs.{Pairwise}
+use Rattle.std.specs.List.{AllZip}
 use Rattle.dmr_station.specs.Sent.{fragment_lcss, IsCachOf, IsSentAs, AreSentAs}
 
 -- ---- any bursts
@@ -44,7 +46,7 @@ encoded_slot place (Some d) None u = absurd u
 encoded_slot place (Some d) (Some s) u = (clean_cach d.is_repeated d.message place s.0 u.announces, u.encodes)
 
 encoded_slots : (place : ℕ) (slots : List (Option DownlinkBurst)) (sent : List (Option (List ℕ × List ℕ)))
-    → AreSentAs place slots sent → Pairwise IsEncodedAs (bursts_in slots) sent
+    → AreSentAs place slots sent → AllZip IsEncodedAs (bursts_in slots) sent
 encoded_slots place [] [] u = tt
 encoded_slots place [] (s ∷ more) u = absurd u
 encoded_slots place (slot ∷ slots) [] u = absurd u
@@ -108,7 +110,7 @@ gates_length (a ∷ first) [] e = absurd (omega (arith, e))
 gates_length (a ∷ first) (b ∷ second) e = let more = gates_length first second (omega (arith, e)) in omega (arith, more)
 
 all_frames_sent : (colour : ℕ) (frames : List (List ChannelOut)) (bursts : List (List (Option Burst)))
-    → Pairwise (AreSent colour) frames bursts → AllFramesSent colour frames bursts
+    → AllZip (AreSent colour) frames bursts → AllFramesSent colour frames bursts
 all_frames_sent colour [] [] u = tt
 all_frames_sent colour [] (sent ∷ bursts) u = absurd u
 all_frames_sent colour (frame ∷ frames) [] u = absurd u
@@ -147,7 +149,7 @@ one_more m messages a b first second (x ∷ y ∷ []) bursts two u = record {
 slot_by_slot : (colour hang : ℕ) (back : List (List Claim)) (past : List (List SlotOut)) (messages : List Message)
     (first second : List SlotOut) (one two : List Given) (bursts : List (List (Option Burst)))
     → AreAnnounced past (frames_in first second) messages
-    → Pairwise (AreSent colour) (channel_frames hang back (claims_in (frames_in first second) (gates_of one two))) bursts
+    → AllZip (AreSent colour) (channel_frames hang back (claims_in (frames_in first second) (gates_of one two))) bursts
     → length (frames_in first second) ≡ length (gates_of one two) → SlotBySlot messages first second bursts
 slot_by_slot colour hang back past [] [] second one two [] v u e = record { first_is = refl; second_is = refl }
 slot_by_slot colour hang back past (m ∷ messages) [] second one two [] v u e = absurd v
@@ -187,8 +189,8 @@ clean_made s offers frames sending receipts counts u =
     u.first_line.pushed in
     let clean_second = pushed_lines_are_clean s.colour s.call_hang (slots_in 1 frames) u.second u.second_line.after
     u.second_line.pushed in
-    let channel : Pairwise (AreSent s.colour) (channel_frames s.channel_hang [] (claims_in outs (gates_of one two))) bursts =
-    subst (λ (gates : List (List (Option Burst))). Pairwise (AreSent s.colour)
+    let channel : AllZip (AreSent s.colour) (channel_frames s.channel_hang [] (claims_in outs (gates_of one two))) bursts =
+    subst (λ (gates : List (List (Option Burst))). AllZip (AreSent s.colour)
     (channel_frames s.channel_hang [] (claims_in outs gates)) bursts)
     u.gateway.gates_are u.downlink.channel in
     let sent = all_frames_sent s.colour (channel_frames s.channel_hang [] (claims_in outs (gates_of one two))) bursts channel in

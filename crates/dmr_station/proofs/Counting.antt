@@ -1,13 +1,13 @@
 -- What frames count is what both slots give in them.
-use Rattle.std.proofs.Common.{◌≡◌, ℕ, ◌+◌, cond, List, [], ◌∷◌, ◌++◌, length, map, refl, ◌∙◌, ap, arith}
+use Rattle.std.proofs.Common.{◌≡◌, ℕ, ◌+◌, List, [], ◌∷◌, ◌++◌, length, map, refl, ◌∙◌, ap, arith}
 use Rattle.std.proofs.lemmas.List.{length-append, length-map}
 use Rattle.std.proofs.lemmas.List.Sums.{sum_by-append, sum_by-cons}
 use Rattle.std.proofs.lemmas.List.Concat.{flat_map-cons}
-use Rattle.std.specs.Prelude.{option_to_list}
+use Rattle.std.specs.Prelude.{option_to_list, flat_map, sum}
 use Rattle.dmr_arq.specs.declared.sender_state.Outcome.{Outcome}
 use Rattle.dmr_arq.specs.declared.sender_state.Outcome.TheVariants.{Delivered, Sent, GivenUp}
-use Rattle.dmr_station.specs.GatewayMeaning.{Given, receipt_in, receipts_of, outcomes_of, outcomes_in, refused_in, counts_of}
-use Rattle.dmr_station.specs.StationRules.{FrameGiven, Counts, added, all_counted, counted_frame, is_outcome, outcome_count}
+use Rattle.dmr_station.specs.GatewayMeaning.{Given, receipt_in, receipts_of, counts_of}
+use Rattle.dmr_station.specs.StationRules.{FrameGiven, Counts, added, all_counted, counted_frame, outcome_count}
 use Rattle.dmr_station.specs.Station.{receipts_from}
 use Rattle.dmr_station.proofs.Exchanging.{given_in, givens_of}
 
@@ -39,11 +39,26 @@ receipts_counted frame (a ∷ first) (b ∷ second) =
 
 -- 2. Outcomes and refusals.
 
+-- What became of packets in one slot, and how many ended so.
+abbrev outcomes_of : List Given → List Outcome
+outcomes_of givens = flat_map (λ (g : Given). option_to_list g.outcome) givens
+
+abbrev outcomes_in : Outcome → List Given → ℕ
+outcomes_in outcome givens = outcome_count outcome (outcomes_of givens)
+
+-- How many datagrams one slot refused.
+abbrev refused_in : List Given → ℕ
+refused_in givens = sum (map (λ (g : Given). g.refused) givens)
+
+outcome_count-append : (outcome : Outcome) (xs ys : List Outcome)
+    → outcome_count outcome (xs ++ ys) ≡ outcome_count outcome xs + outcome_count outcome ys
+outcome_count-append outcome xs ys = sum_by-append _ xs ys
+
 outcomes_cons : (outcome : Outcome) (g : Given) (more : List Given)
     → outcomes_in outcome (g ∷ more) ≡ outcome_count outcome (option_to_list g.outcome) + outcomes_in outcome more
 outcomes_cons outcome g more =
     ap (outcome_count outcome) (flat_map-cons (λ (x : Given). option_to_list x.outcome) g more)
-    ∙ sum_by-append (λ o. cond (is_outcome outcome o) 1 0) (option_to_list g.outcome) (outcomes_of more)
+    ∙ outcome_count-append outcome (option_to_list g.outcome) (outcomes_of more)
 
 refused_cons : (g : Given) (more : List Given) → refused_in (g ∷ more) ≡ g.refused + refused_in more
 refused_cons g more = sum_by-cons (λ (n : ℕ). n) g.refused (map (λ (x : Given). x.refused) more)
@@ -52,7 +67,7 @@ outcomes_in_both : (outcome : Outcome) (a b : Given)
     → outcome_count outcome (given_in a b).outcomes
     ≡ outcome_count outcome (option_to_list a.outcome) + outcome_count outcome (option_to_list b.outcome)
 outcomes_in_both outcome a b =
-    sum_by-append (λ o. cond (is_outcome outcome o) 1 0) (option_to_list a.outcome) (option_to_list b.outcome)
+    outcome_count-append outcome (option_to_list a.outcome) (option_to_list b.outcome)
 
 outcomes_of_both : (outcome : Outcome) (a b : Given) (first second : List Given) (rest : ℕ)
     → rest ≡ outcomes_in outcome first + outcomes_in outcome second

@@ -17,15 +17,16 @@ use Rattle.dmr_gateway.specs.Runs.{Happening, brings}
 use Rattle.dmr_gateway.specs.SideRules.{all_received, side_outcome}
 use Rattle.dmr_gateway.specs.BothSlots.{SlotTurn, Stands, FrameAsMeant, IsFrameOfBothSlots}
 use Rattle.dmr_gateway.proofs.BothSlots.{frames_as_meant}
-use Rattle.dmr_station.specs.DownlinkRules.{slots_in, frames_in, claims_in, marked_frames}
+use Rattle.dmr_station.specs.DownlinkRules.{slots_in, frames_in, marked_frames}
 use Rattle.dmr_station.specs.GatewayMeaning.{AreReadFrom, AreForSlots}
-use Rattle.dmr_station.specs.GatewayMeaning.{of_slot, record_fault, record_faults, Given, AreGiven, Happens, IsGiven, gates_of}
+use Rattle.dmr_station.specs.GatewayMeaning.{record_fault, Given, AreGiven, Happens, IsGiven}
+use Rattle.dmr_station.proofs.Frames.{gates_of, claims_in}
 use Rattle.dmr_station.specs.StationRules.{Settings, StationMemory, FrameGiven, IsAsked, IsPassed, ArePassed, taken_of, is_free}
-use Rattle.dmr_station.specs.Pairs.{Pairwise}
+use Rattle.std.specs.List.{AllZip}
 use Rattle.dmr_station.specs.declared.announcing.Message.{Message}
 use Rattle.dmr_station.specs.Sending.{DownlinkBurst}
 use Rattle.dmr_station.proofs.LookingBack.{Announces}
-use Rattle.dmr_station.proofs.Offering.{offers_read, faults_read}
+use Rattle.dmr_station.proofs.Offering.{offers_read, faults_read, of_slot, record_faults}
 
 -- 1. Faults of both slots.
 
@@ -190,7 +191,7 @@ pub record Exchanged (s : Settings) (m : StationMemory) (back_1 back_2 : List Ha
   pub first_slot : AreGiven s 1 back_1 offers first first_given
   pub second_slot : AreGiven s 2 back_2 offers second second_given
   pub bursts : List (List (Option Burst))
-  pub channel : Pairwise (AreSent m.channel.colour)
+  pub channel : AllZip (AreSent m.channel.colour)
       (frames_out m.channel (claims_in (frames_in first second) (gates_of first_given second_given))) bursts
   pub messages : List Message
   pub announces : Announces m.kept (frames_in first second) messages
@@ -221,7 +222,7 @@ channel_after m f x asked a one two e g =
 pub exchanged : (s : Settings) (back_1 back_2 : List Happening) (m : StationMemory) (oss : List (List Outgoing))
     (offers : List (List Sending)) (frames : List (List (Option (List ℕ)))) (sending : List (List (Option DownlinkBurst)))
     (givens : List FrameGiven) (after : StationMemory) → ArePassed m oss frames sending givens after
-    → Stands s.colour s.llid s.queue back_1 back_2 m.gate → Pairwise AreReadFrom oss offers → AllByRecursion AreForSlots offers
+    → Stands s.colour s.llid s.queue back_1 back_2 m.gate → AllZip AreReadFrom oss offers → AllByRecursion AreForSlots offers
     → Exchanged s m back_1 back_2 offers frames sending givens
 exchanged s back_1 back_2 m [] [] [] [] [] after u stands pairs slots = record {
   first = [];
@@ -280,7 +281,7 @@ exchanged s back_1 back_2 m (os ∷ oss) (ss ∷ offers) (f ∷ fs) (x ∷ xs) (
       bursts = a.bursts ∷ more.bursts;
       channel = (
         claimed (record m { gate = p.offers }) f x p.asked a now.one_given.burst now.two_given.burst now.one_burst now.two_burst,
-        subst (λ (c : OnAir). Pairwise (AreSent c.colour)
+        subst (λ (c : OnAir). AllZip (AreSent c.colour)
             (frames_out c (claims_in (frames_in more.first more.second) (gates_of more.first_given more.second_given))) more.bursts)
             (ap (λ (k : StationMemory). k.channel) moved
             ∙ channel_after (record m { gate = p.offers }) f x p.asked a now.one_given.burst now.two_given.burst now.one_burst

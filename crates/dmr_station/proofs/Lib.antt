@@ -5,6 +5,7 @@ pub mod Counting
 pub mod Encodings
 pub mod Exchanges
 pub mod Exchanging
+pub mod Frames
 pub mod LookingBack
 pub mod Made
 pub mod Offering

@@ -1,9 +1,11 @@
 -- What is announced by the rules is what a look back finds, and there is one such message a frame.
 use Rattle.std.proofs.Common.{◌≡◌, ℕ, ◌%◌, List, [], ◌∷◌, length, Option, Some, None}
 use Rattle.std.proofs.Common.{refl, sym, ap, ◌∙◌, subst, arith, slice_index_or}
+use Rattle.std.proofs.Common.{map}
+use Rattle.dmr_link.specs.declared.full_lc.FullLc.{FullLc}
 use Rattle.dmr_slot.specs.declared.line.SlotOut.{SlotOut}
 use Rattle.dmr_slot.proofs.Messages.{one_message as one_message_of_calls}
-use Rattle.dmr_station.specs.Announced.{known_lcs, IsMessageFor, IsAnnounced, deciding, AreAnnounced}
+use Rattle.dmr_station.specs.Announced.{IsMessageFor, IsAnnounced, AreAnnounced}
 use Rattle.dmr_station.specs.declared.announcing.Message.{Message}
 
 -- ---- by the rules, frame after frame
@@ -20,15 +22,18 @@ Keeps None back = length back % 2 ≡ 0
 Keeps (Some kept) [] = ⊥
 Keeps (Some kept) (last ∷ back) = (length back % 2 ≡ 0) × IsMessageFor last kept
 
+-- The frame whose slots decide the message of a frame.
+abbrev pub deciding : List (List SlotOut) → List SlotOut → List SlotOut
+deciding back outs = slice_index_or (outs ∷ back) (length back % 2) outs
+
 itself : (back : List (List SlotOut)) (outs : List SlotOut) → length back % 2 ≡ 0 → deciding back outs ≡ outs
-itself [] outs even = refl
-itself (last ∷ back) outs even =
-    let odd : length back % 2 ≡ 1 = omega arith in
-    rw odd refl
+itself back outs even = ap (λ (n : ℕ). slice_index_or (outs ∷ back) n outs) even
 
 before : (last : List SlotOut) (back : List (List SlotOut)) (outs : List SlotOut) → length back % 2 ≡ 0
     → deciding (last ∷ back) outs ≡ last
-before last back outs even = rw even refl
+before last back outs even =
+    let odd : length (last ∷ back) % 2 ≡ 1 = omega (arith, even) in
+    ap (λ (n : ℕ). slice_index_or (outs ∷ last ∷ back) n outs) odd
 
 pub looks_back : (kept : Option Message) (back frames : List (List SlotOut)) (messages : List Message) → Keeps kept back
     → Announces kept frames messages → AreAnnounced back frames messages
@@ -52,6 +57,10 @@ looks_back (Some kept) (last ∷ back) (outs ∷ frames) (m ∷ messages) k u =
     )
 
 -- ---- there is one
+-- The known link control of the call of each slot.
+abbrev known_lcs : List SlotOut → List (Option FullLc)
+known_lcs outs = map (λ (out : SlotOut). out.lc) outs
+
 same_fields : (m n : Message) → m.slco ≡ n.slco → m.body ≡ n.body → m ≡ n
 same_fields m n e f =
     let of : ℕ → ℕ → Message = λ slco body. record { slco = slco; body = body } in

@@ -1,8 +1,10 @@
 -- What the rules make of frames, slot by slot.
-use Rattle.std.proofs.Common.{◌≡◌, ℕ, List, [], ◌∷◌, ◌++◌, length, map, replicate, Option, None, refl, sym, ap, ◌∙◌, subst, arith}
+use Rattle.std.proofs.Common.{◌≡◌, ℕ, List, [], ◌∷◌, ◌++◌, length, map, replicate, take, Option, None, refl, sym, ap, ◌∙◌}
+use Rattle.std.proofs.Common.{subst, arith}
 use Rattle.std.proofs.lemmas.List.{map-append, length-map}
 use Rattle.dmr_burst.specs.declared.burst.Burst.{Burst}
 use Rattle.dmr_slot.specs.ChannelMeaning.{ChannelOut, channel_frames}
+use Rattle.dmr_slot.specs.Bursts.{IsSlotOut}
 use Rattle.dmr_slot.specs.ChannelRules.{AreSent}
 use Rattle.dmr_slot.specs.LineRules.{LineMemory as Line, silent_line, ArePushed}
 use Rattle.dmr_slot.specs.Recordings.{handed_slots}
@@ -13,11 +15,11 @@ use Rattle.dmr_slot.proofs.Fronts.{front_of_any_line, front_of_what_is_meant}
 use Rattle.dmr_slot.proofs.Unique.{one_sent}
 use Rattle.dmr_voice.proofs.Law.{repeats_what_is_meant}
 use Rattle.dmr_voice.specs.DamagedRecordings.{IsDamagedRecordingOf}
-use Rattle.dmr_voice.specs.CallMeaning.{Transmission, sent_list}
+use Rattle.dmr_voice.specs.CallMeaning.{Transmission, Cell, sent_list}
 use Rattle.dmr_voice.specs.WellFormed.{IsWellFormed}
 use Rattle.dmr_station.specs.declared.announcing.Message.{Message}
 use Rattle.dmr_station.specs.Sending.{DownlinkBurst}
-use Rattle.dmr_station.specs.DownlinkRules.{slots_in, frames_in, claims_in, marked_frames, IsDownlinkOf, IsPushedLine, Makes}
+use Rattle.dmr_station.specs.DownlinkRules.{slots_in, frames_in, marked_frames, IsDownlinkOf, IsPushedLine, Makes}
 use Rattle.dmr_station.specs.DownlinkRules.{silent_frame}
 use Rattle.dmr_station.specs.DownlinkRules.{handed_frames}
 use Rattle.std.specs.List.{AllByRecursion}
@@ -26,14 +28,22 @@ use Rattle.dmr_gateway.specs.BothSlots.{Stands}
 use Rattle.dmr_gateway.proofs.BothSlots.{starts as starts_there}
 use Rattle.dmr_record.specs.Outgoing.{Sending}
 use Rattle.dmr_record.specs.declared.outgoing.Outgoing.{Outgoing}
-use Rattle.dmr_station.specs.GatewayMeaning.{AreReadFrom, AreForSlots, Given, AreGiven, gates_of}
-use Rattle.dmr_station.specs.StationRules.{Settings, StationMemory, FrameGiven, start, slot_in, ArePassed, all_counted}
+use Rattle.dmr_station.specs.GatewayMeaning.{AreReadFrom, AreForSlots, Given, AreGiven}
+use Rattle.dmr_station.proofs.Frames.{slot_in, gates_of, claims_in}
+use Rattle.dmr_station.specs.StationRules.{Settings, StationMemory, FrameGiven, start, ArePassed, all_counted}
 use Rattle.dmr_station.specs.Station.{receipts_from}
 use Rattle.dmr_station.proofs.Counting.{receipts_of_both, counted_of_both}
 use Rattle.dmr_station.proofs.Exchanging.{exchanged}
-use Rattle.dmr_station.specs.DownlinkMeaning.{IsFrontOfWhatIsMeant, IsLineOfWhatIsMeant, SendsFrontOfWhatIsMeant, SendsWhatIsMeant}
-use Rattle.dmr_station.specs.Pairs.{Pairwise}
+use Rattle.dmr_station.specs.DownlinkMeaning.{line_of_meaning, SendsFrontOfWhatIsMeant, SendsWhatIsMeant}
+use Rattle.std.specs.List.{AllZip}
 use Rattle.dmr_station.proofs.LookingBack.{looks_back as messages_look_back, one_announced}
+
+-- What the line of a slot gives is the line of what was sent in it, or the first so many frames of that.
+abbrev LineOf : Settings → List Cell → List (Option (List ℕ)) → List SlotOut → Type 0
+LineOf s cells slots outs = AllZip (IsSlotOut s.colour) (line_of_meaning s cells slots) outs
+
+abbrev FrontOf : Settings → List Cell → List (Option (List ℕ)) → ℕ → List SlotOut → Type 0
+FrontOf s cells slots count outs = AllZip (IsSlotOut s.colour) (take count (line_of_meaning s cells slots)) outs
 
 -- ---- from frames to slots
 -- each frame gives what both slots give
@@ -55,7 +65,7 @@ pushed_line s slots outs after pushed =
 
 pub makes : (s : Settings) (oss : List (List Outgoing)) (offers : List (List Sending)) (frames : List (List (Option (List ℕ))))
     (sending : List (List (Option DownlinkBurst))) (givens : List FrameGiven) (after : StationMemory)
-    → ArePassed (start s) oss frames sending givens after → Pairwise AreReadFrom oss offers → AllByRecursion AreForSlots offers
+    → ArePassed (start s) oss frames sending givens after → AllZip AreReadFrom oss offers → AllByRecursion AreForSlots offers
     → Makes s offers frames sending (receipts_from 0 (map (λ (g : FrameGiven). g.received) givens)) (all_counted givens)
 makes s oss offers frames sending givens after u pairs slots =
     let silent : Stands s.colour s.llid s.queue [] [] (start s).gate = starts_there s.colour s.llid s.queue in
@@ -82,7 +92,7 @@ makes s oss offers frames sending givens after u pairs slots =
       };
       downlink = record {
         bursts = both.bursts;
-        channel = subst (λ (l : List (List ChannelOut)). Pairwise (AreSent s.colour) l both.bursts)
+        channel = subst (λ (l : List (List ChannelOut)). AllZip (AreSent s.colour) l both.bursts)
             (looks_back s.colour s.channel_hang claims) both.channel;
         messages = both.messages;
         announced = messages_look_back None [] (frames_in both.first both.second) both.messages refl both.announces;
@@ -104,7 +114,7 @@ module _ (s : Settings) (lead : ℕ) (ts : List (Transmission
     (slots_in number frames))
     (same : slots_in number (handed_frames frames) ≡ handed_slots (slots_in number frames)) where
   whole_of_meaning : IsPushedLine s (slots_in number (handed_frames frames)) outs
-      → IsLineOfWhatIsMeant s (sent_list s.colour lead ts) (slots_in number frames) outs
+      → LineOf s (sent_list s.colour lead ts) (slots_in number frames) outs
   whole_of_meaning line =
       line_of_what_is_meant repeats_what_is_meant s.colour s.call_hang lead ts (slots_in number frames) outs line.after well
       recorded
@@ -112,11 +122,11 @@ module _ (s : Settings) (lead : ℕ) (ts : List (Transmission
 
   front_of_meaning : (xs ys : List (List (Option (List ℕ)))) → handed_frames frames ≡ xs ++ ys
       → IsPushedLine s (slots_in number xs) outs
-      → IsFrontOfWhatIsMeant s (sent_list s.colour lead ts) (slots_in number frames) (length xs) outs
+      → FrontOf s (sent_list s.colour lead ts) (slots_in number frames) (length xs) outs
   front_of_meaning xs ys split line =
       let slots_split : handed_slots (slots_in number frames) ≡ slots_in number xs ++ slots_in number ys =
       sym same ∙ ap (slots_in number) split ∙ map-append (slot_in number) xs ys in
-      subst (λ (count : ℕ). IsFrontOfWhatIsMeant s (sent_list s.colour lead ts) (slots_in number frames) count outs)
+      subst (λ (count : ℕ). FrontOf s (sent_list s.colour lead ts) (slots_in number frames) count outs)
       (length-map xs (slot_in number))
       (front_of_what_is_meant repeats_what_is_meant s.colour s.call_hang lead ts (slots_in number frames) (slots_in number xs)
       (slots_in number ys) outs line.after
@@ -127,24 +137,24 @@ module _ (s : Settings) (lead : ℕ) (ts : List (Transmission
     × ℕ)) (frames : List (List (Option (List ℕ)))) (outs : List SlotOut) (well : IsWellFormed s.colour ts) where
   first_of_meaning : IsDamagedRecordingOf s.colour (sent_list s.colour lead ts) (slots_in 0 frames)
       → IsPushedLine s (slots_in 0 (handed_frames frames)) outs
-      → IsLineOfWhatIsMeant s (sent_list s.colour lead ts) (slots_in 0 frames) outs
+      → LineOf s (sent_list s.colour lead ts) (slots_in 0 frames) outs
   first_of_meaning recorded pushed = whole_of_meaning s lead ts 0 frames outs well recorded (handed_in_first frames) pushed
 
   second_of_meaning : IsDamagedRecordingOf s.colour (sent_list s.colour lead ts) (slots_in 1 frames)
       → IsPushedLine s (slots_in 1 (handed_frames frames)) outs
-      → IsLineOfWhatIsMeant s (sent_list s.colour lead ts) (slots_in 1 frames) outs
+      → LineOf s (sent_list s.colour lead ts) (slots_in 1 frames) outs
   second_of_meaning recorded pushed = whole_of_meaning s lead ts 1 frames outs well recorded (handed_in_second frames) pushed
 
   first_front : (xs ys : List (List (Option (List ℕ))))
       → IsDamagedRecordingOf s.colour (sent_list s.colour lead ts) (slots_in 0 frames) → handed_frames frames ≡ xs ++ ys
-      → IsPushedLine s (slots_in 0 xs) outs → IsFrontOfWhatIsMeant s (sent_list s.colour lead ts) (slots_in 0 frames)
+      → IsPushedLine s (slots_in 0 xs) outs → FrontOf s (sent_list s.colour lead ts) (slots_in 0 frames)
       (length xs) outs
   first_front xs ys recorded split pushed = front_of_meaning s lead ts 0 frames outs well recorded
       (handed_in_first frames) xs ys split pushed
 
   second_front : (xs ys : List (List (Option (List ℕ))))
       → IsDamagedRecordingOf s.colour (sent_list s.colour lead ts) (slots_in 1 frames) → handed_frames frames ≡ xs ++ ys
-      → IsPushedLine s (slots_in 1 xs) outs → IsFrontOfWhatIsMeant s (sent_list s.colour lead ts) (slots_in 1 frames)
+      → IsPushedLine s (slots_in 1 xs) outs → FrontOf s (sent_list s.colour lead ts) (slots_in 1 frames)
       (length xs) outs
   second_front xs ys recorded split pushed = front_of_meaning s lead ts 1 frames outs well recorded
       (handed_in_second frames) xs ys split pushed
@@ -187,7 +197,7 @@ one_sent_frame colour (slot ∷ slots) (a ∷ as') (b ∷ bs) u v =
     cc
 
 one_sent_list : (colour : ℕ) (frames : List (List ChannelOut)) (a b : List (List (Option Burst)))
-    → Pairwise (AreSent colour) frames a → Pairwise (AreSent colour) frames b → a ≡ b
+    → AllZip (AreSent colour) frames a → AllZip (AreSent colour) frames b → a ≡ b
 one_sent_list colour [] [] [] u v = refl
 one_sent_list colour [] (a ∷ as') b u v = absurd u
 one_sent_list colour [] [] (b ∷ bs) u v = absurd v

@@ -64,16 +64,16 @@ same_voice : (a b : Emb) (f g : ℕ) (v w : List Bool) → a ≡ b → f ≡ g �
 same_voice a b f g v w p q r = cc
 
 one_burst : (a b : Burst) (bits : List Bool) → IsEncoding a Bs bits → IsEncoding b Bs bits → a ≡ b
-one_burst (Data c k i) (Data d l j) bits u v = same_data c d k l i j (sym u.says ∙ v.says) (sym u.holds ∙ v.holds)
-one_burst (Data c k i) (VoiceSync w) bits u v = absurd (no_sync_of_both (sym u.sync ∙ v.sync))
-one_burst (Data c k i) (Voice emb f w) bits u v = absurd (no_emb false bits u.long u.sync v.word)
-one_burst (VoiceSync w) (Data c k i) bits u v = absurd (no_sync_of_both (sym v.sync ∙ u.sync))
-one_burst (VoiceSync w) (VoiceSync x) bits u v = ap VoiceSync (sym u.holds ∙ v.holds)
-one_burst (VoiceSync w) (Voice emb f x) bits u v = absurd (no_emb true bits u.long u.sync v.word)
-one_burst (Voice emb f w) (Data c k i) bits u v = absurd (no_emb false bits v.long v.sync u.word)
-one_burst (Voice emb f w) (VoiceSync x) bits u v = absurd (no_emb true bits v.long v.sync u.word)
-one_burst (Voice emb f w) (Voice other g x) bits u v = same_voice emb other f g w x (sym u.says ∙ v.says) (sym u.field
-    ∙ v.field) (sym u.holds ∙ v.holds)
+one_burst (Data c k i) (Data d l j) bits u v = same_data c d k l i j (sym u.2 ∙ v.2) (sym u.3 ∙ v.3)
+one_burst (Data c k i) (VoiceSync w) bits u v = absurd (no_sync_of_both (sym u.4 ∙ v.2))
+one_burst (Data c k i) (Voice emb f w) bits u v = absurd (no_emb false bits u.0 u.4 v.1)
+one_burst (VoiceSync w) (Data c k i) bits u v = absurd (no_sync_of_both (sym v.4 ∙ u.2))
+one_burst (VoiceSync w) (VoiceSync x) bits u v = ap VoiceSync (sym u.1 ∙ v.1)
+one_burst (VoiceSync w) (Voice emb f x) bits u v = absurd (no_emb true bits u.0 u.2 v.1)
+one_burst (Voice emb f w) (Data c k i) bits u v = absurd (no_emb false bits v.0 v.4 u.1)
+one_burst (Voice emb f w) (VoiceSync x) bits u v = absurd (no_emb true bits v.0 v.2 u.1)
+one_burst (Voice emb f w) (Voice other g x) bits u v = same_voice emb other f g w x (sym u.2 ∙ v.2) (sym u.3 ∙ v.3) (sym u.4
+    ∙ v.4)
 
 pub one_reading : (a b : Option Burst) (sent : Option (List ℕ × List ℕ)) → IsEncodedAs a sent → IsEncodedAs b sent → a ≡ b
 one_reading None None sent u v = refl

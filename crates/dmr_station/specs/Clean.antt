@@ -7,7 +7,7 @@ use Rattle.dmr_burst.specs.declared.burst.Burst.{Burst}
 use Rattle.dmr_burst.specs.declared.sync.Side.TheVariants.{Bs}
 use Rattle.dmr_slot.specs.Clean.{AreCleanBursts}
 use Rattle.dmr_station.specs.Sending.{DownlinkBurst}
-use Rattle.dmr_station.specs.Pairs.{Pairwise}
+use Rattle.std.specs.List.{AllZip}
 
 -- 1. Bursts of both slots in turn.
 
@@ -46,7 +46,7 @@ IsEncodedAs (Some burst) sent = IsSomeAnd sent (λ s. IsCleanCach s.0 × IsEncod
 -- Records that may be transmitted: the encoding of clean bursts.
 pub record IsCleanDownlink (colour : ℕ) (sent : List (Option (List ℕ × List ℕ))) : Type 0 where
   pub bursts : List (Option Burst)
-  pub encoded : Pairwise IsEncodedAs bursts sent
+  pub encoded : AllZip IsEncodedAs bursts sent
   pub clean : AreCleanSlots colour bursts
 
 -- 3. What is sent.

@@ -7,7 +7,8 @@ use Rattle.dmr_gateway.specs.declared.heard.Heard.{Heard}
 use Rattle.dmr_gateway.specs.declared.received.Received.{Received}
 use Rattle.dmr_record.specs.Outgoing.{Sending}
 use Rattle.dmr_record.specs.Received.{Receipt}
-use Rattle.dmr_slot.specs.Bursts.{AreSlotOuts}
+use Rattle.std.specs.List.{AllZip}
+use Rattle.dmr_slot.specs.Bursts.{IsSlotOut}
 use Rattle.dmr_slot.specs.LineMeaning.{LineOut, lines}
 use Rattle.dmr_slot.specs.declared.line.SlotOut.{SlotOut}
 use Rattle.dmr_voice.specs.DamagedRecordings.{IsDamagedRecordingOf, meant}
@@ -23,28 +24,21 @@ use Rattle.dmr_station.specs.GatewayMeaning.{IsGatewayOf}
 
 -- 1. What both slots mean.
 
--- The line of a slot in which this was sent: six frames later what it means, with the vocoder bits of the recording, or else
--- the call hang.
+-- The line of a slot in which this was sent: six frames later what it means, with the vocoder bits of the recording, or else the
+-- call hang.
 abbrev pub line_of_meaning : Settings → List Cell → List (Option (List ℕ)) → List LineOut
 line_of_meaning s cells slots = lines s.call_hang [] (replicate 6 Nothing ++ meant cells slots)
 
--- What the line of a slot gives, as bursts of the own colour code, is the line of what was sent in the slot.
-abbrev pub IsLineOfWhatIsMeant : Settings → List Cell → List (Option (List ℕ)) → List SlotOut → Type 0
-IsLineOfWhatIsMeant s cells slots outs = AreSlotOuts s.colour (line_of_meaning s cells slots) outs
-
--- The first so many frames of such a line.
-abbrev pub IsFrontOfWhatIsMeant : Settings → List Cell → List (Option (List ℕ)) → ℕ → List SlotOut → Type 0
-IsFrontOfWhatIsMeant s cells slots count outs = AreSlotOuts s.colour (take count (line_of_meaning s cells slots)) outs
-
 -- What goes out where this was sent in both slots, of which these frames are a recording, and these datagrams are offered in each
--- frame of the downlink; what is received; and what is counted of the gateway.
+-- frame of the downlink; what is received; and what is counted of the gateway. The line of each slot gives what was sent in it, as
+-- bursts of the own colour code.
 pub record IsDownlinkOfWhatIsMeant (s : Settings) (first second : List Cell) (frames : List (List (Option (List ℕ))))
     (offers : List (List Sending)) (sending : List (List (Option DownlinkBurst))) (receipts : List Receipt)
     (counts : Counts) : Type 0 where
   pub first_outs : List SlotOut
   pub second_outs : List SlotOut
-  pub first_line : IsLineOfWhatIsMeant s first (slots_in 0 frames) first_outs
-  pub second_line : IsLineOfWhatIsMeant s second (slots_in 1 frames) second_outs
+  pub first_line : AllZip (IsSlotOut s.colour) (line_of_meaning s first (slots_in 0 frames)) first_outs
+  pub second_line : AllZip (IsSlotOut s.colour) (line_of_meaning s second (slots_in 1 frames)) second_outs
   pub gates : List (List (Option Burst))
   pub gateway : IsGatewayOf s offers first_outs second_outs gates receipts counts
   pub downlink : IsDownlinkOf s first_outs second_outs gates sending
@@ -55,8 +49,8 @@ pub record IsFrontOfTheDownlink (s : Settings) (first second : List Cell) (frame
     (counts : Counts) : Type 0 where
   pub first_outs : List SlotOut
   pub second_outs : List SlotOut
-  pub first_line : IsFrontOfWhatIsMeant s first (slots_in 0 frames) count first_outs
-  pub second_line : IsFrontOfWhatIsMeant s second (slots_in 1 frames) count second_outs
+  pub first_line : AllZip (IsSlotOut s.colour) (take count (line_of_meaning s first (slots_in 0 frames))) first_outs
+  pub second_line : AllZip (IsSlotOut s.colour) (take count (line_of_meaning s second (slots_in 1 frames))) second_outs
   pub gates : List (List (Option Burst))
   pub gateway : IsGatewayOf s offers first_outs second_outs gates receipts counts
   pub downlink : IsDownlinkOf s first_outs second_outs gates sending

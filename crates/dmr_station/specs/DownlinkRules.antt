@@ -1,8 +1,9 @@
 -- What the downlink sends in both slots, from what their lines give.
-use Rattle.std.specs.Prelude.{ℕ, ◌≡◌, Bool, false, List, [], ◌∷◌, ◌++◌, map, replicate, count_by, Option, Some, None}
+use Rattle.std.specs.Prelude.{ℕ, ◌≡◌, Bool, false, List, [], ◌∷◌, ◌++◌, map, zip, replicate, count_by, slice_index_or, Option}
+use Rattle.std.specs.Prelude.{Some, None}
 use Rattle.std.specs.List.{flat_map}
 use Rattle.dmr_burst.specs.declared.burst.Burst.{Burst}
-use Rattle.dmr_slot.specs.ChannelMeaning.{Claim, claims_of, channel_frames}
+use Rattle.dmr_slot.specs.ChannelMeaning.{claims_of, channel_frames}
 use Rattle.dmr_slot.specs.ChannelRules.{AreSent}
 use Rattle.dmr_slot.specs.Fronts.{IsFrontOfLine}
 use Rattle.dmr_slot.specs.LineRules.{LineMemory as Line, silent_line, ArePushed}
@@ -13,14 +14,14 @@ use Rattle.dmr_station.specs.Sending.{DownlinkBurst}
 use Rattle.dmr_record.specs.Outgoing.{Sending}
 use Rattle.dmr_record.specs.Received.{Receipt}
 use Rattle.dmr_station.specs.GatewayMeaning.{IsGatewayOf}
-use Rattle.dmr_station.specs.StationRules.{Settings, Counts, slot_in, marked_slots}
-use Rattle.dmr_station.specs.Pairs.{Pairwise}
+use Rattle.dmr_station.specs.StationRules.{Settings, Counts, marked_slots}
+use Rattle.std.specs.List.{AllZip}
 
 -- 1. Frames of both slots.
 
 -- What stands in one slot of each frame.
 abbrev pub slots_in : ℕ → List (List (Option (List ℕ))) → List (Option (List ℕ))
-slots_in number frames = map (slot_in number) frames
+slots_in number frames = map (λ frame. slice_index_or frame number None) frames
 
 -- Both slots side by side.
 abbrev pub frames_in : List SlotOut → List SlotOut → List (List SlotOut)
@@ -43,12 +44,6 @@ repeated_count slots = count_by is_repeated slots
 
 -- 2. What goes out.
 
--- What claims the slots of each frame, with what the gateway has for them.
-abbrev pub claims_in : List (List SlotOut) → List (List (Option Burst)) → List (List Claim)
-claims_in [] gates = []
-claims_in (outs ∷ more) [] = []
-claims_in (outs ∷ more) (gate ∷ gates) = claims_of outs gate ∷ claims_in more gates
-
 -- What goes out frame by frame: its bursts, each with whether its line repeats it and with the message of its frame.
 abbrev pub marked_frames : List Message → List (List SlotOut) → List (List (Option Burst)) → List (List (Option DownlinkBurst))
 marked_frames [] outs bursts = []
@@ -62,7 +57,8 @@ marked_frames (m ∷ messages) (outs ∷ more) (frame ∷ bursts) = marked_slots
 pub record IsDownlinkOf (s : Settings) (first second : List SlotOut) (gates : List (List (Option Burst)))
     (sending : List (List (Option DownlinkBurst))) : Type 0 where
   pub bursts : List (List (Option Burst))
-  pub channel : Pairwise (AreSent s.colour) (channel_frames s.channel_hang [] (claims_in (frames_in first second) gates)) bursts
+  pub channel : AllZip (AreSent s.colour)
+      (channel_frames s.channel_hang [] (map (λ frame. claims_of frame.0 frame.1) (zip (frames_in first second) gates))) bursts
   pub messages : List Message
   pub announced : AreAnnounced [] (frames_in first second) messages
   pub marks : sending ≡ marked_frames messages (frames_in first second) bursts

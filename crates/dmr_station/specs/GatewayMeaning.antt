@@ -1,7 +1,7 @@
 -- What the gateway makes of frames: the bursts that it has for both slots, what it receives, and what became of the datagrams that
 -- are offered to it.
 use Rattle.std.specs.Prelude.{◌≡◌, ℕ, zero, suc, ◌+◌, ◌==◌, List, [], ◌∷◌, ◌++◌, length, map, filter, count_by, sum}
-use Rattle.std.specs.Prelude.{Option, Some, None, is_some, option_to_list}
+use Rattle.std.specs.Prelude.{Option, is_some, is_none, option_to_list, zip}
 use Rattle.std.specs.List.{AllByRecursion, flat_map}
 use Rattle.dmr_burst.specs.declared.burst.Burst.{Burst}
 use Rattle.dmr_arq.specs.declared.sender_state.Outcome.{Outcome}
@@ -18,9 +18,8 @@ use Rattle.dmr_gateway.specs.Packets.{offer_fault, IsPacketFor}
 use Rattle.dmr_gateway.specs.RecordMeaning.{received_now}
 use Rattle.dmr_gateway.specs.Runs.{Happening, all_heard, brings}
 use Rattle.dmr_gateway.specs.declared.fault.GatewayFault.{GatewayFault}
-use Rattle.dmr_gateway.specs.declared.queue.Queued.{Queued}
 use Rattle.dmr_gateway.specs.declared.received.Received.{Received}
-use Rattle.dmr_station.specs.Pairs.{Pairwise}
+use Rattle.std.specs.List.{AllZip}
 use Rattle.dmr_station.specs.StationRules.{Settings, Counts, is_free, outcome_count}
 
 -- 1. What is offered.
@@ -32,15 +31,11 @@ pub record IsReadOutgoing (o : Outgoing) (s : Sending) : Type 0 where
 
 -- The records that were read stand one by one for those of the outgoing file, and there are as many.
 abbrev pub AreReadFrom : List Outgoing → List Sending → Type 0
-AreReadFrom records sendings = Pairwise IsReadOutgoing records sendings
+AreReadFrom records sendings = AllZip IsReadOutgoing records sendings
 
 -- Each datagram is for slot 1 or for slot 2.
 abbrev pub AreForSlots : List Sending → Type 0
 AreForSlots sendings = AllByRecursion (λ s. IsSlot s.slot) sendings
-
--- The datagrams for a slot, in their order.
-abbrev pub of_slot : ℕ → List Sending → List Sending
-of_slot slot sendings = filter (λ s. s.slot == slot) sendings
 
 -- The datagrams of so many frames, from this one on: of each frame those that the outgoing file has for it.
 abbrev pub by_frame : ℕ → ℕ → List Sending → List (List Sending)
@@ -50,21 +45,6 @@ by_frame frame (suc count) sendings = filter (λ s. s.frame == frame) sendings �
 -- The fault that a datagram has of its own, whatever waits in its slot.
 abbrev pub record_fault : Sending → Option GatewayFault
 record_fault s = offer_fault s.confirmed s.full (length s.datagram) s.datagram
-
--- A datagram with a fault is refused; of any other there is the packet that is offered.
-abbrev pub OffersOne : Option GatewayFault → ℕ → Sending → List Queued → (List Queued → Type 0) → Type 0
-OffersOne (Some fault) llid s packets Rest = Rest packets
-OffersOne None llid s packets Rest =
-    (q : Queued) × (later : List Queued) × IsPacketFor llid s.confirmed s.full s.datagram q × (packets ≡ q ∷ later) × Rest later
-
--- The packets that are offered for these datagrams, in their order: one of each that has no fault of its own.
-abbrev pub OffersOfRecords : ℕ → List Sending → List Queued → Type 0
-OffersOfRecords llid [] packets = packets ≡ []
-OffersOfRecords llid (s ∷ sendings) packets = OffersOne (record_fault s) llid s packets (OffersOfRecords llid sendings)
-
--- How many of these datagrams have a fault of their own.
-abbrev pub record_faults : List Sending → ℕ
-record_faults sendings = count_by (λ s. is_some (record_fault s)) sendings
 
 -- 2. One slot.
 
@@ -76,10 +56,11 @@ pub record Given : Type 0 where
   pub outcome : Option Outcome
   pub refused : ℕ
 
--- What happens in the slot in a frame: these datagrams are offered, the gateway hears what its line repeats, and the slot is free
--- where its line gives nothing.
+-- What happens in the slot in a frame: a packet is offered for each of these datagrams that has no fault of its own, in their
+-- order, the gateway hears what its line repeats, and the slot is free where its line gives nothing.
 pub record Happens (s : Settings) (offered : List Sending) (out : SlotOut) (h : Happening) : Type 0 where
-  pub offers : OffersOfRecords s.llid offered h.offers
+  pub offers : AllZip (λ d packet. IsPacketFor s.llid d.confirmed d.full d.datagram packet)
+      (filter (λ d. is_none (record_fault d)) offered) h.offers
   pub heard : IsHeardByGateway out.repeated h.heard
   pub free : h.free ≡ is_free out
 
@@ -89,23 +70,18 @@ pub record IsGiven (s : Settings) (slot : ℕ) (frames : List Happening) (offere
   pub burst : IsGatewayOut s.colour s.llid (attempts s.queue s.llid (brings s.llid frames)).burst given.burst
   pub received : given.received ≡ received_now s.llid slot (all_heard frames)
   pub outcome : given.outcome ≡ (attempts s.queue s.llid (brings s.llid frames)).ledger.outcome
-  pub refused : given.refused ≡ record_faults offered + refused_now s.queue s.llid (brings s.llid frames)
+  pub refused : given.refused ≡ count_by (λ d. is_some (record_fault d)) offered + refused_now s.queue s.llid (brings s.llid frames)
 
--- Frame by frame, each with the datagrams that are offered in it, after those that happened before, the newest of them first.
+-- Frame by frame, each with the datagrams that are offered in it for this slot, after those that happened before, the newest of
+-- them first.
 abbrev pub AreGiven : Settings → ℕ → List Happening → List (List Sending) → List SlotOut → List Given → Type 0
 AreGiven s slot back [] [] [] = Unit {0}
 AreGiven s slot back (offered ∷ offers) (out ∷ outs) (given ∷ more) =
-    (h : Happening) × Happens s (of_slot slot offered) out h × IsGiven s slot (h ∷ back) (of_slot slot offered) given
-    × AreGiven s slot (h ∷ back) offers outs more
+    let own = filter (λ d. d.slot == slot) offered in
+    (h : Happening) × Happens s own out h × IsGiven s slot (h ∷ back) own given × AreGiven s slot (h ∷ back) offers outs more
 AreGiven s slot back offers outs givens = ⊥
 
 -- 3. Both slots.
-
--- The bursts that the gateway has for slot 1 and for slot 2, frame by frame.
-abbrev pub gates_of : List Given → List Given → List (List (Option Burst))
-gates_of [] second = []
-gates_of (a ∷ first) [] = []
-gates_of (a ∷ first) (b ∷ second) = (a.burst ∷ b.burst ∷ []) ∷ gates_of first second
 
 -- The record of the received file for what was received in a frame: its frame, slot, kind, source and octets.
 abbrev pub receipt_in : ℕ → Received → Receipt
@@ -118,18 +94,6 @@ receipts_of frame (a ∷ first) [] = []
 receipts_of frame (a ∷ first) (b ∷ second) =
     map (receipt_in frame) (a.received ++ b.received) ++ receipts_of (frame + 1) first second
 
--- What became of packets in one slot, frame after frame.
-abbrev pub outcomes_of : List Given → List Outcome
-outcomes_of givens = flat_map (λ g. option_to_list g.outcome) givens
-
--- How many packets of one slot ended so, over all its frames.
-abbrev pub outcomes_in : Outcome → List Given → ℕ
-outcomes_in outcome givens = outcome_count outcome (outcomes_of givens)
-
--- How many datagrams one slot refused, over all its frames.
-abbrev pub refused_in : List Given → ℕ
-refused_in givens = sum (map (λ g. g.refused) givens)
-
 -- What the frames count of the gateway, over both slots.
 abbrev pub counts_of : List Given → List Given → Counts
 counts_of first second =
@@ -140,6 +104,14 @@ counts_of first second =
       given_up = outcomes_in GivenUp first + outcomes_in GivenUp second;
       refused = refused_in first + refused_in second;
     }
+  where
+    -- How many packets of one slot ended so, over all its frames.
+    outcomes_in : Outcome → List Given → ℕ
+    outcomes_in outcome givens = outcome_count outcome (flat_map (λ g. option_to_list g.outcome) givens)
+
+    -- How many datagrams one slot refused, over all its frames.
+    refused_in : List Given → ℕ
+    refused_in givens = sum (map (λ g. g.refused) givens)
 
 -- From what the lines of both slots give and the datagrams that are offered in each frame: the bursts that the gateway has for
 -- both slots, the records of what it receives, and what it counts.
@@ -149,6 +121,6 @@ pub record IsGatewayOf (s : Settings) (offers : List (List Sending)) (first seco
   pub second_given : List Given
   pub first_slot : AreGiven s 1 [] offers first first_given
   pub second_slot : AreGiven s 2 [] offers second second_given
-  pub gates_are : gates ≡ gates_of first_given second_given
+  pub gates_are : gates ≡ map (λ given. given.0.burst ∷ given.1.burst ∷ []) (zip first_given second_given)
   pub receipts_are : receipts ≡ receipts_of 0 first_given second_given
   pub counts_are : counts ≡ counts_of first_given second_given

@@ -3,7 +3,6 @@ pub mod Clean
 pub mod DownlinkMeaning
 pub mod DownlinkRules
 pub mod GatewayMeaning
-pub mod Pairs
 pub mod Sending
 pub mod Sent
 pub mod Station

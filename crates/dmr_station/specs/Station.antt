@@ -19,7 +19,7 @@ use Rattle.dmr_station.specs.StationRules.{nothing_counted}
 use Rattle.dmr_station.specs.StationRules.{outcome_count}
 use Rattle.dmr_station.specs.StationRules.{IsAsked, received_of, outcomes_to_tell, received_taken, outcomes_told}
 use Rattle.dmr_station.specs.GatewayMeaning.{AreReadFrom, AreForSlots, receipt_in}
-use Rattle.dmr_station.specs.Pairs.{Pairwise}
+use Rattle.std.specs.List.{AllZip}
 use Rattle.dmr_station.specs.Sent.{AreSentAs}
 
 -- 1. Between two frames.
@@ -157,6 +157,6 @@ abbrev pub SendsByTheRules : Type 0
 SendsByTheRules =
     (s : Settings) (records_read : List (List Outgoing)) (offers : List (List Sending)) (frames : List (List (Option (List ℕ))))
     (records : List (List (Option (List ℕ × List ℕ)))) (received : List (List Received)) (after : State)
-    → Pairwise AreReadFrom records_read offers → AllByRecursion AreForSlots offers
+    → AllZip AreReadFrom records_read offers → AllByRecursion AreForSlots offers
     → AreExchanged (fresh s) records_read frames records received after
     → IsSentFor s offers frames after.repeated after.counts (receipts_from 0 received) (records_of records)

@@ -72,10 +72,6 @@ settings_in m =
 
 -- 2. One frame.
 
--- A slot of a frame.
-abbrev pub slot_in : ℕ → List (Option (List ℕ)) → Option (List ℕ)
-slot_in number frame = slice_index_or frame number None
-
 -- A slot is free for the gateway where its line gives nothing.
 abbrev pub is_free : SlotOut → Bool
 is_free out = not (is_some out.repeated) && not (is_some out.hang)
@@ -120,16 +116,16 @@ added a b =
       refused = a.refused + b.refused;
     }
 
--- Both packets were delivered, or both were sent, or both were given up.
-abbrev pub is_outcome : Outcome → Outcome → Bool
-is_outcome Delivered Delivered = true
-is_outcome Sent Sent = true
-is_outcome GivenUp GivenUp = true
-is_outcome outcome other = false
-
 -- How many of these outcomes are this one.
 abbrev pub outcome_count : Outcome → List Outcome → ℕ
 outcome_count outcome outcomes = count_by (is_outcome outcome) outcomes
+  where
+    -- Both packets were delivered, or both were sent, or both were given up.
+    is_outcome : Outcome → Outcome → Bool
+    is_outcome Delivered Delivered = true
+    is_outcome Sent Sent = true
+    is_outcome GivenUp GivenUp = true
+    is_outcome outcome other = false
 
 -- What one frame counts: its records, its packets by what became of them, and the offers that it refused.
 abbrev pub counted_frame : FrameGiven → Counts
@@ -157,8 +153,8 @@ pub record IsAsked (before : StationMemory) (frame : List (Option (List ℕ))) (
     (after : StationMemory) : Type 0 where
   pub first : SlotOut
   pub second : SlotOut
-  pub first_line : IsPush before.first (slot_in 0 frame) first after.first
-  pub second_line : IsPush before.second (slot_in 1 frame) second after.second
+  pub first_line : IsPush before.first (slice_index_or frame 0 None) first after.first
+  pub second_line : IsPush before.second (slice_index_or frame 1 None) second after.second
   pub between : Gate
   pub first_gate : Option Burst
   pub second_gate : Option Burst

@@ -2,9 +2,9 @@ use Rattle.std.proofs.Common.{◌≡◌, ◌∙◌, ◌++◌, List, Bool, ap, su
 use Rattle.dmr_bits.specs.Bits.{put_at, bits_of_octets}
 use Rattle.dmr_bits.proofs.Parts.{two_parts}
 use Rattle.dmr_codes.specs.Seven.{IsHamming7}
-use Rattle.dmr_burst.specs.Cach.{bits_at, tact_field, fragment_field}
+use Rattle.dmr_burst.specs.Cach.{bits_at, tact_field}
 use Rattle.dmr_burst.specs.declared.announcement.TheConstants.{ORDER}
-use Rattle.dmr_burst.proofs.Interleaving.{tact_in_order, fragment_in_order}
+use Rattle.dmr_burst.proofs.Interleaving.{fragment_field, tact_in_order, fragment_in_order}
 use Rattle.dmr_burst.proofs.announcement.cach.Goals as goal
 
 pub returns : goal.returns

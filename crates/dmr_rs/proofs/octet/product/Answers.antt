@@ -2,8 +2,8 @@ use Rattle.std.proofs.Common.{◌≡◌, ℕ, ◌-◌, ◌/◌, ◌%◌, ◌^◌
 use Rattle.std.proofs.lemmas.Bool.{ne_eqb}
 use Rattle.std.specs.Prelude.{bit_xor}
 use Rattle.dmr_bits.specs.Bits.{bits_of}
-use Rattle.dmr_rs.specs.Field.{sum_over, times_x}
-use Rattle.dmr_rs.proofs.Field.{times-octet, sum_over-next, sum_over-none}
+use Rattle.dmr_rs.specs.Field.{times_x}
+use Rattle.dmr_rs.proofs.Field.{sum_over, times-octet, sum_over-next, sum_over-none}
 use Rattle.dmr_rs.proofs.octet.product.Goals.{then-left-place-eq1, else-left-place-eq1}
 use Rattle.dmr_rs.proofs.octet.product.Goals as goal
 

@@ -1,6 +1,7 @@
 use Rattle.std.proofs.Common.{◌≡◌}
 use Rattle.dmr_bits.specs.Bits.{bits_of}
-use Rattle.dmr_rs.specs.Field.{sum_over, times}
+use Rattle.dmr_rs.specs.Field.{times}
+use Rattle.dmr_rs.proofs.Field.{sum_over}
 use Rattle.dmr_rs.proofs.octet.product.Given as goal
 
 abbrev pub invariant-loop-place : goal.invariant-loop-place
