@@ -51,19 +51,20 @@ service_gives llid slot service source body =
     if service == ip_service then plain_datagram slot source body
     else (if service == compressed_service then expanded slot source (expansion body source llid) else None)
 
--- The record that a completed packet gives, by its header: one of its service access point, or of short data. A header without a
--- packet gives none.
-abbrev pub record_by_header : ℕ → ℕ → Header → List ℕ → Option Received
-record_by_header llid slot (header.Unconfirmed h) body = service_gives llid slot h.sap h.source body
-record_by_header llid slot (header.Confirmed h) body = service_gives llid slot h.sap h.source body
-record_by_header llid slot (header.ShortData h) body = Some (short_data_of slot h.source body)
-record_by_header llid slot (header.Status h) body = None
-record_by_header llid slot (header.Response h) body = None
-
 -- What a completed packet gives: a datagram, as it is or expanded, or short data, or nothing.
 abbrev pub record_given : ℕ → ℕ → Option Joined → Option Received
 record_given llid slot None = None
 record_given llid slot (Some joined) = record_by_header llid slot joined.header joined.body
+  where
+    -- The record that a completed packet gives, by its header: one of its service access point, or of short data. A header without
+    -- a
+    -- packet gives none.
+    record_by_header : ℕ → ℕ → Header → List ℕ → Option Received
+    record_by_header llid slot (header.Unconfirmed h) body = service_gives llid slot h.sap h.source body
+    record_by_header llid slot (header.Confirmed h) body = service_gives llid slot h.sap h.source body
+    record_by_header llid slot (header.ShortData h) body = Some (short_data_of slot h.source body)
+    record_by_header llid slot (header.Status h) body = None
+    record_by_header llid slot (header.Response h) body = None
 
 -- 3. What a status gives.
 
