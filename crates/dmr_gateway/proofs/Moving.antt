@@ -12,12 +12,12 @@ use Rattle.dmr_gateway.specs.declared.answers.HeardAnswer.{HeardAnswer}
 use Rattle.dmr_gateway.specs.declared.outbox.SlotBurst.{SlotBurst}
 use Rattle.dmr_gateway.specs.declared.queue.Queued.{Queued}
 use Rattle.dmr_gateway.specs.AttemptMeaning.{Answers, Tries, Attempt, Stage, Ready, Begun, Awaits, Hand, Owing, Ledger, Goes}
-use Rattle.dmr_gateway.specs.AttemptMeaning.{bursts_of, goes, goes_on, try_bursts, try_stands, answer_bursts}
+use Rattle.dmr_gateway.specs.AttemptMeaning.{bursts_of, goes, goes_on, try_stands}
 use Rattle.dmr_gateway.specs.AttemptMeaning.{due_try, over, rests, waiting_goes, told, judged, waits, ledger_owes}
 use Rattle.dmr_gateway.specs.AttemptMeaning.{ledger_takes}
 use Rattle.dmr_gateway.specs.Courses.{is_answer, HasNothingDue}
 use Rattle.dmr_gateway.proofs.Attempting.{NotBegun, FitsBoth, BothHand, answer_from, cut_answer, cut_in_stage}
-use Rattle.dmr_gateway.proofs.Standing.{burst_at_place, is_fitting}
+use Rattle.dmr_gateway.proofs.Standing.{burst_at_place, is_fitting, try_bursts, answer_bursts}
 
 -- 1. The attempt that is begun, in what is kept.
 
