@@ -14,7 +14,7 @@ use Rattle.dmr_data.specs.declared.rate.Rate.{Rate}
 use Rattle.dmr_data.specs.declared.rate.Rate.TheVariants.{Half, Full}
 use Rattle.dmr_arq.specs.Fit.{IsFitRoute, IsFitGateBurst, IsOfferedPacket, IsFitHeld, IsFitSender}
 use Rattle.dmr_arq.specs.SenderRules as sender
-use Rattle.dmr_arq.specs.Table.{number_after}
+use Rattle.std.specs.Option.{option_map_or}
 use Rattle.dmr_arq.specs.declared.answer.Answer.{Answer}
 use Rattle.dmr_arq.specs.declared.answer.Verdict.{Verdict}
 use Rattle.dmr_arq.specs.declared.answer.Verdict.TheVariants.{Ack, Failed, Selective}
@@ -61,6 +61,10 @@ due_fit selection h s own fit few =
     (λ again.
     record { llid = own; held = record { packet = fit.packet; route = fit.route; number = fit.number; serials = few } })
     (λ over. record { llid = own; held = tt })
+
+-- the number after that of an entry, as `next_number` has it
+abbrev number_after : Option Entry → ℕ
+number_after entry = option_map_or (λ (last : Entry). (last.number + 1) % 8) entry 0
 
 number_small : (o : Option Entry) → number_after o < 2 ^ 3
 number_small None = omega arith

@@ -7,13 +7,13 @@ use Rattle.std.specs.List.{AllByRecursion}
 use Rattle.std.specs.Prelude.{is_some}
 use Rattle.dmr_gateway.specs.declared.answers.Due.{Due}
 use Rattle.dmr_gateway.specs.Answers.{flag_count}
-use Rattle.dmr_gateway.specs.AttemptMeaning.{AnswerOrTry, Answers, Tries, Attempt, Ledger, Brings, burst_at_place, bursts_of}
+use Rattle.dmr_gateway.specs.AttemptMeaning.{AnswerOrTry, Answers, Tries, Attempt, Ledger, Brings, bursts_of}
 use Rattle.dmr_gateway.specs.AttemptMeaning.{attempts}
 use Rattle.dmr_gateway.specs.AttemptMeaning.{ledger_owes}
 use Rattle.dmr_gateway.specs.AttemptMeaning.{told}
 use Rattle.dmr_gateway.specs.Courses.{up_to, StandsInFrame, is_answer, IsBrokenOff, HasEnded, HasCourse, joined_by}
 use Rattle.dmr_gateway.specs.Courses.{all_attempts, AttemptsStand}
-use Rattle.dmr_gateway.proofs.Standing.{length_bursts, length_answers}
+use Rattle.dmr_gateway.proofs.Standing.{length_bursts, length_answers, burst_at_place}
 use Rattle.dmr_gateway.proofs.Going.{Leaves, hears_leaves}
 use Rattle.dmr_gateway.proofs.Attempting.{FitsLedger, joined, heard, readied, readied_fits, both_fits, hand_fits}
 use Rattle.dmr_gateway.proofs.Attempting.{frame_fits}

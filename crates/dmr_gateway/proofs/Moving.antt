@@ -1,6 +1,6 @@
 -- In a frame the attempt that was begun goes on, or it is cut or replaced, or another begins.
 use Rattle.std.proofs.Common.{◌≡◌, ℕ, ◌+◌, ◌-◌, ltb, Bool, true, false, cond, ◌⊎◌, inl, inr, List, [], ◌∷◌, length}
-use Rattle.std.proofs.Common.{Option, Some, None, option_map, refl, sym, ◌∙◌, ap, subst}
+use Rattle.std.proofs.Common.{Option, Some, None, option_map, unwrap_or, refl, sym, ◌∙◌, ap, subst}
 use Rattle.dmr_arq.proofs.Sound.{by_cond}
 use Rattle.dmr_arq.specs.declared.answer.Verdict.{Verdict}
 use Rattle.dmr_arq.specs.declared.answer.Verdict.TheVariants.{Ack, Failed, Selective}
@@ -12,13 +12,12 @@ use Rattle.dmr_gateway.specs.declared.answers.HeardAnswer.{HeardAnswer}
 use Rattle.dmr_gateway.specs.declared.outbox.SlotBurst.{SlotBurst}
 use Rattle.dmr_gateway.specs.declared.queue.Queued.{Queued}
 use Rattle.dmr_gateway.specs.AttemptMeaning.{Answers, Tries, Attempt, Stage, Ready, Begun, Awaits, Hand, Owing, Ledger, Goes}
-use Rattle.dmr_gateway.specs.AttemptMeaning.{burst_at_place, bursts_of, goes, goes_on, hand_bursts, try_stands, answer_stands}
-use Rattle.dmr_gateway.specs.AttemptMeaning.{first_frame, cut_answer, cut_in_stage, due_try, over, rests, answer_bursts}
-use Rattle.dmr_gateway.specs.AttemptMeaning.{waiting_goes}
-use Rattle.dmr_gateway.specs.AttemptMeaning.{told, answered_in_stage, is_fitting, judged, waits, ledger_owes, ledger_takes_head}
+use Rattle.dmr_gateway.specs.AttemptMeaning.{bursts_of, goes, goes_on, try_stands}
+use Rattle.dmr_gateway.specs.AttemptMeaning.{due_try, over, rests, waiting_goes, told, judged, waits, ledger_owes}
 use Rattle.dmr_gateway.specs.AttemptMeaning.{ledger_takes}
 use Rattle.dmr_gateway.specs.Courses.{is_answer, HasNothingDue}
-use Rattle.dmr_gateway.proofs.Attempting.{NotBegun, FitsBoth, BothHand}
+use Rattle.dmr_gateway.proofs.Attempting.{NotBegun, FitsBoth, BothHand, answer_from, cut_answer, cut_in_stage}
+use Rattle.dmr_gateway.proofs.Standing.{burst_at_place, is_fitting, try_bursts, answer_bursts}
 
 -- 1. The attempt that is begun, in what is kept.
 
@@ -86,7 +85,7 @@ try_moves : (llid f first : ℕ) (h : Hand) (l : Ledger) (begun : Option Attempt
 try_moves llid f first h l begun e from only =
     record {
       sends = refl;
-      kept = try_kept f first h l (goes_on f first (hand_bursts llid h)) h.packet.confirmed e;
+      kept = try_kept f first h l (goes_on f first (try_bursts llid h.packet h.route h.number h.selection)) h.packet.confirmed e;
       from = λ a s. let same : try_of h first ≡ a = cc in
           (refl, subst (λ (x : Attempt). (x.first ≡ f) ⊎ (begun ≡ Some x)) same from);
       on = λ a s free. ap Some (sym (only a s));
@@ -119,7 +118,7 @@ answer_kept first o l false n = no_try l.hand None n
 
 answer_moves : (llid f first : ℕ) (o : Owing) (l : Ledger) (begun : Option Attempt) → NoTry l.hand →
     ((first ≡ f) ⊎ (begun ≡ Some (answer_of o.due first))) → ((a : Attempt) → begun ≡ Some a → a ≡ answer_of o.due first) →
-    Moves llid f true begun (answer_stands f first o l)
+    Moves llid f true begun (answer_from f first o l)
 answer_moves llid f first o l begun n from only =
     record {
       sends = refl;
@@ -132,7 +131,7 @@ answer_moves llid f first o l begun n from only =
 
 held_moves : (llid f : ℕ) (due : Due) (begun : Option ℕ) (l : Ledger) → NoTry l.hand →
     Moves llid f true (option_map (answer_of due) begun)
-    (answer_stands f (first_frame begun f) (record { due = due; begun = begun }) l)
+    (answer_from f (unwrap_or begun f) (record { due = due; begun = begun }) l)
 held_moves llid f due None l n =
     answer_moves llid f f (record { due = due; begun = None }) l None n (inl refl) (λ a s. cc)
 held_moves llid f due (Some first) l n =
@@ -221,10 +220,7 @@ judged_begun Selective flags h l owing =
     due_begun (sender.selection_of h.packet (sender.unset 0 (length h.packet.blocks) flags)) h l owing
 
 told_stage : (llid : ℕ) (a : HeardAnswer) (stage : Stage) (h : Hand) (l : Ledger) (owing : Option Owing) →
-    begun_by (answered_in_stage stage llid a (record h { stage = stage }) (record l {
-      hand = Some (record h { stage = stage });
-    })).hand
-    owing
+    begun_by (told llid (Some a) (record l { hand = Some (record h { stage = stage }) })).hand owing
     ≡ begun_at stage h owing
 told_stage llid a Ready h l owing = refl
 told_stage llid a (Begun first) h l owing = refl
@@ -282,12 +278,13 @@ owes_begun None l = refl
 owes_begun (Some due) l = owes_hand due l.hand l.owing
 
 -- a packet that is taken in hand
-head_begun : (queue : List Queued) (l : Ledger) → l.hand ≡ None →
-    begun_by (ledger_takes_head queue l).hand (ledger_takes_head queue l).owing ≡ begun_by l.hand l.owing
-head_begun [] l none = refl
-head_begun (q ∷ later) l none = sym (ap (λ hand. begun_by hand l.owing) none)
+head_begun : (queue : List Queued) (l : Ledger) →
+    begun_by (ledger_takes (record l { hand = None; queue = queue })).hand
+    (ledger_takes (record l { hand = None; queue = queue })).owing ≡ begun_by None l.owing
+head_begun [] l = refl
+head_begun (q ∷ later) l = refl
 
 pub taken_begun : (hand : Option Hand) (l : Ledger) →
     begun_by (ledger_takes (record l { hand = hand })).hand (ledger_takes (record l { hand = hand })).owing ≡ begun_by hand l.owing
-taken_begun None l = head_begun l.queue (record l { hand = None }) refl
+taken_begun None l = head_begun l.queue l
 taken_begun (Some h) l = refl

@@ -1,13 +1,13 @@
 -- How long each attempt of a slot stands: until all its bursts are out, or it is cut or replaced.
 use Rattle.std.specs.Prelude.{◌≡◌, ℕ, ◌+◌, ◌<◌, ◌≤◌, ◌==◌, ◌⊎◌, Bool, true, false, List, [], ◌∷◌, length, Option, Some, None}
-use Rattle.std.specs.Prelude.{is_some}
+use Rattle.std.specs.Prelude.{is_some, unwrap_or, slice_get}
 use Rattle.std.specs.Prelude.{if◌then◌else◌}
 use Rattle.std.specs.List.{AllByRecursion}
 use Rattle.dmr_gateway.specs.declared.outbox.SlotBurst.{SlotBurst}
 use Rattle.dmr_gateway.specs.AttemptMeaning.{AnswerOrTry, Answers, Tries, Attempt, Stage, Ready, Begun, Awaits, Hand, Ledger}
 use Rattle.dmr_gateway.specs.AttemptMeaning.{Brings}
 use Rattle.dmr_gateway.specs.AttemptMeaning.{attempts}
-use Rattle.dmr_gateway.specs.AttemptMeaning.{burst_at_place, bursts_of}
+use Rattle.dmr_gateway.specs.AttemptMeaning.{bursts_of}
 
 -- 1. The frames of a run, by their numbers.
 
@@ -56,7 +56,8 @@ pub record HasCourse (limit llid : ℕ) (frames : List Brings) (a : Attempt) : T
   pub some : 0 < out
   pub most : out ≤ length (bursts_of llid a.what)
   pub so_far : a.first + out ≤ length frames
-  pub sends : (k : ℕ) → k < out → StandsInFrame limit llid a (burst_at_place (bursts_of llid a.what) k) (up_to (a.first + k) frames)
+  pub sends : (k : ℕ) → k < out →
+      StandsInFrame limit llid a (unwrap_or (slice_get (bursts_of llid a.what) k) None) (up_to (a.first + k) frames)
   pub ended : HasEnded llid frames a out
 
 -- The attempts up to frame f, the newest of them first: the one that stands in frame f joins them where f is its first.

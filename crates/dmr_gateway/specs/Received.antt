@@ -1,6 +1,7 @@
 -- What is received: what a completed packet and a status give.
 use Rattle.std.specs.Prelude.{ℕ, ◌^◌, ◌<◌, ◌==◌, ◌&&◌, not, nat_lt, nat_le, false, List, ◌∷◌, length}
-use Rattle.std.specs.Prelude.{Option, Some, None, Result, Ok, Err, if◌then◌else◌}
+use Rattle.std.specs.Prelude.{Option, Some, None, option_map, Result, if◌then◌else◌}
+use Rattle.std.specs.Result.{result_ok}
 use Rattle.std.specs.Int.{to_be_bytes, w16}
 use Rattle.dmr_record.specs.declared.received.ReceivedKind.TheVariants.{Datagram, ShortData, Status}
 pub use Rattle.dmr_record.specs.Received.{IsSlot}
@@ -41,29 +42,31 @@ expansion body source llid = expand body source llid false
 
 -- The record of the datagram that a compressed form was expanded to; none where the octets are no such form.
 abbrev pub expanded : ℕ → ℕ → Result (List ℕ) ExpandFault → Option Received
-expanded slot source (Ok datagram) = Some (datagram_record slot source datagram)
-expanded slot source (Err fault) = None
+expanded slot source expansion = option_map (datagram_record slot source) (result_ok expansion)
 
 -- The record that a packet of this service access point gives: of a datagram as it is, or of an expanded one, and none of any
 -- other.
 abbrev pub service_gives : ℕ → ℕ → ℕ → ℕ → List ℕ → Option Received
 service_gives llid slot service source body =
     if service == ip_service then plain_datagram slot source body
-    else (if service == compressed_service then expanded slot source (expansion body source llid) else None)
-
--- The record that a completed packet gives, by its header: one of its service access point, or of short data. A header without a
--- packet gives none.
-abbrev pub record_by_header : ℕ → ℕ → Header → List ℕ → Option Received
-record_by_header llid slot (header.Unconfirmed h) body = service_gives llid slot h.sap h.source body
-record_by_header llid slot (header.Confirmed h) body = service_gives llid slot h.sap h.source body
-record_by_header llid slot (header.ShortData h) body = Some (short_data_of slot h.source body)
-record_by_header llid slot (header.Status h) body = None
-record_by_header llid slot (header.Response h) body = None
+    else (
+    if service == compressed_service
+    then option_map (datagram_record slot source) (result_ok (expand body source llid false))
+    else None
+    )
 
 -- What a completed packet gives: a datagram, as it is or expanded, or short data, or nothing.
 abbrev pub record_given : ℕ → ℕ → Option Joined → Option Received
 record_given llid slot None = None
-record_given llid slot (Some joined) = record_by_header llid slot joined.header joined.body
+record_given llid slot (Some joined) = record_by_header joined.header
+  where
+    -- By its header a packet gives a record of its service access point, or of short data. A header without a packet gives none.
+    record_by_header : Header → Option Received
+    record_by_header (header.Unconfirmed h) = service_gives llid slot h.sap h.source joined.body
+    record_by_header (header.Confirmed h) = service_gives llid slot h.sap h.source joined.body
+    record_by_header (header.ShortData h) = Some (short_data_of slot h.source joined.body)
+    record_by_header (header.Status h) = None
+    record_by_header (header.Response h) = None
 
 -- 3. What a status gives.
 

@@ -1,6 +1,6 @@
 -- What octets are read as is what they spell.
 use Rattle.std.proofs.Common.{◌≡◌, ℕ, zero, suc, ◌+◌, ◌*◌, ◌/◌, ◌%◌, ◌<◌, ◌≤◌, ◌==◌, Bool, true, false, not, ◌&&◌, ◌||◌}
-use Rattle.std.proofs.Common.{cond, ltb, List, [], ◌∷◌, ◌++◌, length, drop, get_or}
+use Rattle.std.proofs.Common.{cond, ltb, List, [], ◌∷◌, ◌++◌, length, drop, get_or, slice_index}
 use Rattle.std.proofs.Common.{Ok, refl, sym, ap, ◌∙◌, inl, inr, arith, length-drop}
 use Rattle.std.specs.Prelude.{Option, Some, None}
 use Rattle.std.specs.Int.{to_be_bytes, w16}
@@ -9,15 +9,15 @@ use Rattle.dmr_ip.specs.Contents.{AreOctets, Contents, FitsDatagram, datagram_of
 use Rattle.dmr_ip.specs.Datagram.{unless}
 use Rattle.dmr_ip.specs.Spelling.{Identifies, SpellsDatagram, address_identifiers, behind_identifiers}
 use Rattle.dmr_ip.specs.Spelling.{behind_ports, destination_identifier, expand, form}
-use Rattle.dmr_ip.specs.Spelling.{form_fault, opcode_bit, port_from, port_length}
+use Rattle.dmr_ip.specs.Spelling.{form_fault, port_from, port_length}
 use Rattle.dmr_ip.specs.Spelling.{port_octets, ports_length, read_contents, source_identifier}
 use Rattle.dmr_ip.specs.declared.fault.ExpandFault.{ExpandFault}
 
 -- The octets have no fault as a form: their identifiers are known, both ports are there, and the datagram isn't too long.
 pub record IsForm (octets : List ℕ) (group : Bool) : Type 0 where
   pub at_least : 5 ≤ length octets
-  pub source_opcode : opcode_bit octets 3 ≡ 0
-  pub destination_opcode : opcode_bit octets 4 ≡ 0
+  pub source_opcode : slice_index octets 3 / 128 ≡ 0
+  pub destination_opcode : slice_index octets 4 / 128 ≡ 0
   pub addresses : get_or octets 2 0 ≡ address_identifiers group
   pub source : source_identifier octets ≤ 2
   pub destination : destination_identifier octets ≤ 2
@@ -47,7 +47,7 @@ pub IsForm-from_none : (octets : List ℕ) (group : Bool) → form_fault octets 
 unfolding form_fault
 IsForm-from_none octets group e =
     let short = silent (ltb (length octets) 5) _ _ e in
-    let opcodes = silent (not ((opcode_bit octets 3 == 0) && (opcode_bit octets 4 == 0))) _ _ short.1 in
+    let opcodes = silent (not ((slice_index octets 3 / 128 == 0) && (slice_index octets 4 / 128 == 0))) _ _ short.1 in
     let addresses = silent (not (get_or octets 2 0 == address_identifiers group)) _ _ opcodes.1 in
     let identifiers = silent (ltb 2 (source_identifier octets) || ltb 2 (destination_identifier octets)) _ _ addresses.1 in
     let ports = silent (ltb (length (behind_identifiers octets)) (ports_length octets)) _ _ identifiers.1 in

@@ -63,10 +63,6 @@ pub record Writes (octets : List ℕ) (source destination : ℕ) (group : Bool) 
 
 -- 2. What octets are read as.
 
--- An opcode bit stands above each port identifier of seven bits.
-abbrev pub opcode_bit : List ℕ → ℕ → ℕ
-opcode_bit octets place = slice_index octets place / 128
-
 -- The port identifier of the source: the low seven bits of octet 3.
 abbrev pub source_identifier : List ℕ → ℕ
 source_identifier octets = slice_index octets 3 % 128
@@ -113,12 +109,16 @@ read_contents octets = record {
 unfoldable pub form_fault : List ℕ → Bool → Option ExpandFault
 form_fault octets group =
     if nat_lt (length octets) 5 then Some fault.Short else
-    if not ((opcode_bit octets 3 == 0) && (opcode_bit octets 4 == 0)) then Some fault.Opcode else
+    if not ((opcode_bit 3 == 0) && (opcode_bit 4 == 0)) then Some fault.Opcode else
     if not (slice_index octets 2 == address_identifiers group) then Some fault.Address else
     if nat_lt 2 (source_identifier octets) || nat_lt 2 (destination_identifier octets) then Some fault.Port else
     if nat_lt (length (behind_identifiers octets)) (ports_length octets) then Some fault.Short else
     if nat_lt 1400 (28 + length (behind_ports octets)) then Some fault.Long else
     None
+  where
+    -- An opcode bit stands above each port identifier of seven bits.
+    opcode_bit : ℕ → ℕ
+    opcode_bit place = slice_index octets place / 128
 
 -- The datagram with the contents that are read, unless the octets have a fault as a form.
 abbrev pub expand : List ℕ → (source destination : ℕ) → Bool → Result (List ℕ) ExpandFault

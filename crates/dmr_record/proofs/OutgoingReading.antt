@@ -10,7 +10,7 @@ use Rattle.dmr_record.specs.declared.fault.RecordFault.{RecordFault}
 use Rattle.dmr_record.specs.declared.fault.RecordFault.TheVariants.{CutRecord, BadTag, FrameOrder, TooLong, Read}
 use Rattle.dmr_record.specs.Faults.{is_of_end, is_device_fault}
 use Rattle.dmr_record.specs.Outgoing.{OutgoingFields, outgoing_field_octets, FitsOutgoing, IsSlotAndMode, Sending}
-use Rattle.dmr_record.specs.Outgoing.{IsSending, mode_of, outgoing_fields, sending_octets, ShowsOutgoingFault}
+use Rattle.dmr_record.specs.Outgoing.{IsSending, mode_of, sending_octets, ShowsOutgoingFault}
 use Rattle.dmr_record.specs.Spelling.{IsPrefixCode}
 use Rattle.dmr_record.proofs.Readings.{same_answer}
 
@@ -88,6 +88,10 @@ mode_back true true = (refl, refl, omega arith)
 mode_back true false = (refl, refl, omega arith)
 mode_back false true = (refl, refl, omega arith)
 mode_back false false = (refl, refl, omega arith)
+
+-- the fields of a record, as `sending_octets` has them
+abbrev outgoing_fields : Sending → OutgoingFields
+outgoing_fields s = record { frame = s.frame; slot = s.slot; mode = mode_of s.confirmed s.full; count = length s.datagram }
 
 sending_back : (s : Sending) → sending_from (outgoing_fields s) s.datagram ≡ s
 unfolding sending_from

@@ -47,14 +47,13 @@ pub record IsSending (s : Sending) : Type 0 where
 abbrev pub mode_of : Bool → Bool → ℕ
 mode_of confirmed full = (if confirmed then 1 else 0) + (if full then 2 else 0)
 
--- the fields of this record: its frame, its slot, its mode, and how many octets its datagram has
-abbrev pub outgoing_fields : Sending → OutgoingFields
-outgoing_fields s =
-    record { frame = s.frame; slot = s.slot; mode = mode_of s.confirmed s.full; count = length s.datagram }
-
 -- 02, the fields, and then the datagram
 abbrev pub sending_octets : Sending → List ℕ
-sending_octets s = 2 ∷ (outgoing_field_octets (outgoing_fields s) ++ s.datagram)
+sending_octets s = 2 ∷ (outgoing_field_octets fields ++ s.datagram)
+  where
+    -- the fields of the record: its frame, its slot, its mode, and how many octets its datagram has
+    fields : OutgoingFields
+    fields = record { frame = s.frame; slot = s.slot; mode = mode_of s.confirmed s.full; count = length s.datagram }
 
 -- the records of a file behind its head
 abbrev pub sendings_octets : List Sending → List ℕ
@@ -62,7 +61,7 @@ sendings_octets sendings = flat_map sending_octets sendings
 
 -- the file of these records
 abbrev pub outgoing_file : List Sending → List ℕ
-outgoing_file sendings = head_octets outgoing_magic ++ sendings_octets sendings
+outgoing_file sendings = head_octets outgoing_magic ++ flat_map sending_octets sendings
 
 -- The frames don't decrease, and the first is no earlier than the last one before.
 abbrev pub AreInFrameOrder : ℕ → List Sending → Type 0
