@@ -26,7 +26,7 @@ downlink_octets slots = flat_map sent_octets slots
 
 -- the file of these slots: slot 1 and slot 2 of the first frame, and so on
 abbrev pub downlink_file : List Sent → List ℕ
-downlink_file slots = head_octets downlink_magic ++ flat_map sent_octets slots
+downlink_file slots = head_octets downlink_magic ++ downlink_octets slots
 
 -- the most slots that a downlink file has: two for each of the 1,048,576 frames of an uplink, and of six more
 abbrev pub most_slots : ℕ

@@ -61,7 +61,7 @@ sendings_octets sendings = flat_map sending_octets sendings
 
 -- the file of these records
 abbrev pub outgoing_file : List Sending → List ℕ
-outgoing_file sendings = head_octets outgoing_magic ++ flat_map sending_octets sendings
+outgoing_file sendings = head_octets outgoing_magic ++ sendings_octets sendings
 
 -- The frames don't decrease, and the first is no earlier than the last one before.
 abbrev pub AreInFrameOrder : ℕ → List Sending → Type 0

@@ -48,7 +48,7 @@ frames_octets frames = flat_map frame_octets frames
 
 -- the file of these frames, one after another behind its head
 abbrev pub uplink_file : List UplinkSlots → List ℕ
-uplink_file frames = head_octets uplink_magic ++ flat_map frame_octets frames
+uplink_file frames = head_octets uplink_magic ++ frames_octets frames
 
 -- less than a whole slot: nothing, or 01 and fewer octets than a burst has
 abbrev pub IsPartOfSlot : List ℕ → Type 0
