@@ -57,20 +57,18 @@ sent_checksum sum = if sum == 0 then 0xffff else sum
 abbrev pub ip_checksum : (total identification source destination : ℕ) → ℕ
 ip_checksum total identification source destination = checksum (ip_header 0 total identification source destination)
 
--- The checksum of a UDP header with these fields: computed over the pseudo header, the UDP header with a checksum of 0 in its
--- place, and the payload. A computed 0 is sent as FFFF.
+-- The checksum of a UDP header with these fields, as it is sent: computed over the pseudo header, the UDP header with a checksum
+-- of 0 in its place, and the payload.
 abbrev pub udp_checksum : (total source destination source_port destination_port : ℕ) → List ℕ → ℕ
 udp_checksum total source destination source_port destination_port payload =
     let udp = udp_header 0 total source_port destination_port ++ payload in
-    let sum = checksum (pseudo_header total source destination ++ udp) in
-    if sum == 0 then 0xffff else sum
+    sent_checksum (checksum (pseudo_header total source destination ++ udp))
 
--- The datagram with these contents, from one address to another. The checksum of its IPv4 header is computed with a checksum of 0
--- in its place.
+-- The datagram with these contents, from one address to another.
 unfoldable pub datagram_between : (source destination : ℕ) → Contents → List ℕ
 datagram_between source destination c =
     let total = 8 + length c.payload in
-    let ip_sum = checksum (ip_header 0 (20 + total) c.identification source destination) in
+    let ip_sum = ip_checksum (20 + total) c.identification source destination in
     let udp_sum = udp_checksum total source destination c.source_port c.destination_port c.payload in
     ip_header ip_sum (20 + total) c.identification source destination
     ++ udp_header udp_sum total c.source_port c.destination_port

@@ -25,10 +25,9 @@ abbrev pub slot_body : UplinkSlot → List ℕ
 slot_body None = []
 slot_body (Some burst) = burst
 
--- the octets of a slot: 00 for silence, and 01 and then its octets for a burst
+-- the octets of a slot: its tag, and then its burst where it has one
 abbrev pub slot_octets : UplinkSlot → List ℕ
-slot_octets None = 0 ∷ []
-slot_octets (Some burst) = 1 ∷ burst
+slot_octets slot = slot_tag slot ∷ slot_body slot
 
 -- A frame: slot 1 and slot 2.
 abbrev pub UplinkSlots : Type 0
@@ -46,7 +45,7 @@ frame_octets frame = flat_map slot_octets frame
 abbrev pub frames_octets : List UplinkSlots → List ℕ
 frames_octets frames = flat_map frame_octets frames
 
--- the file of these frames, one after another behind its head
+-- the file of these frames
 abbrev pub uplink_file : List UplinkSlots → List ℕ
 uplink_file frames = head_octets uplink_magic ++ frames_octets frames
 
