@@ -9,7 +9,7 @@ use Rattle.std.proofs.KnownBytes.{Consumes-trans, Consumes-nil}
 use Rattle.dmr_record.specs.Outgoing.{AreInFrameOrder, IsSending, Keeps, Sending, sending_octets, sending_of, sendings_octets}
 use Rattle.dmr_record.specs.declared.outgoing.Outgoing.{Outgoing}
 use Rattle.dmr_listing.specs.ListingMeaning.{octet_behind}
-use Rattle.dmr_listing.specs.OutgoingListings.{AreReadOf, IsListed, IsRead, IsReadOf, frame_of_last}
+use Rattle.dmr_listing.specs.OutgoingListings.{AreReadOf, AreSendingsListed, AreSendingsRead, IsReadOf, frame_of_last}
 use Rattle.dmr_listing.proofs.Listings.{given_one_more}
 
 order_more : (last : ℕ) (sendings : List Sending) (next : Sending) → AreInFrameOrder last sendings
@@ -28,17 +28,17 @@ reads_more (s ∷ ss) [] next read are_read is_read = absurd are_read
 reads_more (s ∷ ss) (r ∷ rs) next read (first, rest) is_read = (first, reads_more ss rs next read rest is_read)
 
 pub outgoing_none : {L : Type 0} (Takes : L → Outgoing → L → Type 0) (left : Option (List ℕ)) (lines : L)
-    → IsListed Takes [] [] left left lines lines
+    → AreSendingsListed Takes [] [] left left lines lines
 outgoing_none Takes left lines = record {
   read = record { each = tt; order = tt; octets = Consumes-nil left };
   given = record { reads = []; listed = refl; given = refl };
 }
 
 pub outgoing_more : {L : Type 0} (Takes : L → Outgoing → L → Type 0) (sendings : List Sending) (datagram : List ℕ)
-    (read : Outgoing) (a b c : Option (List ℕ)) (d e f : L) → IsListed Takes sendings [] a b d e → Keeps read datagram
+    (read : Outgoing) (a b c : Option (List ℕ)) (d e f : L) → AreSendingsListed Takes sendings [] a b d e → Keeps read datagram
     → IsSending (sending_of read datagram) → frame_of_last 0 sendings ≤ read.frame
     → Consumes b c (sending_octets (sending_of read datagram)) → Takes e read f
-    → IsListed Takes (sendings ++ sending_of read datagram ∷ []) [] a c d f
+    → AreSendingsListed Takes (sendings ++ sending_of read datagram ∷ []) [] a c d f
 outgoing_more Takes sendings datagram read a b c d e f listed keeps is_sending behind took takes =
     let next = sending_of read datagram in
     let one : sendings_octets (sendings ++ next ∷ []) ≡ sendings_octets sendings ++ sending_octets next =
@@ -59,8 +59,8 @@ outgoing_more Takes sendings datagram read a b c d e f listed keeps is_sending b
     }
 
 -- some octets more, and no line
-pub outgoing_part : (sendings : List Sending) (part : List ℕ) (a b c : Option (List ℕ)) → IsRead sendings [] a b
-    → Consumes b c part → IsRead sendings part a c
+pub outgoing_part : (sendings : List Sending) (part : List ℕ) (a b c : Option (List ℕ)) → AreSendingsRead sendings [] a b
+    → Consumes b c part → AreSendingsRead sendings part a c
 outgoing_part sendings part a b c read took = record {
   each = read.each;
   order = read.order;

@@ -9,7 +9,7 @@ use Rattle.std.proofs.KnownBytes.{Consumes-trans, Consumes-nil}
 use Rattle.dmr_record.specs.Received.{FollowEachOther, ReceivedFields, Follows, IsReadable, Receipt, received_fields}
 use Rattle.dmr_record.specs.Received.{receipt_octets, receipts_octets}
 use Rattle.dmr_listing.specs.ListingMeaning.{octet_behind}
-use Rattle.dmr_listing.specs.ReceivedListings.{IsListed, IsRead, last_fields}
+use Rattle.dmr_listing.specs.ReceivedListings.{AreReceiptsListed, AreReceiptsRead, last_fields}
 use Rattle.dmr_listing.proofs.Listings.{given_one_more}
 
 order_more : (last : Option ReceivedFields) (receipts : List Receipt) (next : Receipt) → FollowEachOther last receipts
@@ -23,13 +23,13 @@ last_more last [] next = refl
 last_more last (r ∷ rs) next = last_more (Some (received_fields r)) rs next
 
 pub received_none : {L : Type 0} (Takes : L → Receipt → L → Type 0) (left : Option (List ℕ)) (lines : L)
-    → IsListed Takes [] [] left left lines lines
+    → AreReceiptsListed Takes [] [] left left lines lines
 received_none Takes left lines = record { read = record { each = tt; order = tt; octets = Consumes-nil left }; given = refl }
 
 pub received_more : {L : Type 0} (Takes : L → Receipt → L → Type 0) (receipts : List Receipt) (next : Receipt)
-    (a b c : Option (List ℕ)) (d e f : L) → IsListed Takes receipts [] a b d e → IsReadable next
+    (a b c : Option (List ℕ)) (d e f : L) → AreReceiptsListed Takes receipts [] a b d e → IsReadable next
     → Follows (last_fields None receipts) (received_fields next) → Consumes b c (receipt_octets next) → Takes e next f
-    → IsListed Takes (receipts ++ next ∷ []) [] a c d f
+    → AreReceiptsListed Takes (receipts ++ next ∷ []) [] a c d f
 received_more Takes receipts next a b c d e f listed readable follows took takes =
     let one : receipts_octets (receipts ++ next ∷ []) ≡ receipts_octets receipts ++ receipt_octets next =
     flat_map-append receipt_octets receipts (next ∷ []) ∙ ap (λ l. receipts_octets receipts ++ l) (append-nil (receipt_octets
@@ -45,8 +45,8 @@ received_more Takes receipts next a b c d e f listed readable follows took takes
     }
 
 -- some octets more, and no line
-pub received_part : (receipts : List Receipt) (part : List ℕ) (a b c : Option (List ℕ)) → IsRead receipts [] a b
-    → Consumes b c part → IsRead receipts part a c
+pub received_part : (receipts : List Receipt) (part : List ℕ) (a b c : Option (List ℕ)) → AreReceiptsRead receipts [] a b
+    → Consumes b c part → AreReceiptsRead receipts part a c
 received_part receipts part a b c read took = record {
   each = read.each;
   order = read.order;

@@ -27,46 +27,47 @@ frame_of_last frame [] = frame
 frame_of_last frame (sending ∷ sendings) = frame_of_last sending.frame sendings
 
 -- These records of the list were read behind its head, and these octets of the next one.
-pub record IsRead (sendings : List Sending) (part : List ℕ) (left_old left_new : Option (List ℕ)) : Type 0 where
+pub record AreSendingsRead (sendings : List Sending) (part : List ℕ) (left_old left_new : Option (List ℕ)) : Type 0 where
   pub each : AllByRecursion IsSending sendings
   pub order : AreInFrameOrder 0 sendings
   pub octets : Consumes left_old left_new (sendings_octets sendings ++ part)
 
 -- The list was read up to a record that shows this fault, whose octet is the one at which that begins.
-pub record IsReadUpToFault (sendings : List Sending) (fault : FaultLine) (left_old left_new : Option (List ℕ)) : Type 0 where
+pub record AreSendingsReadUpToFault (sendings : List Sending) (fault : FaultLine) (left_old left_new : Option (List ℕ))
+    : Type 0 where
   pub part : List ℕ
-  pub before : IsRead sendings part left_old left_new
+  pub before : AreSendingsRead sendings part left_old left_new
   pub shown : ShowsOutgoingFault record_limit (length sendings) (frame_of_last 0 sendings) fault.fault part
   pub octet : fault.octet ≡ octet_behind sending_octets sendings
   pub place : fault.place ≡ None
 
 -- A taker was given these records as they were read, each once.
-pub record AreGiven {L : Type 0} (Takes : L → Outgoing → L → Type 0) (sendings : List Sending) (old new : L) : Type 0 where
+pub record AreSendingsGiven {L : Type 0} (Takes : L → Outgoing → L → Type 0) (sendings : List Sending) (old new : L) : Type 0 where
   pub reads : List Outgoing
   pub listed : AreReadOf sendings reads
   pub given : GivenInTurn Takes old reads new
 
 -- These records of the list were read behind its head, and these octets of the next one, and a taker was given the records.
-pub record IsListed {L : Type 0} (Takes : L → Outgoing → L → Type 0) (sendings : List Sending) (part : List ℕ)
+pub record AreSendingsListed {L : Type 0} (Takes : L → Outgoing → L → Type 0) (sendings : List Sending) (part : List ℕ)
     (left_old left_new : Option (List ℕ)) (old new : L) : Type 0 where
-  pub read : IsRead sendings part left_old left_new
-  pub given : AreGiven Takes sendings old new
+  pub read : AreSendingsRead sendings part left_old left_new
+  pub given : AreSendingsGiven Takes sendings old new
 
 -- The list was read up to a record that shows this fault, and a taker was given the records before it.
-pub record IsListedUpToFault {L : Type 0} (Takes : L → Outgoing → L → Type 0) (fault : FaultLine)
+pub record AreSendingsListedUpToFault {L : Type 0} (Takes : L → Outgoing → L → Type 0) (fault : FaultLine)
     (left_old left_new : Option (List ℕ)) (old new : L) : Type 0 where
   pub sendings : List Sending
-  pub read : IsReadUpToFault sendings fault left_old left_new
-  pub given : AreGiven Takes sendings old new
+  pub read : AreSendingsReadUpToFault sendings fault left_old left_new
+  pub given : AreSendingsGiven Takes sendings old new
 
 -- The list was read up to a record that a taker refused, behind the records before it.
-pub record IsListedUpToLine {L : Type 0} (Takes Refuses : L → Outgoing → L → Type 0)
+pub record AreSendingsListedUpToLine {L : Type 0} (Takes Refuses : L → Outgoing → L → Type 0)
     (left_old left_new : Option (List ℕ)) (old new : L) : Type 0 where
   pub sendings : List Sending
   pub next : Sending
-  pub read : IsRead sendings (sending_octets next) left_old left_new
+  pub read : AreSendingsRead sendings (sending_octets next) left_old left_new
   pub between : L
-  pub given : AreGiven Takes sendings old between
+  pub given : AreSendingsGiven Takes sendings old between
   pub refused : Outgoing
   pub same : IsReadOf next refused
   pub last : Refuses between refused new

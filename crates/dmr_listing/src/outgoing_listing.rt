@@ -6,7 +6,7 @@ ghost use Rattle.dmr_record.specs.Faults.{is_of_end, is_device_fault};
 ghost use Rattle.dmr_record.specs.Outgoing.{Sending};
 ghost use Rattle.dmr_record.specs.declared.outgoing.Outgoing.{Outgoing as OutgoingRecord};
 ghost use Rattle.dmr_listing.specs.Endings.{IfFile, IfNotWritten};
-ghost use Rattle.dmr_listing.specs.OutgoingListings.{IsListed, IsListedUpToFault, IsListedUpToLine};
+ghost use Rattle.dmr_listing.specs.OutgoingListings.{AreSendingsListed, AreSendingsListedUpToFault, AreSendingsListedUpToLine};
 
 use crate::fault_line::FaultLine;
 use crate::listing::{HEAD_OCTETS, ListingEnd};
@@ -48,15 +48,15 @@ pub fn list_outgoing<S: Source, L: OutgoingLines>(
     requires lines { L.has_failed lines.old ≡ false }
     // All records were read to the end, and their lines given.
     ensures all { IfOk result (λ count. (sendings : List Sending)
-        × IsListed L.Takes sendings [] (S.left source.old) (S.left source.new) lines.old lines.new
+        × AreSendingsListed L.Takes sendings [] (S.left source.old) (S.left source.new) lines.old lines.new
         × (count ≡ length sendings)) }
     ensures end { OnOk result (IsAtEnd (S.left source.new)) }
     // Or the records before the one that shows the fault.
-    ensures fault { IfErr result (λ e. IfFile e (λ fault. IsListedUpToFault L.Takes fault
+    ensures fault { IfErr result (λ e. IfFile e (λ fault. AreSendingsListedUpToFault L.Takes fault
         (S.left source.old) (S.left source.new) lines.old lines.new)) }
     ensures cut { IfErr result (λ e. IfFile e (λ fault. is_of_end fault.fault ≡ true → IsAtEnd (S.left source.new))) }
     // Or the records before the one that was refused.
-    ensures output { IfErr result (λ e. IfNotWritten e (IsListedUpToLine L.Takes L.Refuses
+    ensures output { IfErr result (λ e. IfNotWritten e (AreSendingsListedUpToLine L.Takes L.Refuses
         (S.left source.old) (S.left source.new) lines.old lines.new)) }
     // `Read` is told exactly where the source failed, and `Output` where the lines did.
     ensures source { IfErr result (λ e. IfFile e (λ fault. S.has_failed source.new ≡ is_device_fault fault.fault)) }

@@ -5,7 +5,7 @@ ghost use Rattle.dmr_record.specs.Devices.{failed_after};
 ghost use Rattle.dmr_record.specs.Faults.{is_of_end, is_device_fault};
 ghost use Rattle.dmr_record.specs.Received.{Receipt, receipt_of};
 ghost use Rattle.dmr_listing.specs.Endings.{IfFile, IfNotWritten};
-ghost use Rattle.dmr_listing.specs.ReceivedListings.{IsListed, IsListedUpToFault, IsListedUpToLine};
+ghost use Rattle.dmr_listing.specs.ReceivedListings.{AreReceiptsListed, AreReceiptsListedUpToFault, AreReceiptsListedUpToLine};
 
 use crate::fault_line::FaultLine;
 use crate::listing::{HEAD_OCTETS, ListingEnd};
@@ -50,15 +50,15 @@ pub fn list_received<S: Source, L: ReceivedLines>(
     requires room { 65535 ≤ length room.old }
     // All records were read to the end, and their lines given.
     ensures all { IfOk result (λ count. (receipts : List Receipt)
-        × IsListed L.Takes receipts [] (S.left source.old) (S.left source.new) lines.old lines.new
+        × AreReceiptsListed L.Takes receipts [] (S.left source.old) (S.left source.new) lines.old lines.new
         × (count ≡ length receipts)) }
     ensures end { OnOk result (IsAtEnd (S.left source.new)) }
     // Or the records before the one that shows the fault.
-    ensures fault { IfErr result (λ e. IfFile e (λ fault. IsListedUpToFault L.Takes fault
+    ensures fault { IfErr result (λ e. IfFile e (λ fault. AreReceiptsListedUpToFault L.Takes fault
         (S.left source.old) (S.left source.new) lines.old lines.new)) }
     ensures cut { IfErr result (λ e. IfFile e (λ fault. is_of_end fault.fault ≡ true → IsAtEnd (S.left source.new))) }
     // Or the records before the one that was refused.
-    ensures output { IfErr result (λ e. IfNotWritten e (IsListedUpToLine L.Takes L.Refuses
+    ensures output { IfErr result (λ e. IfNotWritten e (AreReceiptsListedUpToLine L.Takes L.Refuses
         (S.left source.old) (S.left source.new) lines.old lines.new)) }
     // `Read` is told exactly where the source failed, and `Output` where the lines did.
     ensures source { IfErr result (λ e. IfFile e (λ fault. S.has_failed source.new ≡ is_device_fault fault.fault)) }

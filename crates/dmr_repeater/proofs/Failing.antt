@@ -21,7 +21,8 @@ use Rattle.std.specs.List.{AllZip}
 use Rattle.dmr_station.specs.Station.{State, fresh, all_received_taken, records_of, receipts_from, AreExchanged}
 use Rattle.dmr_station.proofs.Exchanges.{exchanged-append}
 use Rattle.dmr_repeater.specs.declared.fault.Stream.{Stream}
-use Rattle.dmr_repeater.specs.Runs.{Files, files, Moment, moment, FailsInFrame, IsSentWith, Reads, Sends, Tears, TearsWithUplink}
+use Rattle.dmr_repeater.specs.Runs.{Files, files, Moment, moment, FailsInFrame, IsSentWith, ReadsFrames, SendsFrames, TearsFrame}
+use Rattle.dmr_repeater.specs.Runs.{TearsWithUplink}
 use Rattle.dmr_repeater.specs.Runs.{WritesFirst, WritesUpTo}
 use Rattle.dmr_repeater.specs.Schedule.{unread, AreOfferedInTurn, IsPast}
 use Rattle.dmr_repeater.proofs.Due.{nothing_more, reads_due}
@@ -32,8 +33,8 @@ use Rattle.dmr_repeater.proofs.Transcripts.{Lengths, Sends-trans, lengths, offer
 
 -- behind what was sent
 pub Tears-after : (output : Stream) (m n : Moment) (xs ys : List (List (Option (List ℕ)))) (frame : List (Option (List ℕ)))
-    (outgoing downlink received : Option (List ℕ)) → Sends m xs n → Tears output n ys frame outgoing downlink received
-    → Tears output m (xs ++ ys) frame outgoing downlink received
+    (outgoing downlink received : Option (List ℕ)) → SendsFrames m xs n → TearsFrame output n ys frame outgoing downlink received
+    → TearsFrame output m (xs ++ ys) frame outgoing downlink received
 Tears-after output m n xs ys frame outgoing downlink received before u = record {
   between = u.between;
   sends = Sends-trans m n xs ys before u.between u.sends;
@@ -72,7 +73,7 @@ module _ (s : Settings) (output : Stream) (a z : Files) (b p h t : Option (List 
     (received : Appends a.received t (head_octets received_magic))
     (frames given ys : List (List (Option (List ℕ)))) (frame : List (Option (List ℕ)))
     (split : handed_frames frames ≡ given ++ frame ∷ ys)
-    (u : Tears output (moment (fresh s) unread p h t) given frame z.outgoing z.downlink z.received) where
+    (u : TearsFrame output (moment (fresh s) unread p h t) given frame z.outgoing z.downlink z.received) where
   here : Lengths (fresh s) u.between.station u.sends.offers given u.sends.received
   here = lengths (fresh s) u.between.station u.sends.offers given u.sends.records u.sends.received u.sends.exchanged
 
@@ -170,7 +171,7 @@ module _ (s : Settings) (output : Stream) (a z : Files) (b p h t : Option (List 
         (receipts_octets 0 u.sends.received) received u.sends.receipts;
   }
 
-  fails : Reads frames [] b z.uplink
+  fails : ReadsFrames frames [] b z.uplink
       → (length given ≡ length frames) ⊎ (IsAtEnd z.uplink × (length frames < length given) × (length given ≤ length frames + 5))
       → FailsInFrame output s a z
   unfolding writes
@@ -207,16 +208,17 @@ module _ (s : Settings) (m : State) (new : m ≡ fresh s) (output : Stream) (a z
       ap (λ l. l ++ replicate 5 silent_frame) u.split ∙ append_assoc u.given (u.frame ∷ []) (replicate 5 silent_frame) in
       let counts = ap length u.split in
       let long = length-append u.given (u.frame ∷ []) in
-      let told = subst (λ (l : State). Tears output (moment l unread p h t) u.given u.frame z.outgoing z.downlink z.received) new
+      let told = subst (λ (l : State). TearsFrame output (moment l unread p h t) u.given u.frame z.outgoing z.downlink z.received)
+          new
       u.tears in
       fails s output a z b p h t uplink head downlink received u.frames u.given (replicate 5 silent_frame) u.frame split told
       u.reads
       (inl (omega arith))
 
   -- past its end
-  pub fails_past_uplink : (frames : List (List (Option (List ℕ)))) (count : ℕ) → count < 5 → Reads frames [] b z.uplink
+  pub fails_past_uplink : (frames : List (List (Option (List ℕ)))) (count : ℕ) → count < 5 → ReadsFrames frames [] b z.uplink
       → IsAtEnd z.uplink
-      → Tears output (moment m unread p h t) ((silent_frame
+      → TearsFrame output (moment m unread p h t) ((silent_frame
       ∷ frames) ++ replicate count silent_frame) silent_frame z.outgoing z.downlink
       z.received
       → FailsInFrame output s a z
@@ -226,7 +228,8 @@ module _ (s : Settings) (m : State) (new : m ≡ fresh s) (output : Stream) (a z
       let split : handed_frames frames ≡ xs ++ silent_frame ∷ replicate (4 - count) silent_frame =
       handed_split frames count (omega arith) ∙ ap (λ n. xs ++ replicate n silent_frame) left in
       let long : length xs ≡ length frames + 1 + count = simp (length-append, length-replicate) (omega arith) in
-      let told = subst (λ (l : State). Tears output (moment l unread p h t) xs silent_frame z.outgoing z.downlink z.received) new u
+      let told = subst (λ (l : State). TearsFrame output (moment l unread p h t) xs silent_frame z.outgoing z.downlink z.received)
+          new u
       in
       fails s output a z b p h t uplink head downlink received frames xs (replicate (4 - count) silent_frame) silent_frame split
       told reads

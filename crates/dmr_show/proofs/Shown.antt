@@ -30,7 +30,7 @@ use Rattle.dmr_show.proofs.Printed.{held_alone, printed_in_turn, puts_as, puts_f
 use Rattle.dmr_show.specs.Printed.{HasLines, PutsLines, frames_of, lines_around, lines_at, lines_of_strip}
 use Rattle.dmr_show.specs.Records.{Records, Slots, Sendings, Receipts, place_of_outgoing, place_of_receipt, place_of_sending}
 use Rattle.dmr_show.specs.Records.{places_of}
-use Rattle.dmr_show.specs.Showing.{IsFileRead, IsReadUpToFault, IsRecordingRead, IsRestShown, IsRestShownUpToFault, format_of}
+use Rattle.dmr_show.specs.Showing.{IsFileRead, IsFileReadUpToFault, IsRecordingRead, IsRestShown, IsRestShownUpToFault, format_of}
 use Rattle.dmr_show.specs.Showing.{IsAtFault, IsShownWhole, IsWithoutStrip}
 use Rattle.dmr_show.specs.declared.file_summary.FileSummary.{FileSummary}
 use Rattle.dmr_show.specs.declared.form.Form.{Form}
@@ -58,7 +58,7 @@ read_as Downlink slots lines summary a b read = read
 
 fault_as : (of : Recording) (slots : List RecordedSlot) (lines : List BurstLine) (fault : FaultLine)
     (a b : Option (List ℕ)) → recording.IsReadUpToFault of slots lines fault a b
-    → IsReadUpToFault (format_of of) (Slots slots lines) fault a b
+    → IsFileReadUpToFault (format_of of) (Slots slots lines) fault a b
 fault_as Uplink slots lines fault a b read = read
 fault_as Downlink slots lines fault a b read = read
 
@@ -134,7 +134,7 @@ lines_of_reads filter sendings reads are =
 
 pub outgoing_shown : {L : Type 0} (old new : L) (Takes : L → Outgoing → L → Type 0) (filter_of : L → Filter)
     (held_of : L → Option (List ℕ)) (count : ℕ) (sendings : List Sending) (a b : Option (List ℕ))
-    → outgoing.IsListed Takes sendings [] a b old new → count ≡ length sendings
+    → outgoing.AreSendingsListed Takes sendings [] a b old new → count ≡ length sendings
     → PutsEach Takes filter_of held_of (λ filter r. lines_at filter (place_of_outgoing r))
     → IsRestShown form.Listing (filter_of old) format.Outgoing (OfList count) 0 0 a b (held_of old) (held_of new)
 outgoing_shown old new Takes filter_of held_of count sendings a b listed many each =
@@ -150,7 +150,7 @@ outgoing_shown old new Takes filter_of held_of count sendings a b listed many ea
 
 pub outgoing_shown_up_to_fault : {L : Type 0} (old new : L) (Takes : L → Outgoing → L → Type 0) (filter_of : L → Filter)
     (held_of : L → Option (List ℕ)) (fault : FaultLine) (a b : Option (List ℕ))
-    → outgoing.IsListedUpToFault Takes fault a b old new
+    → outgoing.AreSendingsListedUpToFault Takes fault a b old new
     → PutsEach Takes filter_of held_of (λ filter r. lines_at filter (place_of_outgoing r))
     → IsRestShownUpToFault form.Listing (filter_of old) format.Outgoing fault 0 a b (held_of old) (held_of new)
 outgoing_shown_up_to_fault old new Takes filter_of held_of fault a b listed each =
@@ -167,7 +167,7 @@ outgoing_shown_up_to_fault old new Takes filter_of held_of fault a b listed each
 
 pub received_shown : {L : Type 0} (old new : L) (Takes : L → Receipt → L → Type 0) (filter_of : L → Filter)
     (held_of : L → Option (List ℕ)) (count : ℕ) (receipts : List Receipt) (a b : Option (List ℕ))
-    → received.IsListed Takes receipts [] a b old new → count ≡ length receipts
+    → received.AreReceiptsListed Takes receipts [] a b old new → count ≡ length receipts
     → PutsEach Takes filter_of held_of (λ filter r. lines_at filter (place_of_receipt r))
     → IsRestShown form.Listing (filter_of old) format.Received (OfList count) 0 0 a b (held_of old) (held_of new)
 received_shown old new Takes filter_of held_of count receipts a b listed many each =
@@ -183,7 +183,7 @@ received_shown old new Takes filter_of held_of count receipts a b listed many ea
 
 pub received_shown_up_to_fault : {L : Type 0} (old new : L) (Takes : L → Receipt → L → Type 0) (filter_of : L → Filter)
     (held_of : L → Option (List ℕ)) (fault : FaultLine) (a b : Option (List ℕ))
-    → received.IsListedUpToFault Takes fault a b old new
+    → received.AreReceiptsListedUpToFault Takes fault a b old new
     → PutsEach Takes filter_of held_of (λ filter r. lines_at filter (place_of_receipt r))
     → IsRestShownUpToFault form.Listing (filter_of old) format.Received fault 0 a b (held_of old) (held_of new)
 received_shown_up_to_fault old new Takes filter_of held_of fault a b listed each =

@@ -23,9 +23,9 @@ abbrev pub is_in_slot : Filter → ℕ → Bool
 is_in_slot filter number = is_slot filter.slot number
 
 -- whether a frame lies not before the first that is asked for
-abbrev pub is_begun : Option ℕ → ℕ → Bool
-is_begun None frame = true
-is_begun (Some from) frame = nat_le from frame
+abbrev pub has_begun : Option ℕ → ℕ → Bool
+has_begun None frame = true
+has_begun (Some from) frame = nat_le from frame
 
 -- whether a frame lies not behind the last that is asked for
 abbrev pub is_before_end : Option ℕ → ℕ → Bool
@@ -35,4 +35,4 @@ is_before_end (Some to) frame = nat_le frame to
 -- whether a place is among those that are asked for
 abbrev pub lets_pass : Filter → Place → Bool
 lets_pass filter place =
-    is_in_slot filter place.slot && is_begun filter.from place.frame && is_before_end filter.to place.frame
+    is_in_slot filter place.slot && has_begun filter.from place.frame && is_before_end filter.to place.frame

@@ -35,12 +35,12 @@ pub record IsRecordingRead (of : Recording) (slots : List RecordedSlot) (lines :
 
 -- These records of an outgoing list were, and there are so many.
 pub record IsOutgoingRead (sendings : List Sending) (count : ℕ) (left_old left_new : Option (List ℕ)) : Type 0 where
-  pub read : outgoing.IsRead sendings [] left_old left_new
+  pub read : outgoing.AreSendingsRead sendings [] left_old left_new
   pub many : count ≡ length sendings
 
 -- These records of a received list were, and there are so many.
 pub record IsReceivedRead (receipts : List Receipt) (count : ℕ) (left_old left_new : Option (List ℕ)) : Type 0 where
-  pub read : received.IsRead receipts [] left_old left_new
+  pub read : received.AreReceiptsRead receipts [] left_old left_new
   pub many : count ≡ length receipts
 
 -- the format of the file of a recording
@@ -57,12 +57,12 @@ IsFileRead Received (Receipts receipts) (OfList count) old new = IsReceivedRead 
 IsFileRead format records summary old new = ⊥
 
 -- What stands behind the head of a file of this format was read up to a record that shows this fault.
-abbrev pub IsReadUpToFault : FileFormat → Records → FaultLine → Option (List ℕ) → Option (List ℕ) → Type 0
-IsReadUpToFault Uplink (Slots slots lines) fault old new = recording.IsReadUpToFault kind.Uplink slots lines fault old new
-IsReadUpToFault Downlink (Slots slots lines) fault old new = recording.IsReadUpToFault kind.Downlink slots lines fault old new
-IsReadUpToFault Outgoing (Sendings sendings) fault old new = outgoing.IsReadUpToFault sendings fault old new
-IsReadUpToFault Received (Receipts receipts) fault old new = received.IsReadUpToFault receipts fault old new
-IsReadUpToFault format records fault old new = ⊥
+abbrev pub IsFileReadUpToFault : FileFormat → Records → FaultLine → Option (List ℕ) → Option (List ℕ) → Type 0
+IsFileReadUpToFault Uplink (Slots slots lines) fault old new = recording.IsReadUpToFault kind.Uplink slots lines fault old new
+IsFileReadUpToFault Downlink (Slots slots lines) fault old new = recording.IsReadUpToFault kind.Downlink slots lines fault old new
+IsFileReadUpToFault Outgoing (Sendings sendings) fault old new = outgoing.AreSendingsReadUpToFault sendings fault old new
+IsFileReadUpToFault Received (Receipts receipts) fault old new = received.AreReceiptsReadUpToFault receipts fault old new
+IsFileReadUpToFault format records fault old new = ⊥
 
 -- A file of one of the formats was read whole, head and all: this stands behind its head.
 pub record IsWhole (records : Records) (summary : FileSummary) (left_old left_new : Option (List ℕ)) : Type 0 where
@@ -85,7 +85,7 @@ pub record IsRecordFault (records : Records) (fault : FaultLine) (left_old left_
   pub format : FileFormat
   pub behind : Option (List ℕ)
   pub head : Consumes left_old behind (head_octets (magic_of format))
-  pub rest : IsReadUpToFault format records fault behind left_new
+  pub rest : IsFileReadUpToFault format records fault behind left_new
 
 -- What stands behind the head of a file of this format was read, and its lines in a form were put, between so many before them and
 -- so many behind.
@@ -101,7 +101,7 @@ pub record IsRestShown (form : Form) (filter : Filter) (format : FileFormat) (su
 pub record IsRestShownUpToFault (form : Form) (filter : Filter) (format : FileFormat) (fault : FaultLine) (before : ℕ)
     (left_old left_new held_old held_new : Option (List ℕ)) : Type 0 where
   pub records : Records
-  pub read : IsReadUpToFault format records fault left_old left_new
+  pub read : IsFileReadUpToFault format records fault left_old left_new
   pub count : ℕ
   pub lines : HasLines form filter records count
   pub put : PutsLines (before + count) held_old held_new

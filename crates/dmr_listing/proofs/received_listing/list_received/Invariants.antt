@@ -2,7 +2,7 @@
 use Rattle.std.proofs.Common.{◌≡◌, ◌+◌, ◌*◌, ◌-◌, ◌≤◌, List, [], None, length, false}
 use Rattle.dmr_record.specs.Received.{Receipt, last_read, most_receipts, receipt_octets}
 use Rattle.dmr_listing.specs.ListingMeaning.{octet_behind}
-use Rattle.dmr_listing.specs.ReceivedListings.{IsListed, last_fields}
+use Rattle.dmr_listing.specs.ReceivedListings.{AreReceiptsListed, last_fields}
 use Rattle.dmr_listing.proofs.received_listing.list_received.Given as goal
 
 abbrev pub invariant-loop-received : goal.invariant-loop-received
@@ -14,7 +14,7 @@ invariant-loop-received g l = record {
   room : l.octet ≤ 8 + 65547 * l.count;
   so_far : (receipts : List Receipt) × (length receipts ≡ l.count) × (last_fields None receipts ≡ last_read l.last)
       × (l.octet ≡ octet_behind receipt_octets receipts)
-      × IsListed g.L.ReceivedLines.Takes receipts [] (g.S.Source.left l.initial.source) (g.S.Source.left l.source)
+      × AreReceiptsListed g.L.ReceivedLines.Takes receipts [] (g.S.Source.left l.initial.source) (g.S.Source.left l.source)
       l.initial.lines l.lines;
 }
 
