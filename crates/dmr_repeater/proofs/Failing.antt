@@ -209,7 +209,7 @@ module _ (s : Settings) (m : State) (new : m ≡ fresh s) (output : Stream) (a z
       let counts = ap length u.split in
       let long = length-append u.given (u.frame ∷ []) in
       let told = subst (λ (l : State). TearsFrame output (moment l unread p h t) u.given u.frame z.outgoing z.downlink z.received)
-          new
+      new
       u.tears in
       fails s output a z b p h t uplink head downlink received u.frames u.given (replicate 5 silent_frame) u.frame split told
       u.reads
@@ -229,7 +229,7 @@ module _ (s : Settings) (m : State) (new : m ≡ fresh s) (output : Stream) (a z
       handed_split frames count (omega arith) ∙ ap (λ n. xs ++ replicate n silent_frame) left in
       let long : length xs ≡ length frames + 1 + count = simp (length-append, length-replicate) (omega arith) in
       let told = subst (λ (l : State). TearsFrame output (moment l unread p h t) xs silent_frame z.outgoing z.downlink z.received)
-          new u
+      new u
       in
       fails s output a z b p h t uplink head downlink received frames xs (replicate (4 - count) silent_frame) silent_frame split
       told reads

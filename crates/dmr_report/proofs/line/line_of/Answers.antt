@@ -24,7 +24,7 @@ returns-in-None-clause-one c = one_line _ (split_parts 10 c.args.text.now None c
 pub returns-in-Some-clause-line : goal.returns-in-Some-clause-line
 returns-in-Some-clause-line c =
     let parts = split_once_first 10 c.args.text.now (Some (c.in-Some.line, c.in-Some.field-0-1))
-        c.in-Some.ensures.cases (omega arith) in
+    c.in-Some.ensures.cases (omega arith) in
     parts.1
 
 pub returns-in-None-clause-line : goal.returns-in-None-clause-line
