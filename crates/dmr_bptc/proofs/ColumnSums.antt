@@ -10,7 +10,7 @@ use Rattle.dmr_bits.proofs.Lists.{get_or-xor_bits, length-bits_of}
 use Rattle.dmr_bits.proofs.Sums.{bits_of_xor}
 use Rattle.dmr_codes.specs.Code.{ones_over}
 use Rattle.dmr_codes.specs.Seven.{hamming13_columns}
-use Rattle.dmr_bptc.specs.Table.{column}
+use Rattle.dmr_bptc.specs.ProductWord.{column}
 use Rattle.dmr_bptc.specs.Rows.{laid}
 use Rattle.dmr_bptc.specs.Sums.{sum_rows}
 use Rattle.dmr_bptc.proofs.Cells.{column_from}

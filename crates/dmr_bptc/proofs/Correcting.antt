@@ -4,7 +4,7 @@ use Rattle.std.proofs.Common.{ext_get_or, inl, inr}
 use Rattle.std.proofs.lemmas.Bool.{cases_eq, cases_lt}
 use Rattle.dmr_bits.specs.Bits.{distance}
 use Rattle.dmr_codes.specs.Seven.{IsHamming13, IsHamming15}
-use Rattle.dmr_bptc.specs.Table.{cell, row, column}
+use Rattle.dmr_bptc.specs.ProductWord.{cell, row, column}
 use Rattle.dmr_bptc.specs.Decoding.{IsCorrected}
 use Rattle.dmr_bptc.proofs.Cells.{row_same, column_same}
 

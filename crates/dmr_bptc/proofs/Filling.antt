@@ -7,7 +7,7 @@ use Rattle.std.proofs.lemmas.List.{length-append, get_or_append_left, get_or-app
 use Rattle.dmr_bits.specs.Bits.{part, put_at}
 use Rattle.dmr_codes.specs.Seven.{IsHamming13, IsHamming15, hamming13_columns, hamming15_columns, hamming13_shaped}
 use Rattle.dmr_codes.proofs.Tables.{all_rows as rows_from}
-use Rattle.dmr_bptc.specs.Table.{cell, row, column}
+use Rattle.dmr_bptc.specs.ProductWord.{cell, row, column}
 use Rattle.dmr_bptc.specs.ProductWord.{information_cell}
 use Rattle.dmr_bptc.proofs.Cells.{row_same, column_same}
 

@@ -3,7 +3,7 @@ use Rattle.std.proofs.Common.{◌≡◌, ℕ, ◌+◌, ◌-◌, ◌*◌, ◌/◌
 use Rattle.std.proofs.Common.{arith}
 use Rattle.dmr_bits.specs.Bits.{bits_of}
 use Rattle.dmr_bptc.specs.Spread.{four}
-use Rattle.dmr_bptc.specs.Table.{cell}
+use Rattle.dmr_bptc.specs.ProductWord.{cell}
 use Rattle.dmr_bptc.specs.Rows.{laid}
 use Rattle.dmr_bptc.proofs.Numbered.{joined_more}
 use Rattle.dmr_bptc.proofs.RowNumbers.{numbered_at}

@@ -13,7 +13,7 @@ use Rattle.dmr_codes.specs.Words.{one_within}
 use Rattle.dmr_codes.specs.LeastColumns.{least_three}
 use Rattle.dmr_codes.specs.Seven.{IsHamming13, IsHamming15, hamming13_columns, hamming13_shaped, hamming15_columns}
 use Rattle.dmr_codes.specs.Seven.{hamming15_shaped}
-use Rattle.dmr_bptc.specs.Table.{column}
+use Rattle.dmr_bptc.specs.ProductWord.{column}
 use Rattle.dmr_bptc.specs.Rows.{laid, row_bit}
 use Rattle.dmr_bptc.specs.Sums.{sum_rows, fails, failing_in, AreFailing}
 use Rattle.dmr_bptc.specs.Decoding.{IsCorrected}

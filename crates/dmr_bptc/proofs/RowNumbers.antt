@@ -7,7 +7,7 @@ use Rattle.std.proofs.lemmas.List.{get_or-set_same, get_or-set_other, length-tak
 use Rattle.std.proofs.lemmas.List.FromFn.{length-map-range_with_len, get_or-map-range_with_len}
 use Rattle.dmr_bits.specs.Bits.{bits_of, number_of}
 use Rattle.dmr_bits.proofs.Lists.{length-bits_of, bits_of_spelled}
-use Rattle.dmr_bptc.specs.Table.{place, cell, row}
+use Rattle.dmr_bptc.specs.ProductWord.{place, cell, row}
 use Rattle.dmr_bptc.specs.Rows.{row_bit, numbered_bit, laid}
 use Rattle.dmr_bptc.proofs.Cells.{unplace, place_below, row_from}
 

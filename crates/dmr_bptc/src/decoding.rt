@@ -3,7 +3,7 @@ ghost use Rattle.std.specs.Prelude.{◌≡◌, ◌<◌, ◌≤◌, ◌+◌, ◌-
 ghost use Rattle.std.specs.Prelude.{slice_index_or};
 ghost use Rattle.dmr_bits.specs.Bits.{bits_of};
 ghost use Rattle.dmr_codes.specs.Seven.{IsHamming15};
-ghost use Rattle.dmr_bptc.specs.Table.{cell, row};
+ghost use Rattle.dmr_bptc.specs.ProductWord.{cell, row};
 ghost use Rattle.dmr_bptc.specs.ProductWord.{IsProductWord, information};
 ghost use Rattle.dmr_bptc.specs.Decoding.{IsCorrected, IsDecoded, IsDamaged};
 

@@ -1,5 +1,18 @@
--- The data types of data bursts by name; those from 12 to 15 are reserved. ETSI TS 102 361-1, clause 9.3.6.
+-- The numbers of the standard that have names: LCSS, and the data types of data bursts, of which those from 12 to 15 are reserved.
+-- ETSI TS 102 361-1, clauses 9.3.3 and 9.3.6.
 use Rattle.std.specs.Prelude.{ℕ}
+
+abbrev pub single_fragment : ℕ
+single_fragment = 0
+
+abbrev pub first_fragment : ℕ
+first_fragment = 1
+
+abbrev pub last_fragment : ℕ
+last_fragment = 2
+
+abbrev pub continuation_fragment : ℕ
+continuation_fragment = 3
 
 abbrev pub pi_header : ℕ
 pi_header = 0

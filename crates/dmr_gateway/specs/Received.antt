@@ -49,7 +49,7 @@ expanded slot source expansion = option_map (datagram_record slot source) (resul
 abbrev pub service_gives : ℕ → ℕ → ℕ → ℕ → List ℕ → Option Received
 service_gives llid slot service source body =
     if service == ip_service then plain_datagram slot source body
-    else (if service == compressed_service then expanded slot source (expand body source llid false) else None)
+    else (if service == compressed_service then expanded slot source (expansion body source llid) else None)
 
 -- What a completed packet gives: a datagram, as it is or expanded, or short data, or nothing.
 abbrev pub record_given : ℕ → ℕ → Option Joined → Option Received

@@ -8,7 +8,7 @@ use Rattle.dmr_bits.proofs.Lists.{triangle, distance_zero}
 use Rattle.dmr_bits.proofs.Parts.{length-part}
 use Rattle.dmr_bptc.specs.Decoding.{IsDamaged}
 use Rattle.dmr_bptc.specs.ProductWord.{IsProductWord, information as held_by}
-use Rattle.dmr_bptc.specs.Table.{row, column}
+use Rattle.dmr_bptc.specs.ProductWord.{row, column}
 use Rattle.dmr_bptc.proofs.Cells.{length-row, length-column, get_or-row, cells_of_row, cells_of_column, information_same}
 use Rattle.dmr_bptc.proofs.Near.{agree_but_one}
 use Rattle.dmr_burst.specs.Emb.{HasEmb, emb_of}
@@ -26,7 +26,7 @@ use Rattle.dmr_codes.specs.Seven.{golay20_columns, golay20_shaped, residue16_col
 use Rattle.dmr_codes.specs.Seven.{IsHamming15, hamming15_columns, hamming15_shaped, hamming13_columns, hamming13_shaped}
 use Rattle.dmr_codes.specs.Words.{one_within, IsWord-xor}
 use Rattle.dmr_hearing.specs.Damage.{Sends, IsDamagedPayload}
-use Rattle.dmr_hearing.specs.Hearing.{IsEncoded}
+use Rattle.dmr_bptc.specs.ProductWord.{IsWritten}
 use Rattle.dmr_hearing.specs.declared.data_types.Payload.{Payload}
 use Rattle.dmr_hearing.specs.declared.data_types.Payload.TheVariants.{Word, Sealed, LinkControl, Raw, Nothing}
 use Rattle.dmr_hearing.proofs.Payloads.{one_encoded}
@@ -114,12 +114,12 @@ one_message : (received i j : List Bool) → IsDamagedPayload Word i received �
 one_message received i j (v, product, same, near) (w, product', same', near') =
     sym same ∙ one_held received v w product product' near near' ∙ same'
 
-message_is : (received m n i j : List Bool) → IsEncoded m i → IsEncoded n j → IsDamagedPayload Word i received
+message_is : (received m n i j : List Bool) → IsWritten m i → IsWritten n j → IsDamagedPayload Word i received
     → IsDamagedPayload Word j received
     → m ≡ n
-message_is received m n i j e f p q = sym e.written.holds ∙ one_message received i j p q ∙ f.written.holds
+message_is received m n i j e f p q = sym e.holds ∙ one_message received i j p q ∙ f.holds
 
-information_is : (received m n i j : List Bool) → IsEncoded m i → IsEncoded n j → IsDamagedPayload Word i received
+information_is : (received m n i j : List Bool) → IsWritten m i → IsWritten n j → IsDamagedPayload Word i received
     → IsDamagedPayload Word j received
     → i ≡ j
 information_is received m n i j e f p q = one_encoded m n i j (message_is received m n i j e f p q) e f

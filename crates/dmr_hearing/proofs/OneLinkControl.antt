@@ -4,7 +4,7 @@ use Rattle.dmr_bits.specs.Bits.{bits_of_octets}
 use Rattle.dmr_bits.proofs.OctetFronts.{length-octets_of, octets_of-small}
 use Rattle.dmr_bits.proofs.Spelled.{same_octets}
 use Rattle.dmr_embedded.specs.EmbeddedWord.{IsEmbedded, lc_bits}
-use Rattle.dmr_embedded.specs.Table.{bits_of_fields}
+use Rattle.dmr_embedded.specs.EmbeddedWord.{bits_of_fields}
 use Rattle.dmr_embedded.specs.declared.fault.EmbedFault.{EmbedFault}
 use Rattle.dmr_embedded.proofs.Correcting.{one_extracted}
 use Rattle.dmr_embedded.proofs.Damage.{damage_undone}

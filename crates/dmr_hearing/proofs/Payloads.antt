@@ -8,7 +8,7 @@ use Rattle.dmr_bptc.proofs.Written.{one_written}
 use Rattle.dmr_checks.specs.Sealed.{IsSealed}
 use Rattle.dmr_checks.specs.declared.sealing.Mask.{Mask}
 use Rattle.dmr_hearing.specs.Damage.{IsDamagedPayload}
-use Rattle.dmr_hearing.specs.Hearing.{IsEncoded}
+use Rattle.dmr_bptc.specs.ProductWord.{IsWritten}
 use Rattle.dmr_hearing.specs.Reading.{IsReading}
 use Rattle.dmr_hearing.specs.declared.data_types.Payload.TheVariants.{Word, Sealed, LinkControl}
 use Rattle.dmr_hearing.specs.declared.heard.DataBurst.{DataBurst}
@@ -33,25 +33,25 @@ data_burst_by k k' i i' l l' e f g = cc
 one_message : (received a b : List Bool) → IsDecoded received (Some a) → IsDecoded received (Some b) → a ≡ b
 one_message received a b p q = same_some a b (one_decoded received (Some a) (Some b) p q)
 
-pub one_encoded : (m n a b : List Bool) → m ≡ n → IsEncoded m a → IsEncoded n b → a ≡ b
-one_encoded m n a b e p q = one_written n a b p.long q.long (subst (λ (x : List Bool). IsEncoded x a) e p).written q.written
+pub one_encoded : (m n a b : List Bool) → m ≡ n → IsWritten m a → IsWritten n b → a ≡ b
+one_encoded m n a b e p q = one_written n a b (subst (λ (x : List Bool). IsWritten x a) e p) q
 
 -- what decoding answers, of information in a product word
 held : (received information message : List Bool) (result : Option (List Bool)) → IsDecoded received result
-    → IsEncoded message information → IsDamagedPayload Word information received
+    → IsWritten message information → IsDamagedPayload Word information received
     → result ≡ Some message
 held received information message result decoded encoded (word, product, same, damaged) =
-    undamaged received word result decoded product damaged ∙ ap Some (same ∙ encoded.written.holds)
+    undamaged received word result decoded product damaged ∙ ap Some (same ∙ encoded.holds)
 
 -- ---- a message, encoded anew
 pub record IsMade (kind : ℕ) (message : List Bool) (data_burst : DataBurst) : Type 0 where
   pub kind_is : data_burst.kind ≡ kind
-  pub encoded : IsEncoded message data_burst.information
+  pub encoded : IsWritten message data_burst.information
   pub plain : data_burst.link_control ≡ None
 
 made_is : (kind : ℕ) (message other information : List Bool) (lc : Option FullLc) (data_burst : DataBurst)
     → IsMade kind message data_burst
-    → message ≡ other → IsEncoded other information → lc ≡ None
+    → message ≡ other → IsWritten other information → lc ≡ None
     → Some data_burst ≡ Some (record { kind = kind; information = information; link_control = lc })
 made_is kind message other information lc data_burst made e encoded plain =
     data_burst_by data_burst.kind kind data_burst.information information data_burst.link_control lc made.kind_is
@@ -122,21 +122,21 @@ unsealed_unread mask kind received message decoded unsealed =
 -- ---- link control
 -- the word that was sent holds what seals the link control
 word_holds : (lc_use : LcUse) (sent : FullLc) (message information word : List Bool) → IsLc lc_use sent message
-    → IsEncoded message information → held_by word ≡ held_by information
+    → IsWritten message information → held_by word ≡ held_by information
     → IsLc lc_use sent (held_by word)
-word_holds lc_use sent message information word is encoded same = subst (IsLc lc_use sent) (sym (same ∙ encoded.written.holds)) is
+word_holds lc_use sent message information word is encoded same = subst (IsLc lc_use sent) (sym (same ∙ encoded.holds)) is
 
 pub link_control_read : (lc_use : LcUse) (kind : ℕ) (received message information : List Bool) (lc : FullLc)
     → IsReadLc lc_use received lc
     → ((other : FullLc) → IsReadLc lc_use received other → ◌≡◌ {A = Result FullLc LcFault} (Ok lc) (Ok other))
     → ((word : List Bool) → IsProductWord word → IsDamaged word received → IsSealedLc lc_use (held_by word) → IsLc lc_use lc
     (held_by word))
-    → IsLc lc_use lc message → IsEncoded message information
+    → IsLc lc_use lc message → IsWritten message information
     → IsReading (LinkControl lc_use) kind received
     (Some (record { kind = kind; information = information; link_control = Some lc }))
 link_control_read lc_use kind received message information lc read only undone is encoded =
     let made : (other : FullLc) (message' information' : List Bool) (control : Option FullLc) → lc ≡ other → IsLc lc_use other
-    message' → IsEncoded message' information' → control ≡ Some other
+    message' → IsWritten message' information' → control ≡ Some other
     → ◌≡◌ {A = Option DataBurst} (Some (record { kind = kind; information = information; link_control = Some lc }))
     (Some (record { kind = kind; information = information'; link_control = control })) =
     λ other message' information' control e is' encoded' control_is.

@@ -2,7 +2,7 @@
 use Rattle.std.proofs.Common.{◌≡◌, ◌≢◌, ℕ, List, Bool, Option, Some, refl, sym, subst, arith}
 use Rattle.dmr_bits.specs.Bits.{bits_of_octets}
 use Rattle.dmr_bptc.specs.Decoding.{IsDamaged}
-use Rattle.dmr_bptc.specs.Table.{column}
+use Rattle.dmr_bptc.specs.ProductWord.{column}
 use Rattle.dmr_bptc.proofs.Near.{no_distance}
 use Rattle.dmr_burst.specs.Burst.{IsEncoding}
 use Rattle.dmr_burst.specs.Layout.{information_field}
@@ -12,17 +12,17 @@ use Rattle.dmr_burst.specs.declared.sync.Side.TheVariants.{Ms}
 use Rattle.dmr_burst.proofs.Same.{read_back}
 use Rattle.dmr_hearing.specs.DataTypes.{payload_of}
 use Rattle.dmr_hearing.specs.Damage.{Sends, IsDamagedPayload, IsSentSlot, IsRecordedAs, HasNoMobileSync}
-use Rattle.dmr_hearing.specs.Hearing.{IsEncoded}
+use Rattle.dmr_bptc.specs.ProductWord.{IsWritten}
 use Rattle.dmr_hearing.specs.Slots.{Data, VoiceSync, Voice, ForeignVoice, ForeignData}
 use Rattle.dmr_hearing.specs.declared.data_types.Payload.{Payload}
 use Rattle.dmr_hearing.specs.declared.data_types.Payload.TheVariants.{Word, Sealed, LinkControl, Raw, Nothing}
 use Rattle.dmr_link.specs.declared.full_lc.FullLc.{FullLc}
 
-undamaged : (message information received : List Bool) → received ≡ information → IsEncoded message information
+undamaged : (message information received : List Bool) → received ≡ information → IsWritten message information
     → IsDamagedPayload Word information received
 undamaged message information received same encoded =
     let itself : IsDamaged information information = (0, λ c h apart. omega (arith, no_distance (column information c))) in
-    (information, encoded.written.word, refl, subst (IsDamaged information) (sym same) itself)
+    (information, encoded.word, refl, subst (IsDamaged information) (sym same) itself)
 
 payload_undamaged : (payload : Payload) (information : List Bool) (lc : Option FullLc) (received : List Bool)
     → received ≡ information → Sends payload information lc

@@ -10,7 +10,7 @@ use Rattle.dmr_burst.specs.Sync.{HasSync, sync_word}
 use Rattle.dmr_burst.specs.declared.sync.Side.TheVariants.{Ms}
 use Rattle.dmr_checks.specs.Sealed.{IsSealed}
 use Rattle.dmr_hearing.specs.DataTypes.{payload_of}
-use Rattle.dmr_hearing.specs.Hearing.{IsEncoded}
+use Rattle.dmr_bptc.specs.ProductWord.{IsWritten}
 use Rattle.dmr_hearing.specs.Slots.{SentSlot, Silent, Data, VoiceSync, Voice, ForeignVoice, ForeignData, CutOff}
 use Rattle.dmr_hearing.specs.declared.data_types.Payload.{Payload}
 use Rattle.dmr_hearing.specs.declared.data_types.Payload.TheVariants.{Word, Sealed, LinkControl, Raw, Nothing}
@@ -21,13 +21,13 @@ use Rattle.dmr_link.specs.declared.full_lc.FullLc.{FullLc}
 -- The information of a data burst, as it is repeated, and its link control, by what it holds.
 abbrev pub Sends : Payload → List Bool → Option FullLc → Type 0
 -- any 96 bits
-Sends Word information lc = (message : List Bool) × IsEncoded message information × (lc ≡ None)
+Sends Word information lc = (message : List Bool) × IsWritten message information × (lc ≡ None)
 -- 96 bits that are sealed under the mask
 Sends (Sealed mask) information lc =
-    (message : List Bool) × IsSealed mask (octets_of 12 message) × IsEncoded message information × (lc ≡ None)
+    (message : List Bool) × IsSealed mask (octets_of 12 message) × IsWritten message information × (lc ≡ None)
 -- a link control that is sealed for its use
 Sends (LinkControl lc_use) information lc =
-    (sent : FullLc) × (message : List Bool) × IsLc lc_use sent message × IsEncoded message information × (lc ≡ Some sent)
+    (sent : FullLc) × (message : List Bool) × IsLc lc_use sent message × IsWritten message information × (lc ≡ Some sent)
 -- any 196 bits
 Sends Raw information lc = (length information ≡ 196) × (lc ≡ None)
 Sends Nothing information lc = ⊥

@@ -4,7 +4,7 @@ use Rattle.std.specs.Prelude.{◌≡◌, ℕ, ◌<◌, ◌^◌, List, All, lengt
 use Rattle.dmr_bits.specs.Bits.{bits_of_octets}
 use Rattle.dmr_embedded.specs.EmbeddedWord.{IsEmbedded}
 use Rattle.dmr_embedded.specs.Extracting.{IsExtracted, AreRowsDamaged}
-use Rattle.dmr_embedded.specs.Table.{bits_of_fields}
+use Rattle.dmr_embedded.specs.EmbeddedWord.{bits_of_fields}
 use Rattle.dmr_embedded.specs.declared.fault.EmbedFault.{EmbedFault}
 use Rattle.dmr_link.specs.FullLc.{full_lc_bits, FitsFullLc}
 use Rattle.dmr_link.specs.declared.full_lc.FullLc.{FullLc}

@@ -19,24 +19,19 @@ use Rattle.dmr_hearing.specs.declared.heard.Heard.{Heard}
 use Rattle.dmr_link.specs.Sealed.{IsLc, IsReadLc}
 use Rattle.dmr_link.specs.declared.full_lc.FullLc.{FullLc}
 
--- The 196 bits that 96 bits are encoded as.
-pub record IsEncoded (message information : List Bool) : Type 0 where
-  pub long : length information ≡ 196
-  pub written : IsWritten message information
-
 -- What received information is read as, by what it holds: the information to repeat, and a link control.
 abbrev pub Reads : Payload → List Bool → List Bool → Option FullLc → Type 0
 -- a word: where the product code gives 96 bits, those are encoded anew
 Reads Word received information lc =
-    (message : List Bool) × IsDecoded received (Some message) × IsEncoded message information × (lc ≡ None)
+    (message : List Bool) × IsDecoded received (Some message) × IsWritten message information × (lc ≡ None)
 -- sealed bits: the same, where they are sealed under the mask
 Reads (Sealed mask) received information lc =
     (message : List Bool) × IsDecoded received (Some message) × IsSealed mask (octets_of 12 message)
-    × IsEncoded message information × (lc ≡ None)
+    × IsWritten message information × (lc ≡ None)
 -- a link control: where one is read for its use, it is sealed and encoded anew
 Reads (LinkControl lc_use) received information lc =
     (read : FullLc) × (message : List Bool) × IsReadLc lc_use received read × IsLc lc_use read message
-    × IsEncoded message information × (lc ≡ Some read)
+    × IsWritten message information × (lc ≡ Some read)
 -- raw bits are repeated as they are received
 Reads Raw received information lc = (information ≡ received) × (lc ≡ None)
 -- any other type is not read

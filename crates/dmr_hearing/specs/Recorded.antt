@@ -4,18 +4,13 @@ use Rattle.dmr_bits.specs.Bits.{bits_of_octets}
 use Rattle.dmr_burst.specs.Layout.{vocoder_field}
 use Rattle.dmr_hearing.specs.Damage.{IsRecordedAs}
 use Rattle.dmr_hearing.specs.Hearing.{Hears}
-use Rattle.dmr_hearing.specs.Slots.{SentSlot, IsHeardAs}
+use Rattle.dmr_hearing.specs.Slots.{SentSlot, IsHeardAs, vocoder_of}
 use Rattle.dmr_hearing.specs.declared.heard.Heard.{Heard}
 
 -- Silence, or a burst of 33 octets: the fields of fewer would be too short to tell one sync word or slot type from another.
 abbrev pub IsSilenceOr33Octets : Option (List ℕ) → Type 0
 IsSilenceOr33Octets None = Unit {0}
 IsSilenceOr33Octets (Some octets) = length octets ≡ 33
-
--- The vocoder bits of a slot.
-abbrev pub vocoder_of : Option (List ℕ) → List Bool
-vocoder_of None = replicate 216 false
-vocoder_of (Some octets) = vocoder_field (bits_of_octets octets)
 
 -- Something that is heard as what was sent, with the vocoder bits of the slot.
 pub record IsHearing (slot : Option (List ℕ)) (sent : SentSlot) (heard : Heard) : Type 0 where

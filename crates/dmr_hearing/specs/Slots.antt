@@ -1,8 +1,10 @@
--- What a slot may send, and what it is heard as.
+-- What a slot may send, what it is heard as, and its vocoder bits.
 use Rattle.std.specs.Prelude.{◌≡◌, ℕ, Bool, true, false, List, replicate, Option, Some, None}
 use Rattle.dmr_burst.specs.declared.emb.Emb.{Emb}
 use Rattle.dmr_hearing.specs.declared.heard.Heard.{Heard}
 use Rattle.dmr_link.specs.declared.full_lc.FullLc.{FullLc}
+use Rattle.dmr_bits.specs.Bits.{bits_of_octets}
+use Rattle.dmr_burst.specs.Layout.{vocoder_field}
 
 -- What one slot of the uplink sends.
 pub data SentSlot : Type 0 where
@@ -37,3 +39,8 @@ IsHeardAs (Voice emb embedded) heard = (heard.emb ≡ Some emb) × (heard.embedd
 IsHeardAs (ForeignVoice emb) heard = (heard.data_burst ≡ None) × (heard.voice ≡ false) × (heard.emb ≡ Some emb)
 IsHeardAs ForeignData heard = (heard.data_burst ≡ None) × (heard.voice ≡ false)
 IsHeardAs CutOff heard = (heard.data_burst ≡ None) × (heard.voice ≡ false)
+
+-- The vocoder bits of a slot.
+abbrev pub vocoder_of : Option (List ℕ) → List Bool
+vocoder_of None = replicate 216 false
+vocoder_of (Some octets) = vocoder_field (bits_of_octets octets)

@@ -1,7 +1,7 @@
 //! What the information of a data burst is read as.
 ghost use Rattle.std.specs.Prelude.{◌≡◌, None};
 ghost use Rattle.dmr_hearing.specs.DataTypes.{payload_of as payload};
-ghost use Rattle.dmr_hearing.specs.Hearing.{IsEncoded};
+ghost use Rattle.dmr_bptc.specs.ProductWord.{IsWritten};
 ghost use Rattle.dmr_hearing.specs.Reading.{IsReading};
 ghost use Rattle.dmr_hearing.specs.declared.data_types.Payload.TheVariants as holds;
 
@@ -55,7 +55,7 @@ fn read_link_control(kind: u8, lc_use: LcUse, received: &Bits<196>) -> Option<Da
     match lc_read(received, lc_use) {
         Ok(lc) => Some(DataBurst {
             kind,
-            information: encode(&lc_info(&lc, lc_use)),
+            information: bptc_encode(&lc_info(&lc, lc_use)),
             link_control: Some(lc),
         }),
         Err(_) => None,
@@ -78,22 +78,12 @@ fn raw_data_burst(kind: u8, received: &Bits<196>) -> DataBurst
 /// A message, encoded anew.
 fn message_data_burst(kind: u8, message: &Bits<96>) -> DataBurst
     ensures kind { result.kind ≡ kind }
-    ensures information { IsEncoded message.now result.information }
+    ensures information { IsWritten message.now result.information }
     ensures link_control { result.link_control ≡ None }
 {
     DataBurst {
         kind,
-        information: encode(message),
+        information: bptc_encode(message),
         link_control: None,
     }
-}
-
-/// The information that a message is encoded as.
-fn encode(message: &Bits<96>) -> Bits<196>
-    ensures encoded { IsEncoded message.now result }
-{
-    let information = bptc_encode(message);
-    // The proof learns here that there are 196 bits.
-    let _places = information.len();
-    information
 }

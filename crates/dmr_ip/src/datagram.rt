@@ -107,7 +107,7 @@ fn has_length(octets: &[u8]) -> bool
 }
 
 fn has_header_sum(octets: &[u8]) -> bool
-    requires { 20 ≤ length octets.now }
+    requires header { 20 ≤ length octets.now }
     ensures value { result ≡ has_header_sum octets.now }
 {
     add_words(0, &octets[..IP_HEADER]) == 0xffff
@@ -115,7 +115,7 @@ fn has_header_sum(octets: &[u8]) -> bool
 
 // No more fragments follow, and the offset is 0.
 fn is_whole(octets: &[u8]) -> bool
-    requires { 20 ≤ length octets.now }
+    requires header { 20 ≤ length octets.now }
     ensures value { result ≡ is_whole octets.now }
 {
     let fragment = number_at(octets, FRAGMENT);
@@ -123,7 +123,7 @@ fn is_whole(octets: &[u8]) -> bool
 }
 
 fn has_udp_length(octets: &[u8]) -> bool
-    requires { 20 ≤ length octets.now }
+    requires header { 20 ≤ length octets.now }
     ensures value { result ≡ has_udp_length octets.now }
 {
     octets.len() >= HEADERS
@@ -132,7 +132,7 @@ fn has_udp_length(octets: &[u8]) -> bool
 
 // The UDP checksum is right, or there is none.
 fn has_udp_sum(octets: &[u8]) -> bool
-    requires { 28 ≤ length octets.now }
+    requires headers { 28 ≤ length octets.now }
     ensures value { result ≡ has_udp_sum octets.now }
 {
     if number_at(octets, UDP_CHECKSUM) == 0 {

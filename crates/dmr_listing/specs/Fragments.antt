@@ -1,6 +1,6 @@
 -- The link control that four frames of a slot carry.
 use Rattle.std.specs.Prelude.{◌≡◌, List, [], ◌∷◌, Option, Some, None}
-use Rattle.dmr_burst.specs.Lcss.{first_fragment, last_fragment, continuation_fragment}
+use Rattle.dmr_burst.specs.DataTypes.{first_fragment, last_fragment, continuation_fragment}
 use Rattle.dmr_hearing.specs.Fields.{IsReadFrom}
 use Rattle.dmr_link.specs.declared.full_lc.FullLc.{FullLc}
 use Rattle.dmr_listing.specs.declared.fragments.Fragment.{Fragment}

@@ -5,7 +5,7 @@ use Rattle.std.specs.List.{AllByRecursion}
 use Rattle.dmr_record.specs.Outgoing.{AreInFrameOrder, IsSending, Keeps, Sending, ShowsOutgoingFault, sending_octets, sending_of}
 use Rattle.dmr_record.specs.Outgoing.{sendings_octets}
 use Rattle.dmr_record.specs.declared.outgoing.Outgoing.{Outgoing}
-use Rattle.dmr_record.specs.Limits.{record_limit}
+use Rattle.dmr_record.specs.Head.{record_limit}
 use Rattle.dmr_listing.specs.ListingMeaning.{octet_behind}
 use Rattle.dmr_listing.specs.ListingRules.{GivenInTurn}
 use Rattle.dmr_listing.specs.declared.fault_line.FaultLine.{FaultLine}

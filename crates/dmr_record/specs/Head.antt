@@ -1,9 +1,17 @@
--- The eight octets that begin each file.
-use Rattle.std.specs.Prelude.{◌≡◌, ◌≢◌, ℕ, ◌<◌, List, [], ◌∷◌, ◌++◌, length, take, drop}
+-- The eight octets that begin each file, and how much it may hold.
+use Rattle.std.specs.Prelude.{ℕ, ◌≡◌, ◌≢◌, ◌<◌, List, [], ◌∷◌, ◌++◌, length, take, drop}
 use Rattle.dmr_record.specs.declared.fault.RecordFault.{RecordFault}
 use Rattle.dmr_record.specs.declared.fault.RecordFault.TheVariants.{Magic, Version, CutRecord, Read}
 use Rattle.dmr_record.specs.declared.head.FileFormat.{FileFormat}
 use Rattle.dmr_record.specs.declared.head.FileFormat.TheVariants.{Uplink, Downlink, Outgoing, Received}
+
+-- the frames of an uplink file
+abbrev pub frame_limit : ℕ
+frame_limit = 1048576
+
+-- the records of an outgoing file
+abbrev pub record_limit : ℕ
+record_limit = 1048576
 
 -- what stands behind the magic of each file
 abbrev pub file_version : List ℕ

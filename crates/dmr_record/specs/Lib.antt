@@ -2,7 +2,6 @@ pub mod Devices
 pub mod Downlink
 pub mod Faults
 pub mod Head
-pub mod Limits
 pub mod Outgoing
 pub mod Received
 pub mod Spelling

@@ -6,7 +6,7 @@ ghost use Rattle.std.specs.Io.KnownBytes.{Consumes, IsAtEnd};
 ghost use Rattle.dmr_record.specs.Faults.{is_of_end, is_device_fault};
 ghost use Rattle.dmr_record.specs.Outgoing.{outgoing_field_octets, mode_of, IsSlotAndMode, Keeps};
 ghost use Rattle.dmr_record.specs.Outgoing.{IsSending, emptied, sending_of, sending_octets, ShowsOutgoingFault};
-ghost use Rattle.dmr_record.specs.Limits.{record_limit};
+ghost use Rattle.dmr_record.specs.Head.{record_limit};
 
 use crate::device::Source;
 use crate::fault::RecordFault;

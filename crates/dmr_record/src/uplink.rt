@@ -6,7 +6,7 @@ ghost use Rattle.dmr_record.specs.Faults.{is_of_end, is_device_fault};
 ghost use Rattle.dmr_record.specs.Uplink.{IsSilenceOrBurst, IsFrame, ShowsSlotFault, ShowsUplinkFault, slot_tag, slot_body};
 ghost use Rattle.dmr_record.specs.Uplink.{frame_octets};
 ghost use Rattle.dmr_record.specs.Uplink.{ShowsUplinkSlotFault, most_uplink_slots, slot_octets};
-ghost use Rattle.dmr_record.specs.Limits.{frame_limit};
+ghost use Rattle.dmr_record.specs.Head.{frame_limit};
 
 use crate::device::Source;
 use crate::fault::RecordFault;

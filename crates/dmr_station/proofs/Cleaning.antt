@@ -6,14 +6,14 @@ use Rattle.dmr_burst.specs.declared.burst.Burst.{Burst}
 use Rattle.dmr_slot.specs.ChannelMeaning.{Claim, ChannelOut, claims_of, channel_frames}
 use Rattle.dmr_slot.proofs.Channels.{has_traffic_within, frame_of}
 use Rattle.dmr_slot.specs.Clean.{AreCleanBursts, line_burst}
-use Rattle.dmr_slot.specs.ChannelRules.{AreSent}
+use Rattle.dmr_slot.specs.Bursts.{AreSent}
 use Rattle.dmr_slot.specs.LineRules.{LineMemory as Line, ArePushed}
 use Rattle.dmr_slot.specs.declared.line.SlotOut.{SlotOut}
 use Rattle.dmr_slot.proofs.CleanLines.{pushed_lines_are_clean}
 use Rattle.dmr_slot.proofs.Cleaning.{ArePairs, AllFramesSent, both_clean, firsts, frame_claims, seconds}
 use Rattle.dmr_station.specs.Announced.{AreAnnounced}
 use Rattle.dmr_station.specs.declared.announcing.Message.{Message}
-use Rattle.dmr_station.specs.Sending.{DownlinkBurst}
+use Rattle.dmr_station.specs.Sent.{DownlinkBurst}
 use Rattle.dmr_station.specs.Clean.{AreCleanSlots, IsCleanCach, IsCleanDownlink, IsEncodedAs, burst_sent, bursts_in, first_slots}
 use Rattle.dmr_station.specs.Clean.{second_slots}
 use Rattle.dmr_station.specs.DownlinkRules.{Makes, slots_of, slots_in, frames_in, marked_frames}

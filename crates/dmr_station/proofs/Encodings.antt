@@ -11,7 +11,7 @@ use Rattle.dmr_burst.proofs.Same as same
 use Rattle.dmr_burst.proofs.Interleaving.{one_announcement}
 use Rattle.dmr_embedded.proofs.ShortUnique.{one_short}
 use Rattle.dmr_station.specs.declared.announcing.Message.{Message}
-use Rattle.dmr_station.specs.Sending.{DownlinkBurst}
+use Rattle.dmr_station.specs.Sent.{DownlinkBurst}
 use Rattle.dmr_station.specs.Sent.{fragment_lcss, IsCachOf, IsSentAs, AreSentAs}
 
 octets_from_bits : (xs ys : List ℕ) → All (λ octet. octet < 256) xs → All (λ octet. octet < 256) ys

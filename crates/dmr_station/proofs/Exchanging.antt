@@ -8,7 +8,8 @@ use Rattle.dmr_burst.specs.declared.burst.Burst.{Burst}
 use Rattle.dmr_record.specs.Outgoing.{Sending}
 use Rattle.dmr_record.specs.declared.outgoing.Outgoing.{Outgoing}
 use Rattle.dmr_slot.specs.ChannelMeaning.{claims_of}
-use Rattle.dmr_slot.specs.ChannelRules.{OnAir, frame_out, frames_out, after_frame, AreSent}
+use Rattle.dmr_slot.specs.ChannelRules.{OnAir, frame_out, frames_out, after_frame}
+use Rattle.dmr_slot.specs.Bursts.{AreSent}
 use Rattle.dmr_slot.specs.LineRules.{LineMemory as Line, ArePushed}
 use Rattle.dmr_slot.specs.declared.line.SlotOut.{SlotOut}
 use Rattle.dmr_gateway.specs.GatewayRules.{Gate, IsSlot}
@@ -24,7 +25,7 @@ use Rattle.dmr_station.proofs.Frames.{gates_of, claims_in}
 use Rattle.dmr_station.specs.StationRules.{Settings, StationMemory, FrameGiven, IsAsked, IsPassed, ArePassed, taken_of, is_free}
 use Rattle.std.specs.List.{AllZip}
 use Rattle.dmr_station.specs.declared.announcing.Message.{Message}
-use Rattle.dmr_station.specs.Sending.{DownlinkBurst}
+use Rattle.dmr_station.specs.Sent.{DownlinkBurst}
 use Rattle.dmr_station.proofs.LookingBack.{Announces}
 use Rattle.dmr_station.proofs.Offering.{offers_read, faults_read, of_slot, record_faults}
 

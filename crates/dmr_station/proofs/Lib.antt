@@ -11,5 +11,6 @@ pub mod Made
 pub mod Offering
 pub mod Offers
 pub mod OneReception
+pub mod OneResult
 pub mod Readings
 pub mod Taking

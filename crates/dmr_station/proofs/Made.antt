@@ -5,7 +5,7 @@ use Rattle.std.proofs.lemmas.List.{map-append, length-map}
 use Rattle.dmr_burst.specs.declared.burst.Burst.{Burst}
 use Rattle.dmr_slot.specs.ChannelMeaning.{ChannelOut, channel_frames}
 use Rattle.dmr_slot.specs.Bursts.{IsSlotOut}
-use Rattle.dmr_slot.specs.ChannelRules.{AreSent}
+use Rattle.dmr_slot.specs.Bursts.{AreSent}
 use Rattle.dmr_slot.specs.LineRules.{LineMemory as Line, silent_line, ArePushed}
 use Rattle.dmr_slot.specs.Recordings.{handed_slots}
 use Rattle.dmr_slot.specs.declared.line.SlotOut.{SlotOut}
@@ -18,7 +18,7 @@ use Rattle.dmr_voice.specs.DamagedRecordings.{IsDamagedRecordingOf}
 use Rattle.dmr_voice.specs.CallMeaning.{Transmission, Cell, sent_list}
 use Rattle.dmr_voice.specs.WellFormed.{IsWellFormed}
 use Rattle.dmr_station.specs.declared.announcing.Message.{Message}
-use Rattle.dmr_station.specs.Sending.{DownlinkBurst}
+use Rattle.dmr_station.specs.Sent.{DownlinkBurst}
 use Rattle.dmr_station.specs.DownlinkRules.{slots_in, frames_in, marked_frames, IsDownlinkOf, IsPushedLine, Makes}
 use Rattle.dmr_station.specs.DownlinkRules.{silent_frame}
 use Rattle.dmr_station.specs.DownlinkRules.{handed_frames}

@@ -1,6 +1,6 @@
 -- What a slot means is heard in one way, and so a gateway receives one thing of it.
-use Rattle.std.proofs.Common.{◌≡◌, ℕ, Bool, List, [], ◌∷◌, Option, Some, None, refl, sym, ◌∙◌, ap, subst}
-use Rattle.dmr_gateway.specs.Heard.{Tells, IsReadByGateway}
+use Rattle.std.proofs.Common.{◌≡◌, ℕ, List, [], ◌∷◌, refl, sym, ◌∙◌, ap, subst}
+use Rattle.dmr_gateway.proofs.Alike.{read_alike}
 use Rattle.dmr_gateway.specs.RecordMeaning.{received_now}
 use Rattle.dmr_gateway.specs.declared.heard.Heard.{Heard}
 use Rattle.dmr_gateway.specs.declared.received.Received.{Received}
@@ -8,21 +8,6 @@ use Rattle.dmr_voice.specs.declared.said.Content.TheVariants.{Data, VoiceA, Voic
 use Rattle.dmr_voice.specs.declared.said.Said.{Said}
 use Rattle.dmr_voice.specs.declared.said.Said.TheVariants.{Nothing, Repeat}
 use Rattle.dmr_station.specs.DownlinkMeaning.{IsHeardOf, AreRecordsOf, IsSameMeaning}
-
--- what is told is one thing
-pub told_alike : {X : Type 0} (a b : Option X) (P : X → Type 0) → Tells a P → Tells b P → a ≡ b
-told_alike None None P u v = refl
-told_alike None (Some y) P u v = (u y).1 ((v y).0 refl)
-told_alike (Some x) None P u v = sym ((v x).1 ((u x).0 refl))
-told_alike (Some x) (Some y) P u v = sym ((v x).1 ((u x).0 refl))
-
-pub read_alike : (kind : ℕ) (information : List Bool) (a b : Heard) → IsReadByGateway kind information a
-    → IsReadByGateway kind information b → a ≡ b
-read_alike kind information a b u v =
-    ap (λ x. record a { header = x }) (told_alike a.header b.header _ u.header v.header)
-    ∙ ap (λ x. record a { header = b.header; unconfirmed = x })
-    (told_alike a.unconfirmed b.unconfirmed _ u.unconfirmed v.unconfirmed)
-    ∙ ap (λ x. record b { confirmed = x }) (told_alike a.confirmed b.confirmed _ u.confirmed v.confirmed)
 
 heard_alike : (said : Said) (a b : Heard) → IsHeardOf said a → IsHeardOf said b → a ≡ b
 heard_alike Nothing a b u v = u ∙ sym v

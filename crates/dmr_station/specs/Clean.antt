@@ -6,7 +6,7 @@ use Rattle.dmr_burst.specs.Cach.{IsCach}
 use Rattle.dmr_burst.specs.declared.burst.Burst.{Burst}
 use Rattle.dmr_burst.specs.declared.sync.Side.TheVariants.{Bs}
 use Rattle.dmr_slot.specs.Clean.{AreCleanBursts}
-use Rattle.dmr_station.specs.Sending.{DownlinkBurst}
+use Rattle.dmr_station.specs.Sent.{DownlinkBurst}
 use Rattle.std.specs.List.{AllZip}
 
 -- 1. Bursts of both slots in turn.

@@ -17,7 +17,7 @@ use Rattle.dmr_voice.specs.WellFormed.{IsWellFormed}
 use Rattle.dmr_voice.specs.declared.said.Content.TheVariants.{Data}
 use Rattle.dmr_voice.specs.declared.said.Said.{Said}
 use Rattle.dmr_voice.specs.declared.said.Said.TheVariants.{Nothing, Repeat}
-use Rattle.dmr_station.specs.Sending.{DownlinkBurst}
+use Rattle.dmr_station.specs.Sent.{DownlinkBurst}
 use Rattle.dmr_station.specs.DownlinkRules.{slots_in, handed_frames, IsDownlinkOf, Makes}
 use Rattle.dmr_station.specs.StationRules.{Settings, Counts}
 use Rattle.dmr_station.specs.GatewayMeaning.{IsGatewayOf}

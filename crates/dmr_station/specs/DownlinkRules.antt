@@ -4,13 +4,13 @@ use Rattle.std.specs.Prelude.{Some, None}
 use Rattle.std.specs.List.{flat_map}
 use Rattle.dmr_burst.specs.declared.burst.Burst.{Burst}
 use Rattle.dmr_slot.specs.ChannelMeaning.{claims_of, channel_frames}
-use Rattle.dmr_slot.specs.ChannelRules.{AreSent}
+use Rattle.dmr_slot.specs.Bursts.{AreSent}
 use Rattle.dmr_slot.specs.Fronts.{IsFrontOfLine}
 use Rattle.dmr_slot.specs.LineRules.{LineMemory as Line, silent_line, ArePushed}
 use Rattle.dmr_slot.specs.declared.line.SlotOut.{SlotOut}
 use Rattle.dmr_station.specs.Announced.{AreAnnounced}
 use Rattle.dmr_station.specs.declared.announcing.Message.{Message}
-use Rattle.dmr_station.specs.Sending.{DownlinkBurst}
+use Rattle.dmr_station.specs.Sent.{DownlinkBurst}
 use Rattle.dmr_record.specs.Outgoing.{Sending}
 use Rattle.dmr_record.specs.Received.{Receipt}
 use Rattle.dmr_station.specs.GatewayMeaning.{IsGatewayOf}

@@ -3,7 +3,6 @@ pub mod Clean
 pub mod DownlinkMeaning
 pub mod DownlinkRules
 pub mod GatewayMeaning
-pub mod Sending
 pub mod Sent
 pub mod Station
 pub mod StationRules

@@ -1,14 +1,21 @@
 -- The octets that a slot of the downlink has: the exact encoding of what it sends.
-use Rattle.std.specs.Prelude.{ℕ, ◌≡◌, ◌+◌, ◌%◌, ◌==◌, ◌<◌, Bool, List, [], ◌∷◌, Option, Some, None, All, IsSomeAnd}
-use Rattle.std.specs.Prelude.{slice_index_or, if◌then◌else◌}
+use Rattle.std.specs.Prelude.{Bool, ℕ, ◌≡◌, ◌+◌, ◌%◌, ◌==◌, ◌<◌, List, [], ◌∷◌, Option, Some, None, All, IsSomeAnd, slice_index_or}
+use Rattle.std.specs.Prelude.{if◌then◌else◌}
+use Rattle.dmr_burst.specs.declared.burst.Burst.{Burst}
+use Rattle.dmr_station.specs.declared.announcing.Message.{Message}
 use Rattle.dmr_bits.specs.Bits.{bits_of_octets}
 use Rattle.dmr_burst.specs.Burst.{IsEncoding}
 use Rattle.dmr_burst.specs.Cach.{IsCach}
-use Rattle.dmr_burst.specs.Lcss.{first_fragment, last_fragment, continuation_fragment}
+use Rattle.dmr_burst.specs.DataTypes.{first_fragment, last_fragment, continuation_fragment}
 use Rattle.dmr_burst.specs.declared.sync.Side.TheVariants.{Bs}
 use Rattle.dmr_embedded.specs.ShortLc.{IsShortLc}
-use Rattle.dmr_station.specs.declared.announcing.Message.{Message}
-use Rattle.dmr_station.specs.Sending.{DownlinkBurst}
+
+-- What a slot of the downlink sends where it isn't silent: its burst, whether that repeats a burst of the uplink, and the message
+-- of which its CACH carries a fragment.
+pub record DownlinkBurst : Type 0 where
+  pub burst : Burst
+  pub is_repeated : Bool
+  pub message : Message
 
 -- The records of the downlink are counted from 0, slot 1 first. Four of them carry one Short LC: the first fragment, two that
 -- continue it, and the last.

@@ -10,7 +10,7 @@ use Rattle.dmr_gateway.specs.declared.received.Received.{Received}
 use Rattle.dmr_record.specs.Outgoing.{Sending}
 use Rattle.dmr_record.specs.Received.{Receipt}
 use Rattle.dmr_record.specs.declared.outgoing.Outgoing.{Outgoing}
-use Rattle.dmr_station.specs.Sending.{DownlinkBurst}
+use Rattle.dmr_station.specs.Sent.{DownlinkBurst}
 use Rattle.dmr_station.specs.declared.station.Counts.{Counts as StationCounts}
 use Rattle.dmr_station.specs.Clean.{IsCleanDownlink}
 use Rattle.dmr_station.specs.DownlinkRules.{repeated_count, slots_of, Makes}

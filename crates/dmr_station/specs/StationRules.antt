@@ -11,12 +11,13 @@ use Rattle.dmr_gateway.specs.declared.config.Config.{Config}
 use Rattle.dmr_gateway.specs.declared.received.Received.{Received}
 use Rattle.dmr_record.specs.declared.outgoing.Outgoing.{Outgoing}
 use Rattle.dmr_slot.specs.ChannelMeaning.{claims_of}
-use Rattle.dmr_slot.specs.ChannelRules.{OnAir, off_air, frame_out, after_frame, AreSent}
+use Rattle.dmr_slot.specs.ChannelRules.{OnAir, off_air, frame_out, after_frame}
+use Rattle.dmr_slot.specs.Bursts.{AreSent}
 use Rattle.dmr_slot.specs.LineRules.{LineMemory as Line, silent_line, IsPush}
 use Rattle.dmr_slot.specs.declared.line.SlotOut.{SlotOut}
 use Rattle.dmr_station.specs.Announced.{IsAnnounced}
 use Rattle.dmr_station.specs.declared.announcing.Message.{Message}
-use Rattle.dmr_station.specs.Sending.{DownlinkBurst}
+use Rattle.dmr_station.specs.Sent.{DownlinkBurst}
 
 -- 1. What the rules go by.
 

@@ -1,12 +1,16 @@
 //! Laws of what is sent and what it means, as the contracts of functions that do nothing.
 ghost use Rattle.std.specs.Prelude.{◌≡◌, ℕ, List, Option};
 ghost use Rattle.dmr_burst.specs.declared.burst.Burst.{Burst};
+ghost use Rattle.dmr_record.specs.Outgoing.{Sending};
+ghost use Rattle.dmr_record.specs.Received.{Receipt};
 ghost use Rattle.dmr_slot.specs.declared.line.SlotOut.{SlotOut};
-ghost use Rattle.dmr_station.specs.Sending.{DownlinkBurst};
+ghost use Rattle.dmr_voice.specs.CallMeaning.{Cell};
+ghost use Rattle.dmr_station.specs.Sent.{DownlinkBurst};
 ghost use Rattle.dmr_station.specs.Clean.{AreCleanSlots, IsCleanDownlink, IsEncodedAs, bursts_in};
 ghost use Rattle.dmr_station.specs.DownlinkRules.{IsDownlinkOf};
-ghost use Rattle.dmr_station.specs.StationRules.{Settings};
-ghost use Rattle.dmr_station.specs.DownlinkMeaning.{SendsFrontOfWhatIsMeant, SendsWhatIsMeant};
+ghost use Rattle.dmr_station.specs.GatewayMeaning.{IsGatewayOf};
+ghost use Rattle.dmr_station.specs.StationRules.{Settings, Counts};
+ghost use Rattle.dmr_station.specs.DownlinkMeaning.{IsDownlinkOfWhatIsMeant, SendsFrontOfWhatIsMeant, SendsWhatIsMeant};
 ghost use Rattle.dmr_station.specs.Sent.{AreSentAs};
 ghost use Rattle.dmr_station.specs.Station.{SendsByTheRules};
 
@@ -32,6 +36,26 @@ pub fn one_downlink()
     ensures law { (s : Settings) (first second : List SlotOut) (gates : List (List (Option Burst)))
         (a b : List (List (Option DownlinkBurst)))
         → IsDownlinkOf s first second gates a → IsDownlinkOf s first second gates b → a ≡ b }
+{}
+
+/// The gateway makes one thing of what the lines of both slots give and of the datagrams that are offered: its bursts, the records
+/// of what it receives, and its counts.
+pub fn one_gateway()
+    ensures law { (s : Settings) (offers : List (List Sending)) (first second : List SlotOut)
+        (gates other_gates : List (List (Option Burst))) (receipts other_receipts : List Receipt) (counts other_counts : Counts)
+        → IsGatewayOf s offers first second gates receipts counts
+        → IsGatewayOf s offers first second other_gates other_receipts other_counts
+        → (gates ≡ other_gates) × (receipts ≡ other_receipts) × (counts ≡ other_counts) }
+{}
+
+/// What was sent in both slots goes out in one way, with the datagrams that are offered: each slot of the downlink, the records of
+/// what is received, and the counts are pinned.
+pub fn one_downlink_of_what_is_meant()
+    ensures law { (s : Settings) (first second : List Cell) (frames : List (List (Option (List ℕ)))) (offers : List (List Sending))
+        (sending other_sending : List (List (Option DownlinkBurst))) (receipts other_receipts : List Receipt)
+        (counts other_counts : Counts) → IsDownlinkOfWhatIsMeant s first second frames offers sending receipts counts
+        → IsDownlinkOfWhatIsMeant s first second frames offers other_sending other_receipts other_counts
+        → (sending ≡ other_sending) × (receipts ≡ other_receipts) × (counts ≡ other_counts) }
 {}
 
 /// What slots of the downlink send has one encoding.

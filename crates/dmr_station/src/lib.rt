@@ -8,8 +8,8 @@
 //!
 //! `specs/StationRules.antt` has the rules, one frame after another, and `specs/DownlinkRules.antt` what they make of whole lists
 //! of frames: what the line of each slot gives, and what goes out in both; `specs/GatewayMeaning.antt` has the gateway's part of
-//! both. `specs/Announced.antt` has the message that the CACHs carry, by the rules and by looking back. `specs/Sending.antt` has
-//! what a slot sends, `specs/Sent.antt` its octets, and `specs/Clean.antt` what may be transmitted at all. `specs/Station.antt`
+//! both. `specs/Announced.antt` has the message that the CACHs carry, by the rules and by looking back. `specs/Sent.antt` has
+//! what a slot sends and its octets, and `specs/Clean.antt` what may be transmitted at all. `specs/Station.antt`
 //! puts them together, frame by frame and for whole lists. `specs/DownlinkMeaning.antt` says what well-formed transmissions are
 //! to become, with no rule for lines in its words. The laws are the contracts of the functions in `laws`.
 #![tactic(auto)]

@@ -3,7 +3,7 @@ ghost use Rattle.std.specs.Prelude.{◌≡◌, ◌+◌, ◌^◌, ◌<◌, ◌≤
 ghost use Rattle.dmr_burst.specs.Burst.{IsBurst};
 ghost use Rattle.dmr_gateway.specs.GatewayRules.{IsSlot};
 ghost use Rattle.dmr_station.specs.DownlinkRules.{repeated_count};
-ghost use Rattle.dmr_station.specs.Sending.{DownlinkBurst};
+ghost use Rattle.dmr_station.specs.Sent.{DownlinkBurst};
 ghost use Rattle.dmr_station.specs.Sent.{AreSentAs};
 ghost use Rattle.dmr_station.specs.StationRules.{IsSlotAsked};
 

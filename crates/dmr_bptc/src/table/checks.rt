@@ -5,7 +5,7 @@ ghost use Rattle.dmr_codes.specs.Seven.{IsHamming13, hamming13_columns};
 ghost use Rattle.dmr_bptc.specs.Decoding.{IsCorrected};
 ghost use Rattle.dmr_bptc.specs.Rows.{row_bit};
 ghost use Rattle.dmr_bptc.specs.Sums.{sum_rows, failing_in};
-ghost use Rattle.dmr_bptc.specs.Table.{cell, column};
+ghost use Rattle.dmr_bptc.specs.ProductWord.{cell, column};
 
 use crate::table::Table;
 

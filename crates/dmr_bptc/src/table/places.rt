@@ -2,10 +2,10 @@
 //!
 //! Behind the first place stand thirteen lines of fifteen places. The cells of the table, row by row, are the columns
 //! of these lines, each from the last line up.
-ghost use Rattle.std.specs.Prelude.{◌≡◌, ◌<◌, ◌≤◌, ◌+◌, ◌-◌, ◌*◌, ◌/◌, ◌%◌, ◌^◌, ℕ, false, slice_index_or};
+ghost use Rattle.std.specs.Prelude.{◌≡◌, ◌<◌, ◌≤◌, ◌+◌, ◌-◌, ◌*◌, ◌/◌, ◌%◌, ◌^◌, ℕ, false, length, slice_index_or};
 ghost use Rattle.dmr_bits.specs.Bits.{bits_of};
 ghost use Rattle.dmr_bptc.specs.Spread.{four};
-ghost use Rattle.dmr_bptc.specs.Table.{cell};
+ghost use Rattle.dmr_bptc.specs.ProductWord.{cell};
 
 use crate::table::Table;
 use dmr_bits::Bits;
@@ -134,6 +134,7 @@ fn in_columns(places: u64) -> u64
 /// The 196 bits that a table is sent as.
 pub(crate) fn sent_bits(table: &Table) -> Bits<196>
     ensures value { result ≡ table.now }
+    ensures long { length result ≡ 196 }
 {
     // The proof learns here that there are 196 bits.
     let _ = &table.rows;

@@ -4,7 +4,7 @@ ghost use Rattle.dmr_bits.specs.Bits.{bits_of};
 ghost use Rattle.dmr_codes.specs.Seven.{IsHamming15, hamming15_columns};
 ghost use Rattle.dmr_bptc.specs.Decoding.{IsCorrected};
 ghost use Rattle.dmr_bptc.specs.Sums.{AreFailing};
-ghost use Rattle.dmr_bptc.specs.Table.{cell, row};
+ghost use Rattle.dmr_bptc.specs.ProductWord.{cell, row};
 
 use crate::table::Table;
 

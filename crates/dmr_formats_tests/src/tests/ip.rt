@@ -301,7 +301,7 @@ fn sum(octets: &[u8]) -> u64 {
 }
 
 fn number(octets: &[u8], place: usize) -> u64
-    requires { place + 2 ≤ length octets.now }
+    requires inside { place + 2 ≤ length octets.now }
 {
     256 * u64::from(octets[place]) + u64::from(octets[place + 1])
 }

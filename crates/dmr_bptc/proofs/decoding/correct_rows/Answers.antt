@@ -1,6 +1,6 @@
 use Rattle.std.proofs.Common.{ℕ, ◌≢◌, Bool, List, ap, ◌∙◌, arith}
 use Rattle.std.proofs.lemmas.Bool.{and_parts}
-use Rattle.dmr_bptc.specs.Table.{cell}
+use Rattle.dmr_bptc.specs.ProductWord.{cell}
 use Rattle.dmr_bptc.proofs.Filling.{rows_more}
 use Rattle.dmr_bptc.proofs.Correcting.{corrected_rows_more}
 use Rattle.dmr_bptc.proofs.decoding.correct_rows.Goals as goal

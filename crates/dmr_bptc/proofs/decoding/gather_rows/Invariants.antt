@@ -1,6 +1,6 @@
 use Rattle.std.proofs.Common.{◌≡◌, ℕ, ◌+◌, ◌-◌, ◌*◌, ◌/◌, ◌%◌, ◌^◌, ◌<◌, get_or, false}
 use Rattle.dmr_bits.specs.Bits.{bits_of}
-use Rattle.dmr_bptc.specs.Table.{cell}
+use Rattle.dmr_bptc.specs.ProductWord.{cell}
 use Rattle.dmr_bptc.proofs.decoding.gather_rows.Given as goal
 
 abbrev pub invariant-loop-row : goal.invariant-loop-row

@@ -3,7 +3,7 @@ use Rattle.std.proofs.lemmas.List.{get_or-take}
 use Rattle.std.proofs.lemmas.Nat.{shr_below}
 use Rattle.dmr_bits.specs.Bits.{bits_of}
 use Rattle.dmr_bits.proofs.Widths.{bits_of-take}
-use Rattle.dmr_bptc.specs.Table.{cell}
+use Rattle.dmr_bptc.specs.ProductWord.{cell}
 use Rattle.dmr_bptc.proofs.RowNumbers.{cell_laid}
 use Rattle.dmr_bptc.proofs.table.first_cells.Goals as goal
 

@@ -1,7 +1,7 @@
 -- The records so far were listed, and the next one begins at this octet.
 use Rattle.std.proofs.Common.{◌≡◌, ◌+◌, ◌*◌, ◌-◌, ◌≤◌, List, [], length, false}
 use Rattle.dmr_record.specs.Outgoing.{Sending, sending_octets}
-use Rattle.dmr_record.specs.Limits.{record_limit}
+use Rattle.dmr_record.specs.Head.{record_limit}
 use Rattle.dmr_listing.specs.ListingMeaning.{octet_behind}
 use Rattle.dmr_listing.specs.OutgoingListings.{AreSendingsListed, frame_of_last}
 use Rattle.dmr_listing.proofs.outgoing_listing.list_outgoing.Given as goal

@@ -2,7 +2,7 @@ use Rattle.std.proofs.Common.{ℕ, List, subst, sym, ap}
 use Rattle.dmr_codes.specs.Seven.{IsHamming13, hamming13_columns}
 use Rattle.dmr_bptc.specs.Rows.{laid}
 use Rattle.dmr_bptc.specs.Sums.{failing_in}
-use Rattle.dmr_bptc.specs.Table.{column}
+use Rattle.dmr_bptc.specs.ProductWord.{column}
 use Rattle.dmr_bptc.proofs.Cells.{length-column}
 use Rattle.dmr_bptc.proofs.RightColumns.{failing_column}
 use Rattle.dmr_bptc.proofs.Turning.{unfailing, none_failing}

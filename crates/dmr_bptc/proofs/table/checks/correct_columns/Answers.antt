@@ -4,7 +4,7 @@ use Rattle.dmr_bits.specs.Bits.{xor_bits}
 use Rattle.dmr_bptc.specs.Decoding.{IsCorrected}
 use Rattle.dmr_bptc.specs.Rows.{laid}
 use Rattle.dmr_bptc.specs.Sums.{failing_in}
-use Rattle.dmr_bptc.specs.Table.{column}
+use Rattle.dmr_bptc.specs.ProductWord.{column}
 use Rattle.dmr_bptc.proofs.Cells.{length-column}
 use Rattle.dmr_bptc.proofs.RightColumns.{failing_column, turned_cells, none_left, kept_word}
 use Rattle.dmr_bptc.proofs.Turning.{places_of, unfailing, turned_column, turned_column_word}

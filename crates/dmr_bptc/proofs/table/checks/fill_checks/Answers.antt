@@ -2,7 +2,7 @@ use Rattle.std.proofs.Common.{◌≡◌, ℕ, ◌-◌, ◌%◌, ◌<◌, Bool, L
 use Rattle.dmr_bits.specs.Bits.{bits_of}
 use Rattle.dmr_codes.specs.Code.{ones_over}
 use Rattle.dmr_codes.specs.Seven.{hamming13_columns}
-use Rattle.dmr_bptc.specs.Table.{cell, column}
+use Rattle.dmr_bptc.specs.ProductWord.{cell, column}
 use Rattle.dmr_bptc.specs.Rows.{laid}
 use Rattle.dmr_bptc.proofs.Cells.{length-column, get_or-column}
 use Rattle.dmr_bptc.proofs.ColumnChecks.{checked}

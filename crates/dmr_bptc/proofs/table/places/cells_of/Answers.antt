@@ -1,7 +1,7 @@
 use Rattle.std.proofs.Common.{◌≡◌, ℕ, ◌+◌, ◌*◌, ◌/◌, ◌%◌, ◌≤◌, Bool, false, length, get_or, sym, ◌∙◌, ap, arith}
 use Rattle.dmr_bits.specs.Bits.{bits_of}
 use Rattle.dmr_bits.proofs.Lists.{length-bits_of, length-with_field}
-use Rattle.dmr_bptc.specs.Table.{cell}
+use Rattle.dmr_bptc.specs.ProductWord.{cell}
 use Rattle.dmr_bptc.proofs.Numbered.{field_more}
 use Rattle.dmr_bptc.proofs.RowNumbers.{cell_laid}
 use Rattle.dmr_bptc.proofs.table.places.cells_of.Goals as goal

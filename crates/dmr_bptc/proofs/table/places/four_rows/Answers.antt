@@ -1,7 +1,7 @@
 use Rattle.std.proofs.Common.{◌≡◌, ℕ, ◌+◌, ◌-◌, ◌*◌, ◌/◌, ◌%◌, ◌^◌, ◌<◌, Bool, get_or, false, ap, ◌∙◌, sym, subst, arith}
 use Rattle.std.proofs.Math.Pow.{pow_mono}
 use Rattle.dmr_bits.specs.Bits.{bits_of}
-use Rattle.dmr_bptc.specs.Table.{cell}
+use Rattle.dmr_bptc.specs.ProductWord.{cell}
 use Rattle.dmr_bptc.proofs.Numbered.{joined_fits, joined_more}
 use Rattle.dmr_bptc.proofs.RowNumbers.{cell_laid}
 use Rattle.dmr_bptc.proofs.table.places.four_rows.Goals as goal

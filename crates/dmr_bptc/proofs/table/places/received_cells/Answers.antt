@@ -1,7 +1,7 @@
 use Rattle.std.proofs.Common.{◌≡◌, ℕ, ◌+◌, ◌-◌, ◌*◌, ◌/◌, ◌%◌, ◌^◌, Bool, List, cond, false, get_or, refl, ◌∙◌, ap}
 use Rattle.std.proofs.Common.{arith, subst, mod-lt, lit<}
 use Rattle.dmr_bits.specs.Bits.{bits_of}
-use Rattle.dmr_bptc.specs.Table.{cell}
+use Rattle.dmr_bptc.specs.ProductWord.{cell}
 use Rattle.dmr_bptc.proofs.Numbered.{field_first, field_more}
 use Rattle.dmr_bptc.proofs.Spelled.{field_bit, inner_bit}
 use Rattle.dmr_bptc.proofs.Lines.{AreColumns, no_columns, line_more, three_at, columns_at}

@@ -4,7 +4,7 @@ use Rattle.std.proofs.Common.{◌∙◌, ap, subst, arith, mod-lt, lit<}
 use Rattle.std.proofs.lemmas.List.{get_or-replicate}
 use Rattle.dmr_bits.specs.Bits.{bits_of}
 use Rattle.dmr_bits.proofs.Lists.{length-bits_of, length-with_field}
-use Rattle.dmr_bptc.specs.Table.{cell}
+use Rattle.dmr_bptc.specs.ProductWord.{cell}
 use Rattle.dmr_bptc.specs.Rows.{laid}
 use Rattle.dmr_bptc.proofs.Numbered.{field_more}
 use Rattle.dmr_bptc.proofs.RowNumbers.{length-laid, first_laid}
@@ -75,4 +75,5 @@ returns c =
       value = ext_get_or false c.with_field.result (laid rows) (whole ∙ sym long)
           (λ k h. ap (λ l. get_or l k false) c.with_field.ensures.value ∙ at_last k (omega (arith, h, whole)))
           ∙ c.table.view_is;
+      long = whole;
     }

@@ -1,6 +1,6 @@
 use Rattle.std.proofs.Common.{◌≡◌, ℕ, ◌+◌, ◌*◌, ◌/◌, ◌%◌, ◌∙◌, ap, arith}
 use Rattle.std.proofs.lemmas.List.{length-set}
-use Rattle.dmr_bptc.specs.Table.{cell}
+use Rattle.dmr_bptc.specs.ProductWord.{cell}
 use Rattle.dmr_bptc.proofs.Spelled.{field_at}
 use Rattle.dmr_bptc.proofs.RowNumbers.{row_bits_more, small_more, cell_laid}
 use Rattle.dmr_bptc.proofs.table.places.table_of.Goals as goal

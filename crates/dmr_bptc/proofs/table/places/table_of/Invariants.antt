@@ -1,6 +1,6 @@
 use Rattle.std.proofs.Common.{◌≡◌, ℕ, ◌^◌, ◌<◌, length}
 use Rattle.std.specs.List.{All}
-use Rattle.dmr_bptc.specs.Table.{cell}
+use Rattle.dmr_bptc.specs.ProductWord.{cell}
 use Rattle.dmr_bptc.specs.Rows.{row_bit}
 use Rattle.dmr_bptc.proofs.table.places.table_of.Given as goal
 

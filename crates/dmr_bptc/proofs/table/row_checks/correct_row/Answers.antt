@@ -7,7 +7,7 @@ use Rattle.dmr_bits.proofs.Lists.{length-bits_of}
 use Rattle.dmr_codes.specs.Seven.{IsHamming15, hamming15_columns}
 use Rattle.dmr_bptc.specs.Decoding.{IsCorrected}
 use Rattle.dmr_bptc.specs.Rows.{laid}
-use Rattle.dmr_bptc.specs.Table.{cell, row}
+use Rattle.dmr_bptc.specs.ProductWord.{cell, row}
 use Rattle.dmr_bptc.specs.declared.table.row_checks.TheConstants.{CELLS}
 use Rattle.dmr_bptc.proofs.RightColumns.{kept_row}
 use Rattle.dmr_bptc.proofs.RowChecks.{turned_cell, small_cell}

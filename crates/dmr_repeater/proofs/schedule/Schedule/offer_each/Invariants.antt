@@ -1,7 +1,7 @@
 -- What is offered so far was due.
 use Rattle.std.proofs.Common.{◌≡◌, ◌+◌, ◌-◌, length, false, true}
 use Rattle.std.specs.Io.KnownBytes.{IsAtEnd}
-use Rattle.dmr_record.specs.Limits.{record_limit}
+use Rattle.dmr_record.specs.Head.{record_limit}
 use Rattle.dmr_repeater.specs.Schedule.{OffersDue, waiting}
 use Rattle.dmr_repeater.proofs.schedule.Schedule.offer_each.Given as goal
 
