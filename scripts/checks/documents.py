@@ -143,13 +143,20 @@ def check_crates(report):
         report.expect(f"{name} names each crate", libraries <= told, libraries - told)
 
 
+def is_prose(line):
+    """A line of a document that is neither a row of a table, a command nor what a link means: those can't be broken."""
+    return not line.startswith(("|", "    ", "["))
+
+
 def check_width(report):
-    """No line of a source, definition, proof or script is wider than 132 columns."""
+    """No line of a source, definition, proof or script is wider than 132 columns, and none of a document's prose."""
     crates = report.top / "crates"
     files = [it for kind in ("src/**/*.rt", "specs/*.antt", "proofs/**/*.antt") for it in crates.glob(f"*/{kind}")]
     files += [it for folder in ("scripts", "bench") for it in (report.top / folder).rglob("*.py")]
-    wide = [f"{file.relative_to(report.top)}:{at}" for file in files
-            for at, line in enumerate(file.read_text().splitlines(), 1) if len(line) > WIDTH]
+    documents = [report.top / it for it in DOCUMENTS]
+    wide = [f"{file.relative_to(report.top)}:{at}" for file in files + documents
+            for at, line in enumerate(file.read_text().splitlines(), 1)
+            if len(line) > WIDTH and (file not in documents or is_prose(line))]
     report.expect(f"no line is wider than {WIDTH} columns", not wide, wide)
 
 

@@ -15,7 +15,7 @@ use Rattle.dmr_arq.specs.declared.serials.Selection.{Selection}
 use Rattle.dmr_arq.specs.declared.table.Entry.{Entry}
 use Rattle.dmr_arq.specs.ReceiverMeaning.{sources, last}
 use Rattle.dmr_arq.specs.SenderMeaning.{SenderEvent, Offers, Sends, Hears, Ticks, Cuts, Tells, seen, sender_after, number_in_hand}
-use Rattle.dmr_arq.specs.SenderMeaning.{offer_calls, with_call, calls_of, IsNextNumber, SequenceNumbers}
+use Rattle.dmr_arq.specs.SenderMeaning.{offer_marks, with_mark, marks_of, IsNextNumber, SequenceNumbers}
 use Rattle.dmr_arq.specs.SenderRules as sender
 use Rattle.dmr_arq.specs.Table.{holds, next_number, remembered}
 use Rattle.dmr_arq.proofs.HeardLast.{newest_of, heard_kept, kept_heard}
@@ -84,7 +84,7 @@ cut_keeps (Some h) s = cut_at_keeps h.phase h s
 -- a packet is taken in hand, confirmed or not
 take_keeps : (confirmed : Bool) (packet : Packet) (route : Route) (s : SenderState) (calls : List Entry) →
     packet.confirmed ≡ confirmed → s.table ≡ last 64 (sources calls) →
-    (sender.takes packet route s).table ≡ last 64 (sources (offer_calls None packet route s calls))
+    (sender.takes packet route s).table ≡ last 64 (sources (offer_marks None packet route s calls))
 take_keeps true packet route s calls c e =
     let entry : Entry = record { llid = route.destination; number = next_number route.destination s.table } in
     rw c (ap (remembered entry) e ∙ remembers entry calls)
@@ -92,12 +92,12 @@ take_keeps false packet route s calls c e = rw c e
 
 offer_keeps : (held : Option Held) (packet : Packet) (route : Route) (s : SenderState) (calls : List Entry) →
     s.table ≡ last 64 (sources calls) →
-    (sender.offered_at held packet route s).table ≡ last 64 (sources (offer_calls held packet route s calls))
+    (sender.offered_at held packet route s).table ≡ last 64 (sources (offer_marks held packet route s calls))
 offer_keeps None packet route s calls e = take_keeps packet.confirmed packet route s calls refl e
 offer_keeps (Some h) packet route s calls e = e
 
 seen_keeps : (event : SenderEvent) (s : SenderState) (calls : List Entry) → s.table ≡ last 64 (sources calls) →
-    (seen event s).table ≡ last 64 (sources (with_call event s calls))
+    (seen event s).table ≡ last 64 (sources (with_mark event s calls))
 seen_keeps (Offers packet route) s calls e = offer_keeps s.held packet route s calls e
 seen_keeps Sends s calls e = sent_keeps s.held s ∙ e
 seen_keeps (Hears answer) s calls e = answered_keeps s.held answer s ∙ e
@@ -105,9 +105,9 @@ seen_keeps Ticks s calls e = ticked_keeps s.held s ∙ e
 seen_keeps Cuts s calls e = cut_keeps s.held s ∙ e
 seen_keeps Tells s calls e = e
 
-table_is : (llid : ℕ) (events : List SenderEvent) → (sender_after llid events).table ≡ last 64 (sources (calls_of llid events))
+table_is : (llid : ℕ) (events : List SenderEvent) → (sender_after llid events).table ≡ last 64 (sources (marks_of llid events))
 table_is llid [] = refl
-table_is llid (newest ∷ earlier) = seen_keeps newest (sender_after llid earlier) (calls_of llid earlier) (table_is llid earlier)
+table_is llid (newest ∷ earlier) = seen_keeps newest (sender_after llid earlier) (marks_of llid earlier) (table_is llid earlier)
 
 -- 3. So the next number is one more than the last that the table has.
 
@@ -156,4 +156,4 @@ taken_number (Some h) packet route s calls n c e = absurd (cc)
 pub numbers : SequenceNumbers
 numbers llid events packet route none confirmed =
     let s : SenderState = sender_after llid events in
-    taken_number s.held packet route s (calls_of llid events) none confirmed (table_is llid events)
+    taken_number s.held packet route s (marks_of llid events) none confirmed (table_is llid events)

@@ -10,8 +10,8 @@ use Rattle.dmr_arq.specs.declared.received.ReceiverOut.{ReceiverOut}
 use Rattle.dmr_arq.specs.declared.receiver_state.Kind.{Kind}
 use Rattle.dmr_arq.specs.declared.receiver_state.Kind.TheVariants.{Single, InProgress, Repeat}
 use Rattle.dmr_arq.specs.declared.receiver_state.ReceiverState.{ReceiverState}
-use Rattle.dmr_arq.specs.declared.sender.GateBurst.{GateBurst}
-use Rattle.dmr_arq.specs.declared.sender.GateBurst.TheVariants as burst
+use Rattle.dmr_arq.specs.declared.sender.TryBurst.{TryBurst}
+use Rattle.dmr_arq.specs.declared.sender.TryBurst.TheVariants as burst
 use Rattle.dmr_arq.specs.declared.sender_state.Held.{Held}
 use Rattle.dmr_arq.specs.declared.sender_state.Route.{Route}
 use Rattle.dmr_arq.specs.SenderRules.{SenderState}
@@ -36,10 +36,10 @@ pub record IsFitReceiverOut (out : ReceiverOut) : Type 0 where
   pub answer : IfSome out.answer IsFitAnswer
 
 -- a burst of a try: a preamble counts in eight bits, and a block fits its rate
-abbrev pub IsFitGateBurst : GateBurst → Type 0
-IsFitGateBurst (burst.Preamble left route) = (left < 2 ^ 8) × IsFitRoute route
-IsFitGateBurst (burst.Header h) = IsFitHeader h
-IsFitGateBurst (burst.Block block rate) = FitsBlock rate block.serial block.octets
+abbrev pub IsFitTryBurst : TryBurst → Type 0
+IsFitTryBurst (burst.Preamble left route) = (left < 2 ^ 8) × IsFitRoute route
+IsFitTryBurst (burst.Header h) = IsFitHeader h
+IsFitTryBurst (burst.Block block rate) = FitsBlock rate block.serial block.octets
 
 -- 2. What is offered, and what is kept.
 

@@ -39,43 +39,43 @@ number_in_hand None = 0
 number_in_hand (Some h) = h.number
 
 -- an offer is taken where no packet is in hand; a confirmed packet leaves its destination, and the number that it got
-abbrev pub offer_calls : Option Held → Packet → Route → SenderState → List Entry → List Entry
-offer_calls None packet route s calls =
+abbrev pub offer_marks : Option Held → Packet → Route → SenderState → List Entry → List Entry
+offer_marks None packet route s marks =
     if packet.confirmed
-    then record { llid = route.destination; number = number_in_hand (takes packet route s).held } ∷ calls
-    else calls
-offer_calls (Some h) packet route s calls = calls
+    then record { llid = route.destination; number = number_in_hand (takes packet route s).held } ∷ marks
+    else marks
+offer_marks (Some h) packet route s marks = marks
 
 -- The confirmed packets that were taken in hand, with one more where this event is an offer of one and the sender had no packet
 -- in hand. No other event adds to them.
-abbrev pub with_call : SenderEvent → SenderState → List Entry → List Entry
-with_call (Offers packet route) s calls = offer_calls s.held packet route s calls
-with_call Sends s calls = calls
-with_call (Hears answer) s calls = calls
-with_call Ticks s calls = calls
-with_call Cuts s calls = calls
-with_call Tells s calls = calls
+abbrev pub with_mark : SenderEvent → SenderState → List Entry → List Entry
+with_mark (Offers packet route) s marks = offer_marks s.held packet route s marks
+with_mark Sends s marks = marks
+with_mark (Hears answer) s marks = marks
+with_mark Ticks s marks = marks
+with_mark Cuts s marks = marks
+with_mark Tells s marks = marks
 
 -- The confirmed packets that were taken in hand, each as its destination and its number, the newest of them first.
-abbrev pub calls_of : ℕ → List SenderEvent → List Entry
-calls_of llid [] = []
-calls_of llid (newest ∷ earlier) = with_call newest (sender_after llid earlier) (calls_of llid earlier)
+abbrev pub marks_of : ℕ → List SenderEvent → List Entry
+marks_of llid [] = []
+marks_of llid (newest ∷ earlier) = with_mark newest (sender_after llid earlier) (marks_of llid earlier)
 
 -- The last packet to this destination had this number, and fewer than 64 other destinations have had one since.
-abbrev pub IsCalledLast : ℕ → ℕ → List Entry → Type 0
-IsCalledLast destination number calls = IsHeardLast (record { llid = destination; number = number }) calls
+abbrev pub IsMarkedLast : ℕ → ℕ → List Entry → Type 0
+IsMarkedLast destination number marks = IsHeardLast (record { llid = destination; number = number }) marks
 
 -- The next number of a destination: one more, modulo 8, than that of the last confirmed packet to it, or 0 where there is none,
 -- or at least 64 other destinations have had one since.
 abbrev pub IsNextNumber : ℕ → List Entry → ℕ → Type 0
-IsNextNumber destination calls number =
-    ((last : ℕ) × IsCalledLast destination last calls × (number ≡ (last + 1) % 8))
-    ⊎ (((last : ℕ) → IsCalledLast destination last calls → ⊥) × (number ≡ 0))
+IsNextNumber destination marks number =
+    ((last : ℕ) × IsMarkedLast destination last marks × (number ≡ (last + 1) % 8))
+    ⊎ (((last : ℕ) → IsMarkedLast destination last marks → ⊥) × (number ≡ 0))
 
 -- After every list of events a confirmed packet that is taken in hand gets the next number of its destination.
 abbrev pub SequenceNumbers : Type 0
 SequenceNumbers =
     (llid : ℕ) (events : List SenderEvent) (packet : Packet) (route : Route) →
     (sender_after llid events).held ≡ None → packet.confirmed ≡ true →
-    IsNextNumber route.destination (calls_of llid events)
+    IsNextNumber route.destination (marks_of llid events)
     (number_in_hand (offered packet route (sender_after llid events)).held)

@@ -1,7 +1,7 @@
 //! Worked histories of a sender and a receiver together.
 ghost use Rattle.dmr_arq.specs.Fit.{IsOfferedPacket};
 
-use dmr_arq::{Answer, GateBurst, Outcome, Receiver, ReceiverOut, Route, Sender, Verdict};
+use dmr_arq::{Answer, Outcome, Receiver, ReceiverOut, Route, Sender, TryBurst, Verdict};
 use dmr_data::{Block, Confirmed, Header, Packet, Rate, split_packet};
 use std::process::Abort;
 
@@ -47,7 +47,7 @@ pub(crate) fn offer(rt: &impl Abort, sender: &mut Sender, packet: &Packet)
 }
 
 /// This is the sender's next burst.
-pub(crate) fn expect_burst(rt: &impl Abort, sender: &mut Sender, burst: GateBurst) {
+pub(crate) fn expect_burst(rt: &impl Abort, sender: &mut Sender, burst: TryBurst) {
     let sent = sender.next_burst();
     assert!(rt; sent == Some(burst));
 }
@@ -56,7 +56,7 @@ pub(crate) fn expect_burst(rt: &impl Abort, sender: &mut Sender, burst: GateBurs
 pub(crate) fn expect_preambles(rt: &impl Abort, sender: &mut Sender, route: Route, blocks: u8) {
     let next = blocks.saturating_add(1);
     for left in [next.saturating_add(1), next] {
-        expect_burst(rt, sender, GateBurst::Preamble { left, route });
+        expect_burst(rt, sender, TryBurst::Preamble { left, route });
     }
 }
 
@@ -85,11 +85,11 @@ fn burst(
     delivered: &mut u32,
 ) -> Option<Answer> {
     match sender.next_burst() {
-        Some(GateBurst::Header(header)) if arrives => {
+        Some(TryBurst::Header(header)) if arrives => {
             receiver.header(&header);
             None
         }
-        Some(GateBurst::Block { block, .. }) if arrives => place(receiver, Some(&block), delivered),
+        Some(TryBurst::Block { block, .. }) if arrives => place(receiver, Some(&block), delivered),
         _ => place(receiver, None, delivered),
     }
 }
@@ -242,7 +242,7 @@ fn expect_block(
 ) -> ReceiverOut {
     assert!(rt; receiver.open() == Some(Some(127)));
     match sender.next_burst() {
-        Some(GateBurst::Block { block, rate }) => {
+        Some(TryBurst::Block { block, rate }) => {
             assert!(rt; block.serial == Some(serial) && rate == Rate::Half);
             receiver.place(Some(&block))
         }
@@ -268,7 +268,7 @@ fn is_whole(out: &ReceiverOut) -> bool {
 fn partial_try_of_127(rt: &impl Abort, sender: &mut Sender, receiver: &mut Receiver) {
     expect_preambles(rt, sender, ROUTE, 3);
     let header = Header::Confirmed(THREE_OF_127);
-    expect_burst(rt, sender, GateBurst::Header(header));
+    expect_burst(rt, sender, TryBurst::Header(header));
     receiver.header(&header);
     for serial in [0, 64] {
         let out = expect_block(rt, sender, receiver, serial);

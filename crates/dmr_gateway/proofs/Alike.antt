@@ -13,8 +13,8 @@ use Rattle.dmr_data.specs.declared.header.Header.{Header}
 use Rattle.dmr_data.specs.declared.packet.Packet.{Packet}
 use Rattle.dmr_data.specs.declared.rate.Rate.{Rate}
 use Rattle.dmr_data.specs.declared.rate.Rate.TheVariants.{Half}
-use Rattle.dmr_arq.specs.declared.sender.GateBurst.{GateBurst}
-use Rattle.dmr_arq.specs.declared.sender.GateBurst.TheVariants as gate
+use Rattle.dmr_arq.specs.declared.sender.TryBurst.{TryBurst}
+use Rattle.dmr_arq.specs.declared.sender.TryBurst.TheVariants as of_try
 use Rattle.dmr_arq.specs.declared.sender_state.Route.{Route}
 use Rattle.dmr_gateway.specs.Bursts.{IsWordBurst, IsHeaderBurst, IsBlockBurst, IsTryBurst, IsFlagBurst, IsAnswerBurst}
 use Rattle.dmr_gateway.specs.Bursts.{IsGatewayBurst, IsGatewayOut, preamble, answer_header, flag_octets}
@@ -66,13 +66,13 @@ block_alike : (colour : ℕ) (rate : Rate) (block : Block) (a b : Burst) → IsB
 block_alike colour rate block a b u v =
     u.2 ∙ ap (λ information. Data colour (kind_of_rate rate) information) (one_block_form rate block u.0 v.0 u.1 v.1) ∙ sym v.2
 
-try_alike : (colour llid : ℕ) (sending : GateBurst) (a b : Burst) → IsTryBurst colour llid sending a
+try_alike : (colour llid : ℕ) (sending : TryBurst) (a b : Burst) → IsTryBurst colour llid sending a
     → IsTryBurst colour llid sending b → a ≡ b
-try_alike colour llid (gate.Preamble left route) a b u v =
+try_alike colour llid (of_try.Preamble left route) a b u v =
     let same : u.0 ≡ v.0 = same_message (preamble llid left route) u.0 v.0 u.1 v.1 in
     word_alike colour 3 v.0 a b (subst (λ (message : List Bool). IsWordBurst colour 3 message a) same u.2) v.2
-try_alike colour llid (gate.Header h) a b u v = header_alike colour h a b u v
-try_alike colour llid (gate.Block block rate) a b u v = block_alike colour rate block a b u v
+try_alike colour llid (of_try.Header h) a b u v = header_alike colour h a b u v
+try_alike colour llid (of_try.Block block rate) a b u v = block_alike colour rate block a b u v
 
 flag_alike : (colour : ℕ) (due : Due) (place : ℕ) (a b : Burst) → IsFlagBurst colour due place a → IsFlagBurst colour due place b
     → a ≡ b

@@ -16,7 +16,7 @@ use Rattle.dmr_data.specs.declared.rate.Rate.TheVariants.{Half, Full}
 use Rattle.dmr_data.proofs.Contents.{sealed_content, unsealed_content, same_block}
 use Rattle.dmr_data.proofs.HeaderForms.{same_some}
 use Rattle.dmr_gateway.specs.declared.heard.Heard.{Heard}
-use Rattle.dmr_gateway.specs.Heard.{Tells, IsConfirmedOf, ConfirmedByOctets, IsReadAt, IsReadByGateway, kind_of_rate, nothing_said}
+use Rattle.dmr_gateway.specs.Heard.{Tells, IsConfirmedOf, ConfirmedByOctets, IsReadByGateway, kind_of_rate, nothing_said}
 use Rattle.dmr_gateway.proofs.Telling.{told, untrue, block_reading}
 
 -- 1. The start of a confirmed block.
@@ -123,7 +123,7 @@ confirmed_by_octets rate information block x is =
 
 confirmed_reading : (rate : Rate) (information : List Bool) (block : Block) (confirmed : Option Block) →
     IsReadBlock rate None information block → Tells confirmed (IsConfirmedOf rate block.octets) →
-    Tells confirmed (IsReadAt rate (Some 128) information)
+    Tells confirmed (IsReadBlock rate (Some 128) information)
 confirmed_reading rate information block confirmed is tells x =
     let both = confirmed_by_octets rate information block x is in
     (λ e. both.1 ((tells x).0 e), λ q. (tells x).1 (both.0 q))
@@ -138,9 +138,9 @@ nothing_held rate information fault.Crc9 shows content holds = shows.2
 nothing_held rate information fault.Serial shows content holds = shows.2
 
 nothing_read : (rate : Rate) (total : Option ℕ) (information : List Bool) (e : BlockFault) →
-    ShowsBlockFault rate None e information → Tells None (IsReadAt rate total information)
+    ShowsBlockFault rate None e information → Tells None (IsReadBlock rate total information)
 nothing_read rate total information e shows =
-    untrue (IsReadAt rate total information) (λ block p. nothing_held rate information e shows p.content p.holds)
+    untrue (IsReadBlock rate total information) (λ block p. nothing_held rate information e shows p.content p.holds)
 
 -- 4. What a block is heard as.
 
@@ -154,7 +154,7 @@ block_heard rate information h block head unconfirmed is only tells =
     ap (λ x. record { header = x; unconfirmed = Some block; confirmed = h.confirmed }) (sym head)
     ∙ ap (λ x. record { header = h.header; unconfirmed = x; confirmed = h.confirmed }) (sym unconfirmed) in
     subst (IsReadByGateway (kind_of_rate rate) information) same
-    (block_reading rate information (Some block) h.confirmed (told (IsReadAt rate None information) block is only)
+    (block_reading rate information (Some block) h.confirmed (told (IsReadBlock rate None information) block is only)
     (confirmed_reading rate information block h.confirmed is tells))
 
 pub nothing_heard : (rate : Rate) (information : List Bool) (e : BlockFault) → ShowsBlockFault rate None e information →

@@ -1,5 +1,5 @@
 -- What a slot of the uplink is heard as, whatever it holds.
-use Rattle.std.specs.Prelude.{◌≡◌, ℕ, ◌↔◌, Bool, true, false, List, Option, Some, None, IfSome, IsTrue, length}
+use Rattle.std.specs.Prelude.{◌≡◌, ℕ, ◌↔◌, Bool, true, false, List, Option, Some, None, IfSome, IsTrue}
 use Rattle.dmr_bits.specs.Bits.{bits_of_octets, number_of, octets_of}
 use Rattle.dmr_bptc.specs.Decoding.{IsDecoded}
 use Rattle.dmr_bptc.specs.ProductWord.{IsWritten}

@@ -1,7 +1,5 @@
 -- Slots as they are recorded, and what `hear` answers of them.
-use Rattle.std.specs.Prelude.{◌≡◌, ℕ, Bool, false, List, [], ◌∷◌, length, replicate, Option, Some, None}
-use Rattle.dmr_bits.specs.Bits.{bits_of_octets}
-use Rattle.dmr_burst.specs.Layout.{vocoder_field}
+use Rattle.std.specs.Prelude.{◌≡◌, ℕ, List, [], ◌∷◌, length, Option, Some, None}
 use Rattle.dmr_hearing.specs.Damage.{IsRecordedAs}
 use Rattle.dmr_hearing.specs.Hearing.{Hears}
 use Rattle.dmr_hearing.specs.Slots.{SentSlot, IsHeardAs, vocoder_of}

@@ -102,7 +102,7 @@ fn hear_data_burst(burst: &[u8; 33], sync: Option<bool>, colour: u8) -> Option<D
     }
 }
 
-/// The data burst of a data burst of the colour code.
+/// What a burst with the sync of data is heard as, where its slot type says the colour code.
 fn own_data_burst(burst: &[u8; 33], colour: u8) -> Option<DataBurst>
     ensures within { IfSome result (λ data_burst. HasSlotType (record { colour = colour; kind = data_burst.kind }) (bits_of_octets
         burst.now)

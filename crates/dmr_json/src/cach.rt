@@ -2,7 +2,7 @@
 use dmr_listing::{Tact, read_tact};
 use std::fmt;
 
-/// What a CACH says, or null where that can't be read; on the uplink there is none.
+/// What a CACH says; on the uplink there is none.
 #[derive(Clone, Copy, Drop)]
 pub(crate) struct CachKey(pub(crate) Option<[u8; 3]>);
 
@@ -23,6 +23,7 @@ impl fmt::Display for TactObject {
 fn write_cach<W: fmt::Write>(cach: &[u8; 3], f: &mut fmt::Formatter<W>) -> fmt::Result {
     match read_tact(cach) {
         Some(tact) => write!(f, ",\"cach\":{}", TactObject(tact)),
+        // No seven bits are further than one from every word.
         None => write!(f, ",\"cach\":null"),
     }
 }

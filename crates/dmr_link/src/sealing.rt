@@ -39,7 +39,7 @@ impl LcUse {
 }
 
 /// The 96 bits of a link control, which a data burst of type 1 or 2 carries: its nine octets, and three of parity
-/// under the mask of its use.
+/// under the mask of its use. ETSI TS 102 361-1, annexes B.3.6 and B.3.12.
 pub fn lc_info(lc: &FullLc, lc_use: LcUse) -> Bits<96>
     requires fits { lc.now.flco < 64 }
     ensures lc { IsLc lc_use lc.now result }

@@ -1,17 +1,16 @@
 -- What strips show goes on, slot by slot.
-use Rattle.std.proofs.Common.{◌≡◌, ℕ, ◌+◌, ◌*◌, ◌/◌, ◌<◌, ◌≤◌, Bool, true, false, if◌then◌else◌, List, [], ◌∷◌, ◌++◌, length}
-use Rattle.std.proofs.Common.{drop, Option, None, Some, refl, sym, ap, ◌∙◌, subst, inl, inr, arith, append-nil, take_all}
-use Rattle.std.proofs.Common.{append_assoc, eq-or-lt_of_le, ne_eqb}
+use Rattle.std.proofs.Common.{◌≡◌, ℕ, ◌+◌, ◌*◌, ◌/◌, ◌<◌, ◌≤◌, Bool, true, false, if◌then◌else◌, List, [], ◌∷◌, ◌++◌, length, drop}
+use Rattle.std.proofs.Common.{Option, None, Some, refl, sym, ap, ◌∙◌, subst, inl, inr, arith, append-nil, take_all, append_assoc}
+use Rattle.std.proofs.Common.{eq-or-lt_of_le, ne_eqb}
 use Rattle.std.proofs.lemmas.List.{drop-append-le, drop_all, length-append, length-drop, length-map, length_push, map-append}
 use Rattle.std.proofs.lemmas.List.{take-append-le}
 use Rattle.std.specs.Io.KnownBytes.{Consumes}
 use Rattle.dmr_listing.specs.ListingMeaning.{place_by_number}
-use Rattle.dmr_listing.specs.ListingRules.{GivenInTurn, IsRead, Lists, ListingTurn, begun}
-use Rattle.dmr_listing.specs.ListingRules.{turn_after, turn_passed}
+use Rattle.dmr_listing.specs.ListingRules.{GivenInTurn, IsRead, Lists, ListingTurn, begun, turn_after, turn_passed}
 use Rattle.dmr_listing.specs.Marks.{mark_of}
 use Rattle.dmr_listing.specs.Recordings.{IsSlotOf, RecordedSlot, spelling}
-use Rattle.dmr_listing.specs.Strips.{AreStrips, IsDrawn, IsGivenWhereFull, IsMarkAt, IsStripOf, IsStripped, Picture}
-use Rattle.dmr_listing.specs.Strips.{IsStrippedUpToStrip, has, marks_of, most_marks, pushed, pushed_in, shown, unless_empty}
+use Rattle.dmr_listing.specs.Strips.{AreStrips, IsGivenWhereFull, IsMarkAt, IsStripOf, IsStripped, Picture, IsStrippedUpToStrip}
+use Rattle.dmr_listing.specs.Strips.{has, marks_of, most_marks, pushed, pushed_in, shown, unless_empty}
 use Rattle.dmr_listing.specs.declared.burst_line.BurstLine.{BurstLine}
 use Rattle.dmr_listing.specs.declared.frames.Frames.{Frames}
 use Rattle.dmr_listing.specs.declared.mark.Mark.{Mark}
@@ -20,6 +19,22 @@ use Rattle.dmr_listing.specs.declared.place.Place.{Place}
 use Rattle.dmr_listing.specs.declared.recording.RecordedBurst.{RecordedBurst}
 use Rattle.dmr_listing.specs.declared.recording.Recording.{Recording}
 use Rattle.dmr_listing.proofs.Listings.{given_then, read_burst, read_none, read_part, read_silence}
+
+-- They were read, and a taker was given the strips that are full; one with the marks of the last slots waits.
+pub record IsDrawn {L : Type 0} (Takes : L → Picture → L → Type 0) (recording : Recording) (frames : Frames)
+    (slots : List RecordedSlot) (part : List ℕ) (end : ListingTurn) (left_old left_new : Option (List ℕ)) (waiting : Picture)
+    (old new : L) : Type 0 where
+  pub lines : List BurstLine
+  pub read : IsRead recording slots lines part end left_old left_new
+  pub full : List (Place × Mark)
+  pub rest : List (Place × Mark)
+  pub marks : marks_of frames 0 slots lines ≡ full ++ rest
+  pub strips : List Picture
+  pub drawn : AreStrips full strips
+  pub whole : length full ≡ most_marks * length strips
+  pub few : length rest ≤ most_marks
+  pub waits : IsStripOf rest waiting
+  pub given : GivenInTurn Takes old strips new
 
 -- a strip more, behind full ones
 pub strips_more : (full rest : List (Place × Mark)) (strips : List Picture) (strip : Picture) → AreStrips full strips

@@ -11,7 +11,7 @@ use Rattle.dmr_listing.specs.ListingRules.{GivenInTurn, IsLineAt, IsListed, IsRe
 use Rattle.dmr_listing.specs.ListingRules.{turn_passed}
 use Rattle.dmr_listing.specs.ListingMeaning.{entries, octet_behind}
 use Rattle.dmr_listing.specs.declared.place.Place.{Place}
-use Rattle.dmr_listing.specs.Recordings.{IsBurstOf, IsSlotOf, RecordedSlot, most_slots_of, spelling}
+use Rattle.dmr_listing.specs.Recordings.{IsBurstOf, IsSlotOf, RecordedSlot, slot_limit_of, spelling}
 use Rattle.dmr_listing.specs.declared.burst_line.BurstLine.{BurstLine}
 use Rattle.dmr_listing.specs.declared.recording.RecordedBurst.{RecordedBurst}
 use Rattle.dmr_listing.specs.declared.recording.Recording.{Recording}
@@ -157,7 +157,7 @@ octets_more recording slots slot octet e =
     ++ l) (append-nil (spelling recording slot))) in
     omega (arith, e, whole, length-append (flat_map (spelling recording) slots) (spelling recording slot))
 
-pub most_few : (recording : Recording) → most_slots_of recording ≤ 2097164
+pub most_few : (recording : Recording) → slot_limit_of recording ≤ 2097164
 most_few Uplink = omega arith
 most_few Downlink = omega arith
 

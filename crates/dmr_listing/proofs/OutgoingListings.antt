@@ -9,21 +9,23 @@ use Rattle.std.proofs.KnownBytes.{Consumes-trans, Consumes-nil}
 use Rattle.dmr_record.specs.Outgoing.{AreInFrameOrder, IsSending, Keeps, Sending, sending_octets, sending_of, sendings_octets}
 use Rattle.dmr_record.specs.declared.outgoing.Outgoing.{Outgoing}
 use Rattle.dmr_listing.specs.ListingMeaning.{octet_behind}
-use Rattle.dmr_listing.specs.OutgoingListings.{AreReadOf, AreSendingsListed, AreSendingsRead, IsReadOf, frame_of_last}
+use Rattle.dmr_record.specs.Outgoing.{IsReadOutgoing, AreReadFrom, last_frame}
+use Rattle.dmr_listing.specs.OutgoingListings.{AreSendingsListed, AreSendingsRead}
 use Rattle.dmr_listing.proofs.Listings.{given_one_more}
 
 order_more : (last : ℕ) (sendings : List Sending) (next : Sending) → AreInFrameOrder last sendings
-    → frame_of_last last sendings ≤ next.frame → AreInFrameOrder last (sendings ++ next ∷ [])
+    → last_frame last sendings ≤ next.frame → AreInFrameOrder last (sendings ++ next ∷ [])
 order_more last [] next order behind = (behind, tt)
 order_more last (s ∷ ss) next (first, rest) behind = (first, order_more s.frame ss next rest behind)
 
-pub last_more : (last : ℕ) (sendings : List Sending) (next : Sending) → frame_of_last last (sendings ++ next ∷ []) ≡ next.frame
+pub last_more : (last : ℕ) (sendings : List Sending) (next : Sending) → last_frame last (sendings ++ next ∷ []) ≡ next.frame
 last_more last [] next = refl
 last_more last (s ∷ ss) next = last_more s.frame ss next
 
-reads_more : (sendings : List Sending) (reads : List Outgoing) (next : Sending) (read : Outgoing) → AreReadOf sendings reads
-    → IsReadOf next read → AreReadOf (sendings ++ next ∷ []) (reads ++ read ∷ [])
-reads_more [] reads next read none is_read = rw none (is_read, refl)
+reads_more : (sendings : List Sending) (reads : List Outgoing) (next : Sending) (read : Outgoing) → AreReadFrom reads sendings
+    → IsReadOutgoing read next → AreReadFrom (reads ++ read ∷ []) (sendings ++ next ∷ [])
+reads_more [] [] next read none is_read = (is_read, tt)
+reads_more [] (r ∷ rs) next read are_read is_read = absurd are_read
 reads_more (s ∷ ss) [] next read are_read is_read = absurd are_read
 reads_more (s ∷ ss) (r ∷ rs) next read (first, rest) is_read = (first, reads_more ss rs next read rest is_read)
 
@@ -31,12 +33,12 @@ pub outgoing_none : {L : Type 0} (Takes : L → Outgoing → L → Type 0) (left
     → AreSendingsListed Takes [] [] left left lines lines
 outgoing_none Takes left lines = record {
   read = record { each = tt; order = tt; octets = Consumes-nil left };
-  given = record { reads = []; listed = refl; given = refl };
+  given = record { reads = []; listed = tt; given = refl };
 }
 
 pub outgoing_more : {L : Type 0} (Takes : L → Outgoing → L → Type 0) (sendings : List Sending) (datagram : List ℕ)
     (read : Outgoing) (a b c : Option (List ℕ)) (d e f : L) → AreSendingsListed Takes sendings [] a b d e → Keeps read datagram
-    → IsSending (sending_of read datagram) → frame_of_last 0 sendings ≤ read.frame
+    → IsSending (sending_of read datagram) → last_frame 0 sendings ≤ read.frame
     → Consumes b c (sending_octets (sending_of read datagram)) → Takes e read f
     → AreSendingsListed Takes (sendings ++ sending_of read datagram ∷ []) [] a c d f
 outgoing_more Takes sendings datagram read a b c d e f listed keeps is_sending behind took takes =
@@ -53,7 +55,7 @@ outgoing_more Takes sendings datagram read a b c d e f listed keeps is_sending b
       };
       given = record {
         reads = listed.given.reads ++ read ∷ [];
-        listed = reads_more sendings listed.given.reads next read listed.given.listed (record { keeps = keeps; same = refl });
+        listed = reads_more sendings listed.given.reads next read listed.given.listed (record { fields = refl; keeps = keeps });
         given = given_one_more Takes d e f listed.given.reads read listed.given.given takes;
       };
     }

@@ -1,4 +1,4 @@
-pub mod Activity
+pub mod AccessType
 pub mod Contents
 pub mod Endings
 pub mod Fragments

@@ -2,12 +2,12 @@
 use Rattle.std.specs.Prelude.{◌≡◌, ℕ, Bool, List, [], ◌∷◌, ◌++◌, Option, Some, None, drop, replicate}
 use Rattle.dmr_bits.specs.Bits.{bits_of_octets, number_of}
 use Rattle.dmr_burst.specs.Layout.{embedded_field, information_field}
-use Rattle.dmr_listing.specs.Activity.{AnnouncesActivity}
+use Rattle.dmr_listing.specs.AccessType.{AnnouncesAccessType}
 use Rattle.dmr_listing.specs.Contents.{HoldsContents}
 use Rattle.dmr_listing.specs.Fragments.{AreCarried}
 use Rattle.dmr_listing.specs.VoicePlace.{place_after}
 use Rattle.dmr_listing.specs.Wrong.{IsWrong}
-use Rattle.dmr_listing.specs.declared.activity.Activity.{Activity}
+use Rattle.dmr_listing.specs.declared.access_type.AccessType.{AccessType}
 use Rattle.dmr_listing.specs.declared.burst_line.BurstLine.{BurstLine}
 use Rattle.dmr_listing.specs.declared.contents.Contents.{Contents}
 use Rattle.dmr_listing.specs.declared.fragments.Fragment.{Fragment}
@@ -48,10 +48,10 @@ IsHeld (Data side slot_type information) bits None = ⊥
 IsHeld reading bits contents = contents ≡ None
 
 -- what the CACH in front of a burst announces, where there is one
-abbrev pub IsCachActivity : Option (List ℕ) → Option Activity → Type 0
-IsCachActivity (Some cach) (Some activity) = AnnouncesActivity (bits_of_octets cach) activity
-IsCachActivity (Some cach) None = ⊥
-IsCachActivity None activity = activity ≡ None
+abbrev pub IsCachAccessType : Option (List ℕ) → Option AccessType → Type 0
+IsCachAccessType (Some cach) (Some access_type) = AnnouncesAccessType (bits_of_octets cach) access_type
+IsCachAccessType (Some cach) None = ⊥
+IsCachAccessType None access_type = access_type ≡ None
 
 -- What the line of a burst of these bits shows.
 pub record IsLine (past : SlotPast) (bits : List Bool) (line : BurstLine) : Type 0 where

@@ -4,7 +4,7 @@ use Rattle.std.specs.Io.KnownBytes.{Consumes}
 use Rattle.std.specs.List.{AllByRecursion, flat_map}
 use Rattle.dmr_bits.specs.Bits.{bits_of_octets}
 use Rattle.dmr_listing.specs.ListingMeaning.{octet_behind, place_by_number}
-use Rattle.dmr_listing.specs.Lines.{IsCachActivity, IsLine, SlotPast, after_burst, no_past, passed}
+use Rattle.dmr_listing.specs.Lines.{IsCachAccessType, IsLine, SlotPast, after_burst, no_past, passed}
 use Rattle.dmr_listing.specs.Recordings.{IsSlotOf, ShowsSlotFaultOf, RecordedSlot, spelling}
 use Rattle.dmr_listing.specs.Summaries.{counted_line, none_counted}
 use Rattle.dmr_listing.specs.declared.burst_line.BurstLine.{BurstLine}
@@ -41,7 +41,7 @@ turn_after line burst turn = record {
 -- The line of a burst in the next slot: it shows what the burst is read as behind what came in its own slot.
 pub record IsLineAt (turn : ListingTurn) (burst : RecordedBurst) (line : BurstLine) : Type 0 where
   pub place : line.place ≡ place_by_number turn.slots
-  pub announced : IsCachActivity burst.cach line.activity
+  pub announced : IsCachAccessType burst.cach line.access_type
   pub shows : IsLine turn.next (bits_of_octets burst.burst) line
 
 -- The lines of slots, one for each burst: from one turn to another.

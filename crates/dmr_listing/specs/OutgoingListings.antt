@@ -1,30 +1,14 @@
 -- What a listing of an outgoing list shows: a line for each record, in order, each once.
-use Rattle.std.specs.Prelude.{◌≡◌, ℕ, List, [], ◌∷◌, ◌++◌, Option, None, length}
+use Rattle.std.specs.Prelude.{◌≡◌, ℕ, List, ◌++◌, Option, None, length}
 use Rattle.std.specs.Io.KnownBytes.{Consumes}
 use Rattle.std.specs.List.{AllByRecursion}
-use Rattle.dmr_record.specs.Outgoing.{AreInFrameOrder, IsSending, Keeps, Sending, ShowsOutgoingFault, sending_octets, sending_of}
-use Rattle.dmr_record.specs.Outgoing.{sendings_octets}
+use Rattle.dmr_record.specs.Outgoing.{AreInFrameOrder, AreReadFrom, IsReadOutgoing, IsSending, Sending, ShowsOutgoingFault}
+use Rattle.dmr_record.specs.Outgoing.{last_frame, sending_octets, sendings_octets}
 use Rattle.dmr_record.specs.declared.outgoing.Outgoing.{Outgoing}
 use Rattle.dmr_record.specs.Head.{record_limit}
 use Rattle.dmr_listing.specs.ListingMeaning.{octet_behind}
 use Rattle.dmr_listing.specs.ListingRules.{GivenInTurn}
 use Rattle.dmr_listing.specs.declared.fault_line.FaultLine.{FaultLine}
-
--- A record that was read is this one: all of it but the octets that aren't kept.
-pub record IsReadOf (sending : Sending) (read : Outgoing) : Type 0 where
-  pub keeps : Keeps read sending.datagram
-  pub same : sending ≡ sending_of read sending.datagram
-
--- the records that were read, one for each
-abbrev pub AreReadOf : List Sending → List Outgoing → Type 0
-AreReadOf [] reads = reads ≡ []
-AreReadOf (sending ∷ sendings) [] = ⊥
-AreReadOf (sending ∷ sendings) (read ∷ reads) = IsReadOf sending read × AreReadOf sendings reads
-
--- the frame of the last record, or this one of none
-abbrev pub frame_of_last : ℕ → List Sending → ℕ
-frame_of_last frame [] = frame
-frame_of_last frame (sending ∷ sendings) = frame_of_last sending.frame sendings
 
 -- These records of the list were read behind its head, and these octets of the next one.
 pub record AreSendingsRead (sendings : List Sending) (part : List ℕ) (left_old left_new : Option (List ℕ)) : Type 0 where
@@ -37,14 +21,14 @@ pub record AreSendingsReadUpToFault (sendings : List Sending) (fault : FaultLine
     : Type 0 where
   pub part : List ℕ
   pub before : AreSendingsRead sendings part left_old left_new
-  pub shown : ShowsOutgoingFault record_limit (length sendings) (frame_of_last 0 sendings) fault.fault part
+  pub shown : ShowsOutgoingFault record_limit (length sendings) (last_frame 0 sendings) fault.fault part
   pub octet : fault.octet ≡ octet_behind sending_octets sendings
   pub place : fault.place ≡ None
 
 -- A taker was given these records as they were read, each once.
 pub record AreSendingsGiven {L : Type 0} (Takes : L → Outgoing → L → Type 0) (sendings : List Sending) (old new : L) : Type 0 where
   pub reads : List Outgoing
-  pub listed : AreReadOf sendings reads
+  pub listed : AreReadFrom reads sendings
   pub given : GivenInTurn Takes old reads new
 
 -- These records of the list were read behind its head, and these octets of the next one, and a taker was given the records.
@@ -69,5 +53,5 @@ pub record AreSendingsListedUpToLine {L : Type 0} (Takes Refuses : L → Outgoin
   pub between : L
   pub given : AreSendingsGiven Takes sendings old between
   pub refused : Outgoing
-  pub same : IsReadOf next refused
+  pub same : IsReadOutgoing refused next
   pub last : Refuses between refused new

@@ -3,7 +3,7 @@ use Rattle.std.specs.Prelude.{◌≡◌, ℕ, List, [], ◌∷◌, ◌++◌, Opt
 use Rattle.std.specs.Io.KnownBytes.{Consumes}
 use Rattle.std.specs.List.{AllByRecursion}
 use Rattle.dmr_record.specs.Received.{FollowEachOther, ReceivedFields, IsReadable, Receipt, ShowsReceivedFault, received_fields}
-use Rattle.dmr_record.specs.Received.{most_receipts}
+use Rattle.dmr_record.specs.Received.{received_limit}
 use Rattle.dmr_record.specs.Received.{receipt_octets, receipts_octets}
 use Rattle.dmr_listing.specs.ListingMeaning.{octet_behind}
 use Rattle.dmr_listing.specs.ListingRules.{GivenInTurn, IsRefusedBehind}
@@ -25,7 +25,7 @@ pub record AreReceiptsReadUpToFault (receipts : List Receipt) (fault : FaultLine
     : Type 0 where
   pub part : List ℕ
   pub before : AreReceiptsRead receipts part left_old left_new
-  pub shown : ShowsReceivedFault most_receipts (length receipts) (last_fields None receipts) fault.fault part
+  pub shown : ShowsReceivedFault received_limit (length receipts) (last_fields None receipts) fault.fault part
   pub octet : fault.octet ≡ octet_behind receipt_octets receipts
   pub place : fault.place ≡ None
 

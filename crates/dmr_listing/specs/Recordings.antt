@@ -1,7 +1,7 @@
 -- A recording, slot by slot: what its file holds, and where it is at fault.
 use Rattle.std.specs.Prelude.{◌≡◌, ℕ, List, [], Option, Some, None, length, unwrap_or}
-use Rattle.dmr_record.specs.Downlink.{most_slots, sent_octets, ShowsDownlinkFault}
-use Rattle.dmr_record.specs.Uplink.{most_uplink_slots, slot_octets, ShowsUplinkSlotFault}
+use Rattle.dmr_record.specs.Downlink.{slot_limit, sent_octets, ShowsDownlinkFault}
+use Rattle.dmr_record.specs.Uplink.{uplink_slot_limit, slot_octets, ShowsUplinkSlotFault}
 use Rattle.dmr_record.specs.declared.fault.RecordFault.{RecordFault}
 use Rattle.dmr_listing.specs.declared.recording.RecordedBurst.{RecordedBurst}
 use Rattle.dmr_listing.specs.declared.recording.Recording.{Recording}
@@ -29,11 +29,11 @@ spelling Downlink None = sent_octets None
 spelling Downlink (Some b) = sent_octets (Some (unwrap_or b.cach [], b.burst))
 
 -- the most slots that its file has
-abbrev pub most_slots_of : Recording → ℕ
-most_slots_of Uplink = most_uplink_slots
-most_slots_of Downlink = most_slots
+abbrev pub slot_limit_of : Recording → ℕ
+slot_limit_of Uplink = uplink_slot_limit
+slot_limit_of Downlink = slot_limit
 
 -- These octets, taken as the front of a slot with so many slots before it, show this fault.
 abbrev pub ShowsSlotFaultOf : Recording → ℕ → RecordFault → List ℕ → Type 0
-ShowsSlotFaultOf Uplink before e octets = ShowsUplinkSlotFault most_uplink_slots before e octets
-ShowsSlotFaultOf Downlink before e octets = ShowsDownlinkFault most_slots before e octets
+ShowsSlotFaultOf Uplink before e octets = ShowsUplinkSlotFault uplink_slot_limit before e octets
+ShowsSlotFaultOf Downlink before e octets = ShowsDownlinkFault slot_limit before e octets

@@ -1,9 +1,9 @@
 -- What strips show of a recording: what stands in each slot, frame by frame, and each once.
-use Rattle.std.specs.Prelude.{◌≡◌, ◌==◌, ℕ, ◌+◌, ◌*◌, ◌/◌, ◌≤◌, ◌<◌, ◌&&◌, Bool, List, [], ◌∷◌, ◌++◌, Option, Some, None, take}
+use Rattle.std.specs.Prelude.{◌≡◌, ◌==◌, ℕ, ◌+◌, ◌/◌, ◌<◌, ◌&&◌, Bool, List, [], ◌∷◌, ◌++◌, Option, Some, None, take}
 use Rattle.std.specs.Prelude.{length, map, drop, nat_le, if◌then◌else◌}
 use Rattle.dmr_listing.specs.ListingMeaning.{place_by_number}
-use Rattle.dmr_listing.specs.ListingRules.{GivenInTurn, IsLineAt, IsRead, IsReadUpToFault, IsRefusedBehind, ListingTurn}
-use Rattle.dmr_listing.specs.ListingRules.{turn_after, turn_passed}
+use Rattle.dmr_listing.specs.ListingRules.{GivenInTurn, IsLineAt, IsRead, IsReadUpToFault, IsRefusedBehind, ListingTurn, turn_after}
+use Rattle.dmr_listing.specs.ListingRules.{turn_passed}
 use Rattle.dmr_listing.specs.Marks.{mark_of}
 use Rattle.dmr_listing.specs.Recordings.{RecordedSlot}
 use Rattle.dmr_listing.specs.declared.burst_line.BurstLine.{BurstLine}
@@ -58,7 +58,7 @@ AreStrips marks [] = marks ≡ []
 AreStrips marks (strip ∷ strips) =
     (0 < length marks) × IsStripOf (take most_marks marks) strip × AreStrips (drop most_marks marks) strips
 
--- the first frame of a strip that has these marks, behind the mark of a slot of the second frame
+-- the first frame of a strip with one mark more: the one that it had, or the new mark's where it had no marks
 abbrev pub strip_frame : List Mark → ℕ → ℕ → ℕ
 strip_frame [] before frame = frame
 strip_frame (mark ∷ marks) before frame = before
@@ -92,22 +92,6 @@ pub record IsStripped {L : Type 0} (Takes : L → Picture → L → Type 0) (rec
   pub read : IsRead recording slots lines part end left_old left_new
   pub strips : List Picture
   pub drawn : AreStrips (marks_of frames 0 slots lines) strips
-  pub given : GivenInTurn Takes old strips new
-
--- They were read, and a taker was given the strips that are full; one with the marks of the last slots waits.
-pub record IsDrawn {L : Type 0} (Takes : L → Picture → L → Type 0) (recording : Recording) (frames : Frames)
-    (slots : List RecordedSlot) (part : List ℕ) (end : ListingTurn) (left_old left_new : Option (List ℕ)) (waiting : Picture)
-    (old new : L) : Type 0 where
-  pub lines : List BurstLine
-  pub read : IsRead recording slots lines part end left_old left_new
-  pub full : List (Place × Mark)
-  pub rest : List (Place × Mark)
-  pub marks : marks_of frames 0 slots lines ≡ full ++ rest
-  pub strips : List Picture
-  pub drawn : AreStrips full strips
-  pub whole : length full ≡ most_marks * length strips
-  pub few : length rest ≤ most_marks
-  pub waits : IsStripOf rest waiting
   pub given : GivenInTurn Takes old strips new
 
 -- The recording was read up to a slot that shows this fault, and a taker was given the strips of the slots before it.

@@ -1,5 +1,5 @@
 //! The line of a burst.
-use crate::activity::Activity;
+use crate::access_type::AccessType;
 use crate::contents::Contents;
 use crate::link_control::LinkControl;
 use crate::place::{Place, Seconds};
@@ -18,7 +18,7 @@ pub struct BurstLine {
     /// Where it stands.
     pub place: Place,
     /// What its CACH announces, on the downlink.
-    pub activity: Option<Activity>,
+    pub access_type: Option<AccessType>,
     /// What it is read as.
     pub reading: Reading,
     /// Where in a superframe its frame stands.
@@ -142,14 +142,14 @@ impl fmt::Display for Details<'_> {
 
 /// Side, and what the CACH announces, in two columns and one.
 #[derive(Clone, Copy, Drop)]
-struct SideAndActivity(Reading, Option<Activity>);
+struct SideAndAccessType(Reading, Option<AccessType>);
 
-impl fmt::Display for SideAndActivity {
+impl fmt::Display for SideAndAccessType {
     fn fmt<W: fmt::Write>(&self, f: &mut fmt::Formatter<W>) -> fmt::Result {
         let letters = side_letters(self.0);
         match self.1 {
-            Some(Activity::Busy) => write!(f, "{letters:<2}*"),
-            Some(Activity::Free) | None => write!(f, "{letters:<3}"),
+            Some(AccessType::Busy) => write!(f, "{letters:<2}*"),
+            Some(AccessType::Free) | None => write!(f, "{letters:<3}"),
         }
     }
 }
@@ -170,7 +170,7 @@ impl fmt::Display for Colour {
 impl fmt::Display for BurstLine {
     /// Time, frame, slot, side, colour code, name, details and wrong bits, in columns; the line ends with no space.
     fn fmt<W: fmt::Write>(&self, f: &mut fmt::Formatter<W>) -> fmt::Result {
-        let side = SideAndActivity(self.reading, self.activity);
+        let side = SideAndAccessType(self.reading, self.access_type);
         let colour = Colour(colour_of(self.reading));
         let mut name: ArrayString<16> = ArrayString::new();
         let mut details: ArrayString<192> = ArrayString::new();

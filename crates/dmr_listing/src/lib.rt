@@ -2,7 +2,7 @@
 //!
 //! `SlotView` makes the lines of one slot of a recording, frame by frame. A `BurstLine` has all that the line of a burst shows, and
 //! prints it: what the burst is read as (`dmr_report::Reading`), in which place of a superframe it stands (`VoicePlaces`), what its
-//! information holds (`Contents`), the link control that four voice bursts carry, what its CACH announces (`Activity`), and how
+//! information holds (`Contents`), the link control that four voice bursts carry, what its CACH announces (`AccessType`), and how
 //! many of its bits are wrong (`Wrong`). `read_tact` reads all fields of a CACH (`Tact`). `OutgoingLine` and `ReceivedLine` print
 //! the records of the two lists. All of it comes from the readers that a run stands on. Octets that came over the air are printed
 //! as digits, never as text. `RecordingSummary` is the last line of a listing, of what `BurstCounts` counts line by line, and
@@ -14,16 +14,16 @@
 //! `strip_recording` gives the picture of a recording in place of its lines: a `Strip` has a `Mark` for each slot of 50 `Frames`,
 //! and prints a line for each slot (`StripLine`). The marks are those of the lines that the listing has.
 //!
-//! Contracts say what a line shows (`specs/Lines.antt`): by which place follows (`specs/VoicePlace.antt`, and what a place means
-//! over all that a slot was read as), what a burst of a type holds (`specs/Contents.antt`), what four frames carry
-//! (`specs/Fragments.antt`), what a CACH announces (`specs/Activity.antt`), which bits are wrong (`specs/Wrong.antt`), and what is
-//! counted (`specs/Summaries.antt`). Of a whole file they say that each burst or record has a line, in order and once, and that a
-//! fault is told exactly where the octets show it (`specs/Recordings.antt` and `Listings`, `OutgoingListings`, `ReceivedListings`;
-//! `laws` has the places of the lines), and of strips that each slot has its mark, in order and once (`specs/Marks.antt` and
-//! `Strips`). What the texts are is left open by them, and is tested.
+//! Contracts say what a line shows (`specs/Lines.antt`): by which place follows (`specs/VoicePlace.antt`, and what a place
+//! means over all that a slot was read as), what a burst of a type holds (`specs/Contents.antt`), what four frames carry
+//! (`specs/Fragments.antt`), what a CACH announces (`specs/AccessType.antt`), which bits are wrong (`specs/Wrong.antt`), and
+//! what is counted (`specs/Summaries.antt`). Of a whole file they say that each burst or record has a line, in order and once,
+//! and that a fault is told exactly where the octets show it (`specs/Recordings.antt` and `ListingRules`, `OutgoingListings`,
+//! `ReceivedListings`; `laws` has the places of the lines, by `ListingMeaning`), and of strips that each slot has its mark, in
+//! order and once (`specs/Marks.antt` and `Strips`). What the texts are is left open by them, and is tested.
 #![tactic(auto)]
 
-mod activity;
+mod access_type;
 mod burst_line;
 mod contents;
 mod control_block;
@@ -52,7 +52,7 @@ mod voice_place;
 mod way;
 mod wrong;
 
-pub use activity::{Activity, Tact, read_tact};
+pub use access_type::{AccessType, Tact, read_tact};
 pub use burst_line::{BurstLine, BurstName};
 pub use contents::Contents;
 pub use digits::Digits;

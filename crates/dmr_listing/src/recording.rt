@@ -4,7 +4,7 @@ ghost use Rattle.std.specs.Io.KnownBytes.{Consumes, IsAtEnd};
 ghost use Rattle.dmr_record.specs.Downlink.{sent_octets};
 ghost use Rattle.dmr_record.specs.Faults.{is_of_end, is_device_fault};
 ghost use Rattle.dmr_record.specs.Uplink.{slot_octets};
-ghost use Rattle.dmr_listing.specs.Recordings.{IsSlotOf, ShowsSlotFaultOf, most_slots_of, spelling};
+ghost use Rattle.dmr_listing.specs.Recordings.{IsSlotOf, ShowsSlotFaultOf, slot_limit_of, spelling};
 
 use dmr_record::{RecordFault, Source, read_slot, read_uplink_slot};
 
@@ -83,7 +83,7 @@ pub(crate) fn read_recording<S: Source>(
 ) -> Result<Option<Option<RecordedBurst>>, RecordFault>
     requires well { S.has_failed source.old ≡ false }
     // A slot is what the octets taken spell.
-    ensures slot { IfOk result (λ found. IfSome found (λ slot. (before < most_slots_of recording) × IsSlotOf recording slot
+    ensures slot { IfOk result (λ found. IfSome found (λ slot. (before < slot_limit_of recording) × IsSlotOf recording slot
         × Consumes (S.left source.old) (S.left source.new) (spelling recording slot))) }
     // There is none only at the end, behind whole frames.
     ensures end { IfOk result (λ found. IfNone found ((before % 2 ≡ 0)

@@ -2,9 +2,9 @@
 ghost use Rattle.std.specs.Prelude.{◌≡◌};
 ghost use Rattle.dmr_bits.specs.Bits.{bits_of_octets};
 ghost use Rattle.dmr_report.specs.Reading.{IsReadAs};
-ghost use Rattle.dmr_listing.specs.Lines.{IsCachActivity, IsHeld, IsLine, after_burst, fragment_of, no_past, passed};
+ghost use Rattle.dmr_listing.specs.Lines.{IsCachAccessType, IsHeld, IsLine, after_burst, fragment_of, no_past, passed};
 
-use crate::activity::Activity;
+use crate::access_type::AccessType;
 use crate::burst_line::BurstLine;
 use crate::contents::{Contents, contents_of};
 use crate::fragments::{Fragment, Fragments};
@@ -58,11 +58,11 @@ fn held_by(reading: &Reading, burst: &[u8; 33]) -> Option<Contents>
 }
 
 /// What the CACH in front of a burst announces, where there is one.
-fn announced_by(cach: Option<[u8; 3]>) -> Option<Activity>
-    ensures announced { IsCachActivity cach result }
+fn announced_by(cach: Option<[u8; 3]>) -> Option<AccessType>
+    ensures announced { IsCachAccessType cach result }
 {
     match cach {
-        Some(cach) => Some(Activity::of_cach(&cach)),
+        Some(cach) => Some(AccessType::of_cach(&cach)),
         None => None,
     }
 }
@@ -90,7 +90,7 @@ impl SlotView {
     /// downlink.
     pub fn line(&mut self, place: Place, cach: Option<[u8; 3]>, burst: &[u8; 33]) -> BurstLine
         ensures place { result.place ≡ place }
-        ensures announced { IsCachActivity cach result.activity }
+        ensures announced { IsCachAccessType cach result.access_type }
         ensures line { IsLine self.old (bits_of_octets burst.now) result }
         ensures past { self.new ≡ after_burst result.reading (bits_of_octets burst.now) self.old }
     {
@@ -99,7 +99,7 @@ impl SlotView {
         let voice_place = self.places.next(Some(reading));
         BurstLine {
             place,
-            activity: announced_by(cach),
+            access_type: announced_by(cach),
             reading,
             voice_place,
             contents: held_by(&reading, burst),

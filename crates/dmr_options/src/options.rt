@@ -131,7 +131,7 @@ pub(crate) fn settings<'a>(alloc: Global) -> Result<Vec<Arg<'a>>, AllocError> {
         hang(
             alloc,
             "channel-hang",
-            "Frames of 60 ms that the channel stays on the air behind its last burst, 0 to 65535",
+            "Frames of 60 ms that the channel stays on the air behind its last traffic, 0 to 65535",
             "5",
         ),
         queue(alloc),

@@ -29,8 +29,8 @@ abbrev pub downlink_file : List Sent → List ℕ
 downlink_file slots = head_octets downlink_magic ++ downlink_octets slots
 
 -- the most slots that a downlink file has: two for each of the 1,048,576 frames of an uplink, and of six more
-abbrev pub most_slots : ℕ
-most_slots = 2097164
+abbrev pub slot_limit : ℕ
+slot_limit = 2097164
 
 -- less than a whole slot: nothing, or 01 and fewer octets than a CACH and a burst have
 abbrev pub IsPartOfSent : List ℕ → Type 0

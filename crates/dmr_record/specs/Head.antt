@@ -5,11 +5,11 @@ use Rattle.dmr_record.specs.declared.fault.RecordFault.TheVariants.{Magic, Versi
 use Rattle.dmr_record.specs.declared.head.FileFormat.{FileFormat}
 use Rattle.dmr_record.specs.declared.head.FileFormat.TheVariants.{Uplink, Downlink, Outgoing, Received}
 
--- the frames of an uplink file
+-- the most frames that an uplink file has
 abbrev pub frame_limit : ℕ
 frame_limit = 1048576
 
--- the records of an outgoing file
+-- the most records that an outgoing file has
 abbrev pub record_limit : ℕ
 record_limit = 1048576
 

@@ -1,12 +1,12 @@
 -- The outgoing file: what its octets spell, and what faults they show.
 use Rattle.std.specs.Prelude.{◌≡◌, ◌≢◌, ℕ, ◌+◌, ◌^◌, ◌<◌, ◌≤◌, ◌⊎◌, List, [], ◌∷◌, ◌++◌, Bool, if◌then◌else◌, length, take}
-use Rattle.std.specs.List.{flat_map}
+use Rattle.std.specs.List.{flat_map, AllZip}
 use Rattle.byteorder.specs.Endian.{big_bytes}
-use Rattle.dmr_record.specs.Head.{outgoing_magic}
+use Rattle.dmr_record.specs.Head.{outgoing_magic, head_octets}
+use Rattle.dmr_record.specs.Received.{IsSlot}
 use Rattle.dmr_record.specs.declared.fault.RecordFault.{RecordFault}
 use Rattle.dmr_record.specs.declared.fault.RecordFault.TheVariants.{CutRecord, BadTag, FrameOrder, TooLong, Read}
 use Rattle.dmr_record.specs.declared.outgoing.Outgoing.{Outgoing}
-use Rattle.dmr_record.specs.Head.{head_octets}
 
 -- What stands between the tag of a record and its datagram: the frame, the slot, the mode, and how many octets
 -- the datagram has.
@@ -27,7 +27,7 @@ pub record FitsOutgoing (f : OutgoingFields) : Type 0 where
 
 -- The slot is 1 or 2, and no other bit of the mode is set than 01 and 02.
 abbrev pub IsSlotAndMode : ℕ → ℕ → Type 0
-IsSlotAndMode slot mode = ((slot ≡ 1) ⊎ (slot ≡ 2)) × (mode < 4)
+IsSlotAndMode slot mode = IsSlot slot × (mode < 4)
 
 -- A record of the outgoing file: what is to be sent, and in which frame it is offered.
 pub record Sending : Type 0 where
@@ -40,7 +40,7 @@ pub record Sending : Type 0 where
 -- Its numbers fit their widths, and its slot is one.
 pub record IsSending (s : Sending) : Type 0 where
   pub frame : s.frame < 2 ^ 32
-  pub slot : (s.slot ≡ 1) ⊎ (s.slot ≡ 2)
+  pub slot : IsSlot s.slot
   pub datagram : length s.datagram < 2 ^ 16
 
 -- bit 01 is set where it is confirmed, and bit 02 where it goes at rate 1
@@ -68,6 +68,11 @@ abbrev pub AreInFrameOrder : ℕ → List Sending → Type 0
 AreInFrameOrder last [] = Unit {0}
 AreInFrameOrder last (s ∷ rest) = (last ≤ s.frame) × AreInFrameOrder s.frame rest
 
+-- the frame of the last record, where the last one before them has this frame
+abbrev pub last_frame : ℕ → List Sending → ℕ
+last_frame last [] = last
+last_frame last (s ∷ rest) = last_frame s.frame rest
+
 -- the record that was read, where this is its datagram
 abbrev pub sending_of : Outgoing → List ℕ → Sending
 sending_of o datagram =
@@ -77,6 +82,15 @@ sending_of o datagram =
 pub record Keeps (o : Outgoing) (datagram : List ℕ) : Type 0 where
   pub count : o.length ≡ length datagram
   pub front : o.octets ≡ take 1400 datagram
+
+-- A record of the outgoing file as it was read: its fields, the length of its datagram, and the first of its octets.
+pub record IsReadOutgoing (o : Outgoing) (s : Sending) : Type 0 where
+  pub fields : sending_of o s.datagram ≡ s
+  pub keeps : Keeps o s.datagram
+
+-- The records that were read stand one by one for those of the outgoing file, and there are as many.
+abbrev pub AreReadFrom : List Outgoing → List Sending → Type 0
+AreReadFrom records sendings = AllZip IsReadOutgoing records sendings
 
 -- the record with none of its octets
 abbrev pub emptied : Outgoing → Outgoing

@@ -45,11 +45,11 @@ receipts_octets receipts = flat_map receipt_octets receipts
 
 -- the file of these records
 abbrev pub received_file : List Receipt → List ℕ
-received_file receipts = head_octets received_magic ++ flat_map receipt_octets receipts
+received_file receipts = head_octets received_magic ++ receipts_octets receipts
 
 -- the most records that a received file has: a status and a packet in each slot of the longest downlink file
-abbrev pub most_receipts : ℕ
-most_receipts = 4194328
+abbrev pub received_limit : ℕ
+received_limit = 4194328
 
 -- What stands between the tag of a record and its octets: the frame, the slot, the number of the kind, the
 -- source, and how many octets there are.

@@ -76,8 +76,8 @@ ShowsUplinkFault limit before Read octets = (limit ≤ before → octets ≡ [])
 ShowsUplinkFault limit before e octets = (before < limit) × EndsInSlot e octets
 
 -- the most slots that an uplink file has: two for each of its 1,048,576 frames
-abbrev pub most_uplink_slots : ℕ
-most_uplink_slots = 2097152
+abbrev pub uplink_slot_limit : ℕ
+uplink_slot_limit = 2097152
 
 -- These octets, taken as the front of a slot with so many slots before it, show this fault. Past the limit one
 -- octet does, whatever it is; behind slot 1 of a frame the end does, with no octet.

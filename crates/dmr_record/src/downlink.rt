@@ -4,7 +4,7 @@ ghost use Rattle.std.specs.Prelude.{◌≡◌, ◌%◌, ◌<◌, ◌⊎◌, ◌+
 ghost use Rattle.std.specs.Prelude.{IfOk, IfErr, OnOk, OnErr, IfSome, IfNone};
 ghost use Rattle.std.specs.Io.KnownBytes.{Consumes, Appends, IsAtEnd};
 ghost use Rattle.dmr_record.specs.Devices.{Tears};
-ghost use Rattle.dmr_record.specs.Downlink.{IsSent, sent_octets, most_slots, ShowsDownlinkFault};
+ghost use Rattle.dmr_record.specs.Downlink.{IsSent, sent_octets, slot_limit, ShowsDownlinkFault};
 ghost use Rattle.dmr_record.specs.Faults.{is_of_end, is_device_fault};
 
 use crate::device::{Sink, Source};
@@ -27,7 +27,7 @@ fn burst_record(cach: [u8; 3], burst: [u8; 33]) -> [u8; 37]
 }
 
 /// Writes a slot of the downlink file: silence, or a CACH and a burst. At an `Err` the sink failed with a front
-/// of the record out.
+/// of the record out. The format is this project's own.
 pub fn write_slot<K: Sink>(
     sink: &mut K,
     slot: Option<([u8; 3], [u8; 33])>,
@@ -69,14 +69,14 @@ fn read_sent<S: Source>(source: &mut S) -> Result<([u8; 3], [u8; 33]), RecordFau
 /// the end of the source, where that is behind slot 2 of a frame or the head.
 ///
 /// `before` is the number of slots that were read before it. A slot past `SLOT_LIMIT` is `TooLong` as soon as its
-/// first octet is there, whatever that is.
+/// first octet is there, whatever that is. The format is this project's own.
 pub fn read_slot<S: Source>(
     source: &mut S,
     before: u32,
 ) -> Result<Option<Option<([u8; 3], [u8; 33])>>, RecordFault>
     requires well { S.has_failed source.old ≡ false }
     // A slot is what the octets taken spell.
-    ensures slot { IfOk result (λ found. IfSome found (λ slot. (before < most_slots) × IsSent slot
+    ensures slot { IfOk result (λ found. IfSome found (λ slot. (before < slot_limit) × IsSent slot
         × Consumes (S.left source.old) (S.left source.new) (sent_octets slot))) }
     // There is none only at the end, behind whole frames.
     ensures end { IfOk result (λ found. IfNone found ((before % 2 ≡ 0)
@@ -84,7 +84,7 @@ pub fn read_slot<S: Source>(
     ensures well { OnOk result (S.has_failed source.new ≡ false) }
     // A fault is shown by the octets taken, all of this slot.
     ensures fault { IfErr result (λ e. (taken : List ℕ) × Consumes (S.left source.old) (S.left source.new) taken
-        × ShowsDownlinkFault most_slots before e taken) }
+        × ShowsDownlinkFault slot_limit before e taken) }
     ensures cut { IfErr result (λ e. is_of_end e ≡ true → IsAtEnd (S.left source.new)) }
     // `Read` is told exactly where the device failed.
     ensures device { IfErr result (λ e. S.has_failed source.new ≡ is_device_fault e) }

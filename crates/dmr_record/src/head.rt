@@ -28,7 +28,7 @@ const VERSION: [u8; 4] = [1, 0, 0, 0];
 /// Reads the head of a file that has to have this magic.
 ///
 /// The magic is tested before the version, and both once all eight octets are there: fewer are a `CutRecord`,
-/// whatever they are.
+/// whatever they are. The format is this project's own.
 pub fn read_head<S: Source>(source: &mut S, magic: [u8; 4]) -> Result<(), RecordFault>
     requires well { S.has_failed source.old ≡ false }
     // The octets taken are the head.
@@ -88,6 +88,7 @@ fn format_of(magic: [u8; 4]) -> Option<FileFormat>
 }
 
 /// Reads the head of a file of any of the four formats, and answers which it is. Else it is as `read_head`.
+/// The format is this project's own.
 pub fn read_any_head<S: Source>(source: &mut S) -> Result<FileFormat, RecordFault>
     requires well { S.has_failed source.old ≡ false }
     // The octets taken are the head.
@@ -111,7 +112,7 @@ pub fn read_any_head<S: Source>(source: &mut S) -> Result<FileFormat, RecordFaul
     }
 }
 
-/// Writes the head of a file with this magic. At an `Err` the sink failed with a front of it out.
+/// Writes the head of a file with this magic. At an `Err` the sink failed with a front of it out. The format is this project's own.
 pub fn write_head<K: Sink>(sink: &mut K, magic: [u8; 4]) -> Result<(), RecordFault>
     requires well { K.has_failed sink.old ≡ false }
     ensures head { OnOk result (Appends (K.held sink.old) (K.held sink.new) (head_octets magic)) }

@@ -137,7 +137,7 @@ fn mode_named(slot: u8, mode: u8) -> Option<Mode>
 /// Reads the next record of an outgoing file behind its head. It answers `None` at the end of the source.
 ///
 /// `before` is the number of records that were read before it, and `last` the frame of the last of them, or 0.
-/// The octets are tested as `read_outgoing_into` tests them.
+/// The octets are tested as `read_outgoing_into` tests them. The format is this project's own.
 pub fn read_outgoing<S: Source>(
     source: &mut S,
     before: u32,
@@ -170,7 +170,7 @@ pub fn read_outgoing<S: Source>(
 /// `before` is the number of records that were read before it, and `last` the frame of the last of them, or 0.
 /// A record past `RECORD_LIMIT` is `TooLong` as soon as its first octet is there, whatever that is. Then the
 /// first octet is tested; the slot and the mode, and then the order of the frames, once the fields are there; and
-/// then the octets are read.
+/// then the octets are read. The format is this project's own.
 pub fn read_outgoing_into<S: Source>(
     source: &mut S,
     outgoing: &mut Outgoing,

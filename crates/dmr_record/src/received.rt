@@ -8,7 +8,7 @@ ghost use Rattle.dmr_record.specs.Faults.{is_of_end, is_device_fault};
 ghost use Rattle.dmr_record.specs.Received.{kind_octet, receipt_fields, receipt_octets, IsReceipt};
 ghost use Rattle.dmr_record.specs.Received.{ReceivedFields, FitsReceived, IsSlot, IsSlotAndKind, IsBehind, Follows};
 ghost use Rattle.dmr_record.specs.Received.{received_field_octets};
-ghost use Rattle.dmr_record.specs.Received.{fields_read, last_read, receipt_of, most_receipts, ShowsReceivedFault};
+ghost use Rattle.dmr_record.specs.Received.{fields_read, last_read, receipt_of, received_limit, ShowsReceivedFault};
 
 use crate::device::{Sink, Source};
 use crate::downlink::SLOT_LIMIT;
@@ -115,7 +115,7 @@ fn fields_of(frame: u32, slot: u8, kind: ReceivedKind, source: u32, count: u16) 
 }
 
 /// Writes a record of the received file: what came in a slot from this source, and in which downlink frame it
-/// was whole. At an `Err` the sink failed with a front of the record out.
+/// was whole. At an `Err` the sink failed with a front of the record out. The format is this project's own.
 pub fn write_received<K: Sink>(
     sink: &mut K,
     frame: u32,
@@ -173,7 +173,7 @@ fn received_of(octets: [u8; 11]) -> Option<Received>
 /// `RECEIVED_LIMIT` is `TooLong` as soon as its first octet is there, whatever that is. Then the first octet is
 /// tested; the slot and the kind, and then the order of the records, once the fields are there; and then the
 /// octets are read. The order is that of the frames; of a frame slot 1 stands first, and of a slot its status,
-/// which at most one packet follows.
+/// which at most one packet follows. The format is this project's own.
 pub fn read_received<S: Source>(
     source: &mut S,
     before: u32,
@@ -183,7 +183,7 @@ pub fn read_received<S: Source>(
     requires well { S.has_failed source.old ≡ false }
     requires room { 65535 ≤ length octets.old }
     // A record is what the octets taken spell.
-    ensures receipt { IfOk result (λ found. IfSome found (λ r. (before < most_receipts) × IsSlot r.slot
+    ensures receipt { IfOk result (λ found. IfSome found (λ r. (before < received_limit) × IsSlot r.slot
         × Follows (last_read last) (fields_read r) × (length (take r.length octets.new) ≡ r.length)
         × IsReceipt (receipt_of r (take r.length octets.new))
         × Consumes (S.left source.old) (S.left source.new) (receipt_octets (receipt_of r (take r.length octets.new))))) }
@@ -193,7 +193,7 @@ pub fn read_received<S: Source>(
     ensures well { OnOk result (S.has_failed source.new ≡ false) }
     // A fault is shown by the octets taken, all of this record.
     ensures fault { IfErr result (λ e. (taken : List ℕ) × Consumes (S.left source.old) (S.left source.new) taken
-        × ShowsReceivedFault most_receipts before (last_read last) e taken) }
+        × ShowsReceivedFault received_limit before (last_read last) e taken) }
     ensures cut { IfErr result (λ e. is_of_end e ≡ true → IsAtEnd (S.left source.new)) }
     // `Read` is told exactly where the device failed.
     ensures device { IfErr result (λ e. S.has_failed source.new ≡ is_device_fault e) }

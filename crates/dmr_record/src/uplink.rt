@@ -5,7 +5,7 @@ ghost use Rattle.std.specs.Io.KnownBytes.{Consumes, IsAtEnd};
 ghost use Rattle.dmr_record.specs.Faults.{is_of_end, is_device_fault};
 ghost use Rattle.dmr_record.specs.Uplink.{IsSilenceOrBurst, IsFrame, ShowsSlotFault, ShowsUplinkFault, slot_tag, slot_body};
 ghost use Rattle.dmr_record.specs.Uplink.{frame_octets};
-ghost use Rattle.dmr_record.specs.Uplink.{ShowsUplinkSlotFault, most_uplink_slots, slot_octets};
+ghost use Rattle.dmr_record.specs.Uplink.{ShowsUplinkSlotFault, uplink_slot_limit, slot_octets};
 ghost use Rattle.dmr_record.specs.Head.{frame_limit};
 
 use crate::device::Source;
@@ -49,7 +49,7 @@ fn read_slot<S: Source>(source: &mut S, tag: u8) -> Result<Option<[u8; 33]>, Rec
 /// answers `None` at the end of the source.
 ///
 /// `before` is the number of frames that were read before it. A frame past `FRAME_LIMIT` is `TooLong` as soon
-/// as its first octet is there, whatever that is.
+/// as its first octet is there, whatever that is. The format is this project's own.
 pub fn read_frame<S: Source>(
     source: &mut S,
     before: u32,
@@ -88,13 +88,14 @@ pub fn read_frame<S: Source>(
 ///
 /// `before` is the number of slots that were read before it. A slot past those of `FRAME_LIMIT` frames is `TooLong`
 /// as soon as its first octet is there, whatever that is. What it tells of a slot, `read_frame` tells of its frame.
+/// The format is this project's own.
 pub fn read_uplink_slot<S: Source>(
     source: &mut S,
     before: u32,
 ) -> Result<Option<Option<[u8; 33]>>, RecordFault>
     requires well { S.has_failed source.old ≡ false }
     // A slot is what the octets taken spell.
-    ensures slot { IfOk result (λ found. IfSome found (λ slot. (before < most_uplink_slots) × IsSilenceOrBurst slot
+    ensures slot { IfOk result (λ found. IfSome found (λ slot. (before < uplink_slot_limit) × IsSilenceOrBurst slot
         × Consumes (S.left source.old) (S.left source.new) (slot_octets slot))) }
     // There is none only at the end, behind whole frames.
     ensures end { IfOk result (λ found. IfNone found ((before % 2 ≡ 0)
@@ -102,7 +103,7 @@ pub fn read_uplink_slot<S: Source>(
     ensures well { OnOk result (S.has_failed source.new ≡ false) }
     // A fault is shown by the octets taken, all of this slot.
     ensures fault { IfErr result (λ e. (taken : List ℕ) × Consumes (S.left source.old) (S.left source.new) taken
-        × ShowsUplinkSlotFault most_uplink_slots before e taken) }
+        × ShowsUplinkSlotFault uplink_slot_limit before e taken) }
     ensures cut { IfErr result (λ e. is_of_end e ≡ true → IsAtEnd (S.left source.new)) }
     // `Read` is told exactly where the device failed.
     ensures device { IfErr result (λ e. S.has_failed source.new ≡ is_device_fault e) }

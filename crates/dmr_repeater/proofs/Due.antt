@@ -6,7 +6,7 @@ use Rattle.std.specs.Io.KnownBytes.{IsAtEnd}
 use Rattle.std.proofs.KnownBytes.{Consumes-nil}
 use Rattle.dmr_record.specs.declared.outgoing.Outgoing.{Outgoing}
 use Rattle.dmr_record.specs.Outgoing.{Sending}
-use Rattle.dmr_station.specs.GatewayMeaning.{IsReadOutgoing}
+use Rattle.dmr_record.specs.Outgoing.{IsReadOutgoing}
 use Rattle.std.specs.List.{AllZip}
 use Rattle.dmr_repeater.specs.Runs.{ReadsDue, ReadsRecords}
 use Rattle.dmr_repeater.specs.Schedule.{ReadingProgress, unread, waiting, AreDue, AreOfferedInTurn, Gives, IsPast}

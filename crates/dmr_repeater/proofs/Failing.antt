@@ -16,7 +16,8 @@ use Rattle.dmr_record.specs.Received.{Receipt, receipt_octets}
 use Rattle.dmr_record.specs.Uplink.{frames_octets}
 use Rattle.dmr_station.specs.DownlinkRules.{silent_frame, handed_frames}
 use Rattle.dmr_station.specs.StationRules.{Settings, received_of}
-use Rattle.dmr_station.specs.GatewayMeaning.{AreReadFrom, by_frame, receipt_in}
+use Rattle.dmr_station.specs.GatewayMeaning.{by_frame, receipt_in}
+use Rattle.dmr_record.specs.Outgoing.{AreReadFrom}
 use Rattle.std.specs.List.{AllZip}
 use Rattle.dmr_station.specs.Station.{State, fresh, all_received_taken, records_of, receipts_from, AreExchanged}
 use Rattle.dmr_station.proofs.Exchanges.{exchanged-append}

@@ -15,9 +15,11 @@ use Rattle.dmr_repeater.proofs.Records.{All-append, AreDue-later, Gives-same, Gi
 use Rattle.std.specs.Io.KnownBytes.{Consumes}
 use Rattle.dmr_record.specs.declared.outgoing.Outgoing.{Outgoing}
 use Rattle.dmr_record.specs.Outgoing.{Sending, IsSending, AreInFrameOrder, sendings_octets}
-use Rattle.dmr_station.specs.GatewayMeaning.{IsReadOutgoing, AreReadFrom, AreForSlots, by_frame}
+use Rattle.dmr_station.specs.GatewayMeaning.{AreForSlots, by_frame}
+use Rattle.dmr_record.specs.Outgoing.{IsReadOutgoing, AreReadFrom}
 use Rattle.std.specs.List.{AllZip}
-use Rattle.dmr_repeater.specs.Schedule.{ReadingProgress, unread, waiting, last_frame, Gives, AreDue, GivesDue, IsPast}
+use Rattle.dmr_repeater.specs.Schedule.{ReadingProgress, unread, waiting, Gives, AreDue, GivesDue, IsPast}
+use Rattle.dmr_record.specs.Outgoing.{last_frame}
 use Rattle.dmr_repeater.specs.Schedule.{AreOfferedInTurn}
 
 -- 1. Lists that go together, taken apart.

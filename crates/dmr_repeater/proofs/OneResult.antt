@@ -1,5 +1,5 @@
 -- What is meant is written in one way.
-use Rattle.std.proofs.Common.{◌≡◌, ℕ, true, false, List, ◌++◌, length, Option, Some, None, IsSome, sym, ◌∙◌, ap, subst}
+use Rattle.std.proofs.Common.{◌≡◌, ℕ, true, false, List, length, Option, Some, None, IsSome, sym, ◌∙◌, ap, subst}
 use Rattle.std.specs.Io.KnownBytes.{Appends}
 use Rattle.dmr_record.specs.Downlink.{downlink_file}
 use Rattle.dmr_record.specs.Received.{received_file}

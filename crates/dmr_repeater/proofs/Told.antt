@@ -17,7 +17,8 @@ use Rattle.dmr_record.proofs.OutgoingReading.{sending_code}
 use Rattle.dmr_record.proofs.Spellings.{front_read, none_left, All-right}
 use Rattle.dmr_station.specs.GatewayMeaning.{by_frame}
 use Rattle.dmr_repeater.specs.Runs.{HasOutgoing, ReadsRecords, ReadsAllBefore}
-use Rattle.dmr_repeater.specs.Schedule.{ReadingProgress, unread, last_frame, Gives, HasRecords}
+use Rattle.dmr_repeater.specs.Schedule.{ReadingProgress, unread, Gives, HasRecords}
+use Rattle.dmr_record.specs.Outgoing.{last_frame}
 use Rattle.dmr_repeater.proofs.Files.{consumed, left_behind}
 use Rattle.dmr_repeater.proofs.InTurn.{by_frame_front, later}
 

@@ -1,10 +1,9 @@
 //! The frames of the downlink, handed over and written, and what is received in them.
 ghost use Rattle.std.specs.Prelude.{⊤, ◌≡◌, ◌+◌, ◌^◌, ◌<◌, [], false, true, map, IfErr, OnOk, OnErr};
 ghost use Rattle.std.specs.Io.KnownBytes.{Appends};
-ghost use Rattle.std.specs.List.{flat_map};
 ghost use Rattle.dmr_record.specs.Devices.{Tears};
 ghost use Rattle.dmr_record.specs.Downlink.{downlink_octets};
-ghost use Rattle.dmr_record.specs.Received.{receipt_octets};
+ghost use Rattle.dmr_record.specs.Received.{receipts_octets};
 ghost use Rattle.dmr_station.specs.StationRules.{received_of};
 ghost use Rattle.dmr_station.specs.GatewayMeaning.{receipt_in};
 ghost use Rattle.dmr_station.specs.Station.{all_received_taken};
@@ -38,13 +37,13 @@ fn write_all_received<R: Sink>(
 ) -> Result<(), RecordFault>
     requires well { R.has_failed received.old ≡ false }
     ensures receipts { OnOk result (Appends (R.held received.old) (R.held received.new)
-        (flat_map receipt_octets (map (receipt_in number) (received_of station.old.memory.gate)))) }
+        (receipts_octets (map (receipt_in number) (received_of station.old.memory.gate)))) }
     ensures taken { OnOk result (station.new ≡ all_received_taken station.old) }
     ensures well { OnOk result (R.has_failed received.new ≡ false) }
     ensures fault { IfErr result (λ e. e ≡ RecordFault.Write) }
     ensures failed { OnErr result (R.has_failed received.new ≡ true) }
     ensures torn { OnErr result (FrontOf (R.held received.old) (R.held received.new)
-        (flat_map receipt_octets (map (receipt_in number) (received_of station.old.memory.gate)))) }
+        (receipts_octets (map (receipt_in number) (received_of station.old.memory.gate)))) }
 {
     // In most frames nothing is received, and what is received is large.
     if station.has_nothing_received() {
@@ -62,13 +61,13 @@ fn write_each_received<R: Sink>(
 ) -> Result<(), RecordFault>
     requires well { R.has_failed received.old ≡ false }
     ensures receipts { OnOk result (Appends (R.held received.old) (R.held received.new)
-        (flat_map receipt_octets (map (receipt_in number) (received_of station.old.memory.gate)))) }
+        (receipts_octets (map (receipt_in number) (received_of station.old.memory.gate)))) }
     ensures taken { OnOk result (station.new ≡ all_received_taken station.old) }
     ensures well { OnOk result (R.has_failed received.new ≡ false) }
     ensures fault { IfErr result (λ e. e ≡ RecordFault.Write) }
     ensures failed { OnErr result (R.has_failed received.new ≡ true) }
     ensures torn { OnErr result (FrontOf (R.held received.old) (R.held received.new)
-        (flat_map receipt_octets (map (receipt_in number) (received_of station.old.memory.gate)))) }
+        (receipts_octets (map (receipt_in number) (received_of station.old.memory.gate)))) }
 {
     loop {
         let Some(one) = station.take_received() else {

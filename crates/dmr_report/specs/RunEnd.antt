@@ -1,5 +1,6 @@
 -- How runs end.
 use Rattle.std.specs.Prelude.{ℕ}
+use Rattle.dmr_report.specs.Status.{success, failure, usage}
 use Rattle.dmr_report.specs.declared.run_end.RunEnd.{RunEnd}
 use Rattle.dmr_report.specs.declared.run_end.RunEnd.TheVariants.{Done, Fault, CannotOpen, Setting}
 
@@ -8,9 +9,9 @@ abbrev pub IsDone : RunEnd → Type 0
 IsDone (Done summary) = Unit {0}
 IsDone end = ⊥
 
--- The exit status: 0 of a run that was done, 1 of one that wasn't, and 2 of one that can't be asked for.
+-- The exit status: success of a run that was done, failure of one that wasn't, and that of usage of one that can't be asked for.
 abbrev pub status_of : RunEnd → ℕ
-status_of (Done summary) = 0
-status_of (Fault fault) = 1
-status_of (CannotOpen stream) = 1
-status_of (Setting fault) = 2
+status_of (Done summary) = success
+status_of (Fault fault) = failure
+status_of (CannotOpen stream) = failure
+status_of (Setting fault) = usage

@@ -21,7 +21,7 @@ use Rattle.dmr_listing.specs.declared.place.Place.{Place}
 use Rattle.dmr_listing.specs.declared.recording.Recording.{Recording}
 use Rattle.dmr_listing.specs.declared.recording.Recording.TheVariants.{Uplink, Downlink}
 use Rattle.dmr_listing.specs.declared.summary.RecordingSummary.{RecordingSummary}
-use Rattle.dmr_record.specs.Outgoing.{Sending}
+use Rattle.dmr_record.specs.Outgoing.{Sending, AreReadFrom}
 use Rattle.dmr_record.specs.Received.{Receipt}
 use Rattle.dmr_record.specs.declared.head.FileFormat.{FileFormat}
 use Rattle.dmr_record.specs.declared.head.FileFormat.TheVariants as format
@@ -116,17 +116,18 @@ recording_shown_up_to_fault old new Takes filter_of held_of of fault a b listed 
     }
 
 -- records stand where they were read to stand
-reads_placed : (sendings : List Sending) (reads : List Outgoing) → outgoing.AreReadOf sendings reads
+reads_placed : (sendings : List Sending) (reads : List Outgoing) → AreReadFrom reads sendings
     → map place_of_outgoing reads ≡ map place_of_sending sendings
-reads_placed [] reads none = ap (map place_of_outgoing) none
+reads_placed [] [] are = refl
+reads_placed [] (r ∷ rs) are = absurd are
 reads_placed (s ∷ ss) [] are = absurd are
 reads_placed (s ∷ ss) (r ∷ rs) (first, rest) =
-    let same : place_of_outgoing r ≡ place_of_sending s = ap place_of_sending (sym first.same) in
+    let same : place_of_outgoing r ≡ place_of_sending s = ap place_of_sending first.fields in
     ap (λ (p : Place). p ∷ map place_of_outgoing rs) same
     ∙ ap (λ (ps : List Place). place_of_sending s ∷ ps) (reads_placed ss rs rest)
 
 -- so many lines as the records have by their places
-lines_of_reads : (filter : Filter) (sendings : List Sending) (reads : List Outgoing) → outgoing.AreReadOf sendings reads
+lines_of_reads : (filter : Filter) (sendings : List Sending) (reads : List Outgoing) → AreReadFrom reads sendings
     → sum_by (λ (r : Outgoing). lines_at filter (place_of_outgoing r)) reads
     ≡ sum_by (lines_at filter) (places_of (Sendings sendings))
 lines_of_reads filter sendings reads are =

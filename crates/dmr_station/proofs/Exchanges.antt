@@ -11,9 +11,11 @@ use Rattle.dmr_gateway.specs.GatewayRules as gateway
 use Rattle.dmr_gateway.specs.declared.received.Received.{Received}
 use Rattle.dmr_record.specs.declared.outgoing.Outgoing.{Outgoing}
 use Rattle.dmr_station.specs.DownlinkRules.{Makes}
-use Rattle.dmr_station.specs.StationRules.{StationMemory, Counts, FrameGiven, marked_slots, IsAsked, IsPassed, ArePassed, given_of}
+use Rattle.dmr_station.specs.StationRules.{StationMemory, Counts, marked_slots, IsAsked}
+use Rattle.dmr_station.proofs.Passing.{FrameGiven, IsPassed, ArePassed, given_of}
 use Rattle.dmr_station.specs.StationRules.{received_of}
-use Rattle.dmr_station.specs.StationRules.{outcomes_to_tell, received_taken, outcomes_told, added, all_counted, counted_frame}
+use Rattle.dmr_station.specs.StationRules.{outcomes_to_tell, received_taken, outcomes_told}
+use Rattle.dmr_station.proofs.Passing.{added, all_counted, counted_frame}
 use Rattle.dmr_station.specs.StationRules.{nothing_counted}
 use Rattle.dmr_station.specs.Sent.{AreSentAs}
 use Rattle.dmr_station.specs.Station.{State, fresh, IsOffered, AreOfferedOneByOne, after_offer, IsExchanged, AreExchanged}

@@ -19,10 +19,12 @@ use Rattle.dmr_gateway.specs.SideRules.{all_received, side_outcome}
 use Rattle.dmr_gateway.specs.BothSlots.{SlotTurn, Stands, FrameAsMeant, IsFrameOfBothSlots}
 use Rattle.dmr_gateway.proofs.BothSlots.{frames_as_meant}
 use Rattle.dmr_station.specs.DownlinkRules.{slots_in, frames_in, marked_frames}
-use Rattle.dmr_station.specs.GatewayMeaning.{AreReadFrom, AreForSlots}
+use Rattle.dmr_station.specs.GatewayMeaning.{AreForSlots}
+use Rattle.dmr_record.specs.Outgoing.{AreReadFrom}
 use Rattle.dmr_station.specs.GatewayMeaning.{record_fault, Given, AreGiven, Happens, IsGiven}
 use Rattle.dmr_station.proofs.Frames.{gates_of, claims_in}
-use Rattle.dmr_station.specs.StationRules.{Settings, StationMemory, FrameGiven, IsAsked, IsPassed, ArePassed, taken_of, is_free}
+use Rattle.dmr_station.specs.StationRules.{Settings, StationMemory, IsAsked, is_free}
+use Rattle.dmr_station.proofs.Passing.{FrameGiven, IsPassed, ArePassed, taken_of}
 use Rattle.std.specs.List.{AllZip}
 use Rattle.dmr_station.specs.declared.announcing.Message.{Message}
 use Rattle.dmr_station.specs.Sent.{DownlinkBurst}

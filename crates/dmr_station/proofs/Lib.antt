@@ -6,11 +6,13 @@ pub mod Encodings
 pub mod Exchanges
 pub mod Exchanging
 pub mod Frames
+pub mod FrontResult
 pub mod LookingBack
 pub mod Made
 pub mod Offering
 pub mod Offers
 pub mod OneReception
 pub mod OneResult
+pub mod Passing
 pub mod Readings
 pub mod Taking

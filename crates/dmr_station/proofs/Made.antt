@@ -28,9 +28,11 @@ use Rattle.dmr_gateway.specs.BothSlots.{Stands}
 use Rattle.dmr_gateway.proofs.BothSlots.{starts as starts_there}
 use Rattle.dmr_record.specs.Outgoing.{Sending}
 use Rattle.dmr_record.specs.declared.outgoing.Outgoing.{Outgoing}
-use Rattle.dmr_station.specs.GatewayMeaning.{AreReadFrom, AreForSlots, Given, AreGiven}
+use Rattle.dmr_station.specs.GatewayMeaning.{AreForSlots, Given, AreGiven}
+use Rattle.dmr_record.specs.Outgoing.{AreReadFrom}
 use Rattle.dmr_station.proofs.Frames.{slot_in, gates_of, claims_in}
-use Rattle.dmr_station.specs.StationRules.{Settings, StationMemory, FrameGiven, start, ArePassed, all_counted}
+use Rattle.dmr_station.specs.StationRules.{Settings, StationMemory, start}
+use Rattle.dmr_station.proofs.Passing.{FrameGiven, ArePassed, all_counted}
 use Rattle.dmr_station.specs.Station.{receipts_from}
 use Rattle.dmr_station.proofs.Counting.{receipts_of_both, counted_of_both}
 use Rattle.dmr_station.proofs.Exchanging.{exchanged}

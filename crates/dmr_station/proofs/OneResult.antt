@@ -20,7 +20,7 @@ use Rattle.dmr_station.specs.Sent.{DownlinkBurst}
 use Rattle.dmr_station.specs.StationRules.{Settings, Counts}
 
 -- two lists that stand one by one for a third are one, where each of its items is stood for by one thing
-zip_alike : {A B : Type 0} (R : A → B → Type 0) → ((item : A) (x y : B) → R item x → R item y → x ≡ y) → (items : List A)
+pub zip_alike : {A B : Type 0} (R : A → B → Type 0) → ((item : A) (x y : B) → R item x → R item y → x ≡ y) → (items : List A)
     (xs ys : List B) → AllZip R items xs → AllZip R items ys → xs ≡ ys
 zip_alike R one [] [] [] u v = refl
 zip_alike R one [] [] (y ∷ ys) u v = absurd v
@@ -52,7 +52,7 @@ given_alike s slot frames offered a b u v =
     ∙ ap (λ x. record a { burst = b.burst; received = b.received; outcome = x }) (u.outcome ∙ sym v.outcome)
     ∙ ap (λ x. record b { refused = x }) (u.refused ∙ sym v.refused)
 
-givens_alike : (s : Settings) (slot : ℕ) (back : List Happening) (offers : List (List Sending)) (outs : List SlotOut)
+pub givens_alike : (s : Settings) (slot : ℕ) (back : List Happening) (offers : List (List Sending)) (outs : List SlotOut)
     (xs ys : List Given) → AreGiven s slot back offers outs xs → AreGiven s slot back offers outs ys → xs ≡ ys
 givens_alike s slot back [] [] [] [] u v = refl
 givens_alike s slot back [] [] [] (y ∷ ys) u v = absurd v

@@ -6,7 +6,7 @@ use Rattle.dmr_burst.specs.declared.burst.Burst.{Burst}
 use Rattle.dmr_slot.specs.ChannelMeaning.{claims_of, channel_frames}
 use Rattle.dmr_slot.specs.Bursts.{AreSent}
 use Rattle.dmr_slot.specs.Fronts.{IsFrontOfLine}
-use Rattle.dmr_slot.specs.LineRules.{LineMemory as Line, silent_line, ArePushed}
+use Rattle.dmr_slot.specs.LineRules.{LineMemory, silent_line, ArePushed}
 use Rattle.dmr_slot.specs.declared.line.SlotOut.{SlotOut}
 use Rattle.dmr_station.specs.Announced.{AreAnnounced}
 use Rattle.dmr_station.specs.declared.announcing.Message.{Message}
@@ -68,7 +68,7 @@ pub record IsDownlinkOf (s : Settings) (first second : List SlotOut) (gates : Li
 -- What a line that heard nothing gives for slots, one push after another; and by looking back, it is what the rules for voice calls
 -- repeat of them, or else the call hang.
 pub record IsPushedLine (s : Settings) (slots : List (Option (List ℕ))) (outs : List SlotOut) : Type 0 where
-  pub after : Line
+  pub after : LineMemory
   pub pushed : ArePushed (silent_line s.colour s.call_hang) slots outs after
   pub looks_back : IsFrontOfLine s.colour s.call_hang slots outs
 

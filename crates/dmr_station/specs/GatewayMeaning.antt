@@ -6,8 +6,7 @@ use Rattle.std.specs.List.{AllByRecursion, flat_map}
 use Rattle.dmr_burst.specs.declared.burst.Burst.{Burst}
 use Rattle.dmr_arq.specs.declared.sender_state.Outcome.{Outcome}
 use Rattle.dmr_arq.specs.declared.sender_state.Outcome.TheVariants.{Delivered, Sent, GivenUp}
-use Rattle.dmr_record.specs.Outgoing.{Sending, Keeps, sending_of}
-use Rattle.dmr_record.specs.declared.outgoing.Outgoing.{Outgoing}
+use Rattle.dmr_record.specs.Outgoing.{Sending}
 use Rattle.dmr_record.specs.Received.{Receipt}
 use Rattle.dmr_slot.specs.declared.line.SlotOut.{SlotOut}
 use Rattle.dmr_gateway.specs.AttemptMeaning.{attempts, refused_now}
@@ -23,15 +22,6 @@ use Rattle.std.specs.List.{AllZip}
 use Rattle.dmr_station.specs.StationRules.{Settings, Counts, is_free, outcome_count}
 
 -- 1. What is offered.
-
--- A record of the outgoing file as it was read: its fields, the length of its datagram, and the first of its octets.
-pub record IsReadOutgoing (o : Outgoing) (s : Sending) : Type 0 where
-  pub fields : sending_of o s.datagram ≡ s
-  pub keeps : Keeps o s.datagram
-
--- The records that were read stand one by one for those of the outgoing file, and there are as many.
-abbrev pub AreReadFrom : List Outgoing → List Sending → Type 0
-AreReadFrom records sendings = AllZip IsReadOutgoing records sendings
 
 -- Each datagram is for slot 1 or for slot 2.
 abbrev pub AreForSlots : List Sending → Type 0

@@ -14,11 +14,12 @@ use Rattle.dmr_station.specs.Sent.{DownlinkBurst}
 use Rattle.dmr_station.specs.declared.station.Counts.{Counts as StationCounts}
 use Rattle.dmr_station.specs.Clean.{IsCleanDownlink}
 use Rattle.dmr_station.specs.DownlinkRules.{repeated_count, slots_of, Makes}
-use Rattle.dmr_station.specs.StationRules.{Settings, StationMemory, Counts, start, settings_in as settings_remembered}
+use Rattle.dmr_station.specs.StationRules.{Settings, StationMemory, Counts, start, settings_in}
 use Rattle.dmr_station.specs.StationRules.{nothing_counted}
 use Rattle.dmr_station.specs.StationRules.{outcome_count}
 use Rattle.dmr_station.specs.StationRules.{IsAsked, received_of, outcomes_to_tell, received_taken, outcomes_told}
-use Rattle.dmr_station.specs.GatewayMeaning.{AreReadFrom, AreForSlots, receipt_in}
+use Rattle.dmr_station.specs.GatewayMeaning.{AreForSlots, receipt_in}
+use Rattle.dmr_record.specs.Outgoing.{AreReadFrom}
 use Rattle.std.specs.List.{AllZip}
 use Rattle.dmr_station.specs.Sent.{AreSentAs}
 
@@ -49,7 +50,7 @@ fresh s = record { memory = start s; frames = 0; repeated = 0; offered = 0; coun
 
 -- What the rules go by in a station, of what it remembers.
 abbrev pub settings_of_state : State → Settings
-settings_of_state state = settings_remembered state.memory
+settings_of_state state = settings_in state.memory
 
 -- 2. One frame.
 

@@ -1,19 +1,17 @@
 -- The repeater's rules, one frame of the uplink after another.
-use Rattle.std.specs.Prelude.{ℕ, ◌≡◌, ◌+◌, ◌&&◌, Bool, true, false, not, List, [], ◌∷◌, ◌++◌, length, count_by}
-use Rattle.std.specs.Prelude.{Option, Some, None, is_some}
-use Rattle.std.specs.Prelude.{option_to_list, slice_index_or}
+use Rattle.std.specs.Prelude.{ℕ, ◌≡◌, ◌+◌, ◌&&◌, Bool, true, false, not, List, [], ◌∷◌, ◌++◌, count_by, Option, Some, None}
+use Rattle.std.specs.Prelude.{is_some, option_to_list, slice_index_or}
 use Rattle.dmr_burst.specs.declared.burst.Burst.{Burst}
 use Rattle.dmr_arq.specs.declared.sender_state.Outcome.{Outcome}
 use Rattle.dmr_arq.specs.declared.sender_state.Outcome.TheVariants.{Delivered, Sent, GivenUp}
-use Rattle.dmr_gateway.specs.GatewayRules.{Gate, new_gate as silent_gateway, AreOffered, IsAskedFor}
+use Rattle.dmr_gateway.specs.GatewayRules.{Gate, new_gate, IsAskedFor}
 use Rattle.dmr_gateway.specs.SideRules.{all_received, side_told, side_outcome}
 use Rattle.dmr_gateway.specs.declared.config.Config.{Config}
 use Rattle.dmr_gateway.specs.declared.received.Received.{Received}
-use Rattle.dmr_record.specs.declared.outgoing.Outgoing.{Outgoing}
 use Rattle.dmr_slot.specs.ChannelMeaning.{claims_of}
 use Rattle.dmr_slot.specs.ChannelRules.{OnAir, off_air, frame_out, after_frame}
 use Rattle.dmr_slot.specs.Bursts.{AreSent}
-use Rattle.dmr_slot.specs.LineRules.{LineMemory as Line, silent_line, IsPush}
+use Rattle.dmr_slot.specs.LineRules.{LineMemory, silent_line, IsPush}
 use Rattle.dmr_slot.specs.declared.line.SlotOut.{SlotOut}
 use Rattle.dmr_station.specs.Announced.{IsAnnounced}
 use Rattle.dmr_station.specs.declared.announcing.Message.{Message}
@@ -44,8 +42,8 @@ settings_of config =
 -- What is remembered between two frames: the lines of both slots, the channel that they share, the gateway, and the message whose
 -- second half is to come, where the next frame isn't the first of two.
 pub record StationMemory : Type 0 where
-  pub first : Line
-  pub second : Line
+  pub first : LineMemory
+  pub second : LineMemory
   pub channel : OnAir
   pub gate : Gate
   pub kept : Option Message
@@ -56,7 +54,7 @@ start s = record {
   first = silent_line s.colour s.call_hang;
   second = silent_line s.colour s.call_hang;
   channel = off_air s.colour s.channel_hang;
-  gate = silent_gateway s.colour s.llid s.queue;
+  gate = new_gate s.colour s.llid s.queue;
   kept = None;
 }
 
@@ -88,12 +86,6 @@ marked_slots m [] bursts = []
 marked_slots m (out ∷ outs) [] = []
 marked_slots m (out ∷ outs) (burst ∷ bursts) = marked m out burst ∷ marked_slots m outs bursts
 
--- What a frame gives besides its bursts: what was received, what became of packets, and how many datagrams were refused.
-pub record FrameGiven : Type 0 where
-  pub received : List Received
-  pub outcomes : List Outcome
-  pub refused : ℕ
-
 -- What frames count of the gateway: records, packets that were delivered, sent and given up, and offers that were refused.
 pub record Counts : Type 0 where
   pub received : ℕ
@@ -106,17 +98,6 @@ pub record Counts : Type 0 where
 abbrev pub nothing_counted : Counts
 nothing_counted = record { received = 0; delivered = 0; sent = 0; given_up = 0; refused = 0 }
 
--- What two stretches of frames count together, number by number.
-abbrev pub added : Counts → Counts → Counts
-added a b =
-    record {
-      received = a.received + b.received;
-      delivered = a.delivered + b.delivered;
-      sent = a.sent + b.sent;
-      given_up = a.given_up + b.given_up;
-      refused = a.refused + b.refused;
-    }
-
 -- How many of these outcomes are this one.
 abbrev pub outcome_count : Outcome → List Outcome → ℕ
 outcome_count outcome outcomes = count_by (is_outcome outcome) outcomes
@@ -127,22 +108,6 @@ outcome_count outcome outcomes = count_by (is_outcome outcome) outcomes
     is_outcome Sent Sent = true
     is_outcome GivenUp GivenUp = true
     is_outcome outcome other = false
-
--- What one frame counts: its records, its packets by what became of them, and the offers that it refused.
-abbrev pub counted_frame : FrameGiven → Counts
-counted_frame given =
-    record {
-      received = length given.received;
-      delivered = outcome_count Delivered given.outcomes;
-      sent = outcome_count Sent given.outcomes;
-      given_up = outcome_count GivenUp given.outcomes;
-      refused = given.refused;
-    }
-
--- What these frames count together.
-abbrev pub all_counted : List FrameGiven → Counts
-all_counted [] = nothing_counted
-all_counted (given ∷ more) = added (counted_frame given) (all_counted more)
 
 -- The gateway hears what the line of a slot repeats, and is asked for a burst.
 abbrev pub IsSlotAsked : ℕ → SlotOut → Gate → Option Burst → Gate → Type 0
@@ -177,10 +142,6 @@ received_of g = all_received g.first ++ all_received g.second
 abbrev pub outcomes_to_tell : Gate → List Outcome
 outcomes_to_tell g = option_to_list (side_outcome g.first) ++ option_to_list (side_outcome g.second)
 
--- What a frame gives of a gateway that was asked for its bursts, where it refused so many datagrams.
-abbrev pub given_of : ℕ → Gate → FrameGiven
-given_of refused g = record { received = received_of g; outcomes = outcomes_to_tell g; refused = refused }
-
 -- The gateway once all that it received is taken: no status and no packet is left in either slot.
 abbrev pub received_taken : Gate → Gate
 received_taken g =
@@ -189,29 +150,3 @@ received_taken g =
 -- The gateway once it is told in both slots what became of a packet.
 abbrev pub outcomes_told : Gate → Gate
 outcomes_told g = record g { first = side_told g.first; second = side_told g.second }
-
--- What is remembered once all that the gateway received is taken, and what became of packets is told.
-abbrev pub taken_of : StationMemory → StationMemory
-taken_of m = record m { gate = received_taken (outcomes_told m.gate) }
-
--- A frame: datagrams are offered, the frame is passed on, and what the gateway gives is taken.
-pub record IsPassed (before : StationMemory) (offered : List Outgoing) (frame : List (Option (List ℕ)))
-    (sending : List (Option DownlinkBurst)) (given : FrameGiven) (after : StationMemory) : Type 0 where
-  pub offers : Gate
-  pub refused : ℕ
-  pub are_offered : AreOffered offered before.gate refused offers
-  pub asked : StationMemory
-  pub is_asked : IsAsked (record before { gate = offers }) frame sending asked
-  pub gives : given ≡ given_of refused asked.gate
-  pub taken : after ≡ taken_of asked
-
--- 3. Frame after frame, each with the datagrams that are offered in it.
-
--- Each frame goes by what the frames before it left: these datagrams are offered, this goes out, and this is given; and what is
--- remembered behind the last of them.
-abbrev pub ArePassed : StationMemory → List (List Outgoing) → List (List (Option (List ℕ))) → List (List (Option DownlinkBurst)) →
-    List FrameGiven → StationMemory → Type 0
-ArePassed m [] [] [] [] after = after ≡ m
-ArePassed m (offered ∷ offers) (frame ∷ frames) (slots ∷ sending) (given ∷ givens) after =
-    (next : StationMemory) × IsPassed m offered frame slots given next × ArePassed next offers frames sending givens after
-ArePassed m offers frames sending givens after = ⊥

@@ -36,7 +36,7 @@ pub struct Counts {
     pub delivered: u32,
     /// Unconfirmed packets that were sent.
     pub sent: u32,
-    /// Confirmed packets that were given up.
+    /// Packets that were given up: they had no try left.
     pub given_up: u32,
 }
 
@@ -67,7 +67,7 @@ impl Station {
     ghost use Rattle.dmr_station.specs.Station.{fresh, IsOffered, IsExchanged, taken_once, counts_of_gateway};
 
     /// A station that has heard and sent nothing. It takes memory here alone, for each slot's line, and for each slot of
-    /// the gateway.
+    /// the gateway, and an error is that it was refused.
     pub fn new(alloc: Global, config: &Config) -> Result<Station, AllocError>
         ensures fresh { IfOk result (λ station. station ≡ fresh (settings_of config.now)) }
     {

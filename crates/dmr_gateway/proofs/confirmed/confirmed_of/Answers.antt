@@ -19,8 +19,8 @@ long Full = omega arith
 rest_is : (octets : List ℕ) → take (length octets - 2) (drop 2 octets) ≡ drop 2 octets
 rest_is octets = let l = length-drop 2 octets in take_all (length octets - 2) (drop 2 octets) (omega (arith, l))
 
-pub returns-then-mask_of-check : goal.returns-then-mask_of-check
-returns-then-mask_of-check c =
+pub returns-then-mask-check : goal.returns-then-mask-check
+returns-then-mask-check c =
     let octets : List ℕ = c.args.octets.now in
     let rest : take (length octets - 2) (drop 2 octets) ≡ drop 2 octets = rest_is octets in
     let two : 2 ≤ length octets = (let l = long c.args.rate in let w = c.requires.whole in omega (arith, l, w)) in
@@ -42,17 +42,17 @@ returns-then-mask_of-check c =
           Completes crc9_generator (bits_of_octets l ++ bits_of 7 c.next-serial.result) (map not (bits_of 9 n)) → n ≡ c.crc9.result)
           rest c.crc9.ensures.only;
     } in
-    let is : bit_xor c.mask_of.result c.next-check.result ≡ c.crc9.result = c.if-mask_of-check.true in
+    let is : bit_xor c.mask.result c.next-check.result ≡ c.crc9.result = c.if-mask-check.true in
     record {
       tells = subst (λ l. Tells (Some (record { serial = Some c.next-serial.result; octets = l }))
           (IsConfirmedOf c.args.rate octets))
           (sym rest ∙ sym c.from_slice.ensures.value)
           (confirmed_told c.args.rate octets c.next-serial.result c.next-check.result c.crc9.result s
-          (ap (λ m. bit_xor m c.next-check.result) (sym c.mask_of.ensures.value) ∙ is));
+          (ap (λ m. bit_xor m c.next-check.result) (sym c.mask.ensures.value) ∙ is));
     }
 
-pub returns-else-mask_of-check : goal.returns-else-mask_of-check
-returns-else-mask_of-check c =
+pub returns-else-mask-check : goal.returns-else-mask-check
+returns-else-mask-check c =
     let octets : List ℕ = c.args.octets.now in
     let rest : take (length octets - 2) (drop 2 octets) ≡ drop 2 octets = rest_is octets in
     let two : 2 ≤ length octets = (let l = long c.args.rate in let w = c.requires.whole in omega (arith, l, w)) in
@@ -76,5 +76,5 @@ returns-else-mask_of-check c =
     } in
     record {
       tells = unconfirmed_told c.args.rate octets c.next-serial.result c.next-check.result c.crc9.result s
-          (λ e. c.if-mask_of-check.false (ap (λ m. bit_xor m c.next-check.result) c.mask_of.ensures.value ∙ e));
+          (λ e. c.if-mask-check.false (ap (λ m. bit_xor m c.next-check.result) c.mask.ensures.value ∙ e));
     }

@@ -2,7 +2,7 @@
 use Rattle.std.proofs.Common.{◌≡◌, ◌+◌, ◌*◌, ◌-◌, ◌≤◌, List, [], length, false}
 use Rattle.dmr_listing.specs.ListingMeaning.{octet_behind}
 use Rattle.dmr_listing.specs.ListingRules.{IsListed}
-use Rattle.dmr_listing.specs.Recordings.{RecordedSlot, most_slots_of, spelling}
+use Rattle.dmr_listing.specs.Recordings.{RecordedSlot, slot_limit_of, spelling}
 use Rattle.dmr_listing.proofs.listing.list_recording.Given as goal
 
 abbrev pub invariant-loop-slot : goal.invariant-loop-slot
@@ -10,7 +10,7 @@ invariant-loop-slot g l = record {
   source : g.S.Source.has_failed l.source ≡ false;
   lines : g.L.BurstLines.has_failed l.lines ≡ false;
   kept : g.L.BurstLines.kept l.lines ≡ g.L.BurstLines.kept l.initial.lines;
-  few : l.view.slots ≤ most_slots_of l.recording;
+  few : l.view.slots ≤ slot_limit_of l.recording;
   room : l.octet ≤ 8 + 37 * l.view.slots;
   so_far : (slots : List RecordedSlot) × (length slots ≡ l.view.slots) × (l.octet ≡ octet_behind (spelling l.recording) slots)
       × IsListed g.L.BurstLines.Takes l.recording slots [] l.view (g.S.Source.left l.initial.source) (g.S.Source.left l.source)
@@ -18,4 +18,4 @@ invariant-loop-slot g l = record {
 }
 
 abbrev pub decreases-loop-slot : goal.decreases-loop-slot
-decreases-loop-slot g l = most_slots_of l.recording - l.view.slots
+decreases-loop-slot g l = slot_limit_of l.recording - l.view.slots

@@ -17,7 +17,7 @@ returns-then-is_err-clause-output g c =
       between = c.loop-record.lines;
       given = listed.given;
       refused = c.in-Ok-Some.record;
-      same = record { keeps = keeps; same = refl };
+      same = record { fields = refl; keeps = keeps };
       last = search rules;
     }
 

@@ -3,7 +3,8 @@ use Rattle.std.proofs.Common.{◌≡◌, ◌+◌, ◌*◌, ◌-◌, ◌≤◌, L
 use Rattle.dmr_record.specs.Outgoing.{Sending, sending_octets}
 use Rattle.dmr_record.specs.Head.{record_limit}
 use Rattle.dmr_listing.specs.ListingMeaning.{octet_behind}
-use Rattle.dmr_listing.specs.OutgoingListings.{AreSendingsListed, frame_of_last}
+use Rattle.dmr_record.specs.Outgoing.{last_frame}
+use Rattle.dmr_listing.specs.OutgoingListings.{AreSendingsListed}
 use Rattle.dmr_listing.proofs.outgoing_listing.list_outgoing.Given as goal
 
 abbrev pub invariant-loop-record : goal.invariant-loop-record
@@ -13,7 +14,7 @@ invariant-loop-record g l = record {
   kept : g.L.OutgoingLines.kept l.lines ≡ g.L.OutgoingLines.kept l.initial.lines;
   few : l.count ≤ record_limit;
   room : l.octet ≤ 8 + 65544 * l.count;
-  so_far : (sendings : List Sending) × (length sendings ≡ l.count) × (frame_of_last 0 sendings ≡ l.last)
+  so_far : (sendings : List Sending) × (length sendings ≡ l.count) × (last_frame 0 sendings ≡ l.last)
       × (l.octet ≡ octet_behind sending_octets sendings)
       × AreSendingsListed g.L.OutgoingLines.Takes sendings [] (g.S.Source.left l.initial.source) (g.S.Source.left l.source)
       l.initial.lines l.lines;

@@ -1,6 +1,6 @@
 -- The records so far were listed, and the next one begins at this octet.
 use Rattle.std.proofs.Common.{◌≡◌, ◌+◌, ◌*◌, ◌-◌, ◌≤◌, List, [], None, length, false}
-use Rattle.dmr_record.specs.Received.{Receipt, last_read, most_receipts, receipt_octets}
+use Rattle.dmr_record.specs.Received.{Receipt, last_read, received_limit, receipt_octets}
 use Rattle.dmr_listing.specs.ListingMeaning.{octet_behind}
 use Rattle.dmr_listing.specs.ReceivedListings.{AreReceiptsListed, last_fields}
 use Rattle.dmr_listing.proofs.received_listing.list_received.Given as goal
@@ -10,7 +10,7 @@ invariant-loop-received g l = record {
   source : g.S.Source.has_failed l.source ≡ false;
   lines : g.L.ReceivedLines.has_failed l.lines ≡ false;
   kept : g.L.ReceivedLines.kept l.lines ≡ g.L.ReceivedLines.kept l.initial.lines;
-  few : l.count ≤ most_receipts;
+  few : l.count ≤ received_limit;
   room : l.octet ≤ 8 + 65547 * l.count;
   so_far : (receipts : List Receipt) × (length receipts ≡ l.count) × (last_fields None receipts ≡ last_read l.last)
       × (l.octet ≡ octet_behind receipt_octets receipts)
@@ -19,4 +19,4 @@ invariant-loop-received g l = record {
 }
 
 abbrev pub decreases-loop-received : goal.decreases-loop-received
-decreases-loop-received g l = most_receipts - l.count
+decreases-loop-received g l = received_limit - l.count

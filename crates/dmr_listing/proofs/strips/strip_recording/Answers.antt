@@ -3,7 +3,7 @@ use Rattle.std.proofs.lemmas.List.{length_push}
 use Rattle.dmr_listing.specs.ListingMeaning.{place_by_number}
 use Rattle.dmr_listing.specs.ListingRules.{ListingTurn}
 use Rattle.dmr_listing.specs.Recordings.{ShowsSlotFaultOf}
-use Rattle.dmr_listing.specs.Strips.{IsDrawn}
+use Rattle.dmr_listing.proofs.Drawing.{IsDrawn}
 use Rattle.dmr_listing.proofs.Drawing.{drawn_given, drawn_none, drawn_part, drawn_pushed, full_up_to_strip, stripped}
 use Rattle.dmr_listing.proofs.Drawing.{stripped_up_to_strip, turn_later}
 use Rattle.dmr_listing.proofs.Listings.{octets_more}

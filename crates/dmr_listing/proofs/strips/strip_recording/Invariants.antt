@@ -1,8 +1,9 @@
 -- The slots so far were drawn, and the next record begins at this octet.
 use Rattle.std.proofs.Common.{◌≡◌, ◌+◌, ◌*◌, ◌-◌, ◌≤◌, ◌<◌, List, [], length, false}
 use Rattle.dmr_listing.specs.ListingMeaning.{octet_behind}
-use Rattle.dmr_listing.specs.Recordings.{RecordedSlot, most_slots_of, spelling}
-use Rattle.dmr_listing.specs.Strips.{IsDrawn, most_marks}
+use Rattle.dmr_listing.specs.Recordings.{RecordedSlot, slot_limit_of, spelling}
+use Rattle.dmr_listing.specs.Strips.{most_marks}
+use Rattle.dmr_listing.proofs.Drawing.{IsDrawn}
 use Rattle.dmr_listing.proofs.strips.strip_recording.Given as goal
 
 abbrev pub invariant-loop-slot : goal.invariant-loop-slot
@@ -10,7 +11,7 @@ invariant-loop-slot g l = record {
   source : g.S.Source.has_failed l.source ≡ false;
   lines : g.L.StripLines.has_failed l.lines ≡ false;
   kept : g.L.StripLines.kept l.lines ≡ g.L.StripLines.kept l.initial.lines;
-  few : l.view.slots ≤ most_slots_of l.recording;
+  few : l.view.slots ≤ slot_limit_of l.recording;
   room : l.octet ≤ 8 + 37 * l.view.slots;
   free : length l.strip.marks < most_marks;
   so_far : (slots : List RecordedSlot) × (length slots ≡ l.view.slots) × (l.octet ≡ octet_behind (spelling l.recording) slots)
@@ -19,4 +20,4 @@ invariant-loop-slot g l = record {
 }
 
 abbrev pub decreases-loop-slot : goal.decreases-loop-slot
-decreases-loop-slot g l = most_slots_of l.recording - l.view.slots
+decreases-loop-slot g l = slot_limit_of l.recording - l.view.slots

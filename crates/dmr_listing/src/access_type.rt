@@ -2,14 +2,14 @@
 ghost use Rattle.std.specs.Prelude.{◌≡◌, IfSome, IfNone};
 ghost use Rattle.dmr_bits.specs.Bits.{bits_of_octets};
 ghost use Rattle.dmr_burst.specs.Cach.{tact_field};
-ghost use Rattle.dmr_listing.specs.Activity.{AnnouncesActivity, IsNearTact, IsTact};
+ghost use Rattle.dmr_listing.specs.AccessType.{AnnouncesAccessType, IsNearTact, IsTact};
 
 use dmr_bits::{Bits, Writer};
 use dmr_codes::{BlockCode, Hamming7};
 
 /// Whether the CACH before a downlink burst announces the channel as busy, by its bit AT. ETSI TS 102 361-1, clause 9.1.4.
 #[derive(Clone, Copy, Drop)]
-pub enum Activity {
+pub enum AccessType {
     /// AT is 1.
     Busy,
     /// AT is 0.
@@ -43,7 +43,8 @@ pub struct Tact {
     pub lcss: u8,
 }
 
-/// The fields of a CACH, a wrong bit of the seven undone; none where the seven are further from every word.
+/// The fields of a CACH, a wrong bit of the seven undone; none where the seven are further from every word, which no seven bits
+/// are. ETSI TS 102 361-1, clause 9.1.4.
 pub fn read_tact(cach: &[u8; 3]) -> Option<Tact>
     ensures read { IfSome result (λ tact. IsTact (bits_of_octets cach.now) tact) }
     ensures none { IfNone result (IsNearTact (bits_of_octets cach.now) → ⊥) }
@@ -56,14 +57,14 @@ pub fn read_tact(cach: &[u8; 3]) -> Option<Tact>
     })
 }
 
-impl Activity {
+impl AccessType {
     /// What a CACH announces, a wrong bit of the seven undone.
-    pub(crate) fn of_cach(cach: &[u8; 3]) -> Activity
-        ensures read { AnnouncesActivity (bits_of_octets cach.now) result }
+    pub(crate) fn of_cach(cach: &[u8; 3]) -> AccessType
+        ensures read { AnnouncesAccessType (bits_of_octets cach.now) result }
     {
         match Hamming7::decode(&tact_bits(cach)) {
-            Some(word) if word.get(0) => Activity::Busy,
-            _ => Activity::Free,
+            Some(word) if word.get(0) => AccessType::Busy,
+            _ => AccessType::Free,
         }
     }
 }

@@ -3,9 +3,9 @@ use Rattle.std.specs.Prelude.{◌≡◌, ◌≤◌, Bool, true, false, List, sli
 use Rattle.dmr_bits.specs.Bits.{distance, number_of, part}
 use Rattle.dmr_burst.specs.Cach.{tact_field}
 use Rattle.dmr_codes.specs.Seven.{IsHamming7}
-use Rattle.dmr_listing.specs.declared.activity.Activity.{Activity}
-use Rattle.dmr_listing.specs.declared.activity.Activity.TheVariants.{Busy, Free}
-use Rattle.dmr_listing.specs.declared.activity.Tact.{Tact}
+use Rattle.dmr_listing.specs.declared.access_type.AccessType.{AccessType}
+use Rattle.dmr_listing.specs.declared.access_type.AccessType.TheVariants.{Busy, Free}
+use Rattle.dmr_listing.specs.declared.access_type.Tact.{Tact}
 
 -- The word within one bit of the seven has AT, its first bit, set.
 pub record IsBusy (bits : List Bool) : Type 0 where
@@ -15,9 +15,9 @@ pub record IsBusy (bits : List Bool) : Type 0 where
   pub at : slice_index_or word 0 false ≡ true
 
 -- The CACH with these bits announces busy where the Hamming word within one bit of its TACT has AT set, and else free.
-abbrev pub AnnouncesActivity : List Bool → Activity → Type 0
-AnnouncesActivity bits Busy = IsBusy bits
-AnnouncesActivity bits Free = IsBusy bits → ⊥
+abbrev pub AnnouncesAccessType : List Bool → AccessType → Type 0
+AnnouncesAccessType bits Busy = IsBusy bits
+AnnouncesAccessType bits Free = IsBusy bits → ⊥
 
 -- A Hamming word is within one bit of the seven.
 pub record IsNearTact (bits : List Bool) : Type 0 where
