@@ -1,5 +1,5 @@
 -- The repeater's rules, one frame of the uplink after another.
-use Rattle.std.specs.Prelude.{ℕ, ◌≡◌, ◌+◌, ◌&&◌, Bool, true, false, not, List, [], ◌∷◌, ◌++◌, count_by, Option, Some, None}
+use Rattle.std.specs.Prelude.{ℕ, ◌≡◌, ◌&&◌, Bool, true, false, not, List, [], ◌∷◌, ◌++◌, count_by, Option, Some, None}
 use Rattle.std.specs.Prelude.{is_some, option_to_list, slice_index_or}
 use Rattle.dmr_burst.specs.declared.burst.Burst.{Burst}
 use Rattle.dmr_arq.specs.declared.sender_state.Outcome.{Outcome}
