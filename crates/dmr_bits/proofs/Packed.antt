@@ -3,7 +3,7 @@ use Rattle.std.proofs.Common.{◌≡◌, ℕ, ◌+◌, ◌-◌, ◌*◌, ◌^◌
 use Rattle.std.proofs.Common.{length, take, drop, get_or, set, replicate, refl, sym, ap, ◌∙◌, arith}
 use Rattle.std.specs.List.{All}
 use Rattle.std.proofs.lemmas.List.{length-take-le, length-drop, drop-take, take-take, take-append-drop, take_at, drop_at}
-use Rattle.std.proofs.lemmas.List.{append_assoc, drop_more, set_split, replicate-append-replicate}
+use Rattle.std.proofs.lemmas.List.{append_assoc, append-nil, drop_all, drop_more, set_split, replicate-append-replicate}
 use Rattle.std.proofs.lemmas.List.Sums.{sum_by-append}
 use Rattle.std.proofs.lemmas.List.Concat.{flat_map-cons, flat_map-append}
 use Rattle.std.proofs.lemmas.List.Elements.{All-replicate}
@@ -246,6 +246,30 @@ pub copied_length : (m : ℕ) (other : List ℕ) (from to : ℕ) → IsPacked m 
 copied_length m other from to k order bound =
     length-take-le (to - from) (drop from (bits_of_words other))
     (omega (arith, length-drop from (bits_of_words other), length-bits_of_words other, k.long, k.fits))
+
+-- a part alone, in words that held nothing
+pub part_packed : (n m : ℕ) (words new : List ℕ) (from to : ℕ) → IsPacked n words → from ≤ to → to ≤ n → to - from ≡ m
+    → length new ≡ 5 → All (λ word. word < 2 ^ 64) new
+    → bits_of_words new ≡ take 0 (bits_of_words (replicate 5 0))
+    ++ (take (to - from) (drop from (bits_of_words words)) ++ drop (0 + (to - from)) (bits_of_words (replicate 5 0)))
+    → IsPacked m new
+part_packed n m words new from to h order bound fit long small is =
+    put_packed m (replicate 5 0) new (take (to - from) (drop from (bits_of_words words))) 0 (to - from)
+    (zero_packed m (omega (arith, h.fits))) (copied_length n words from to h order bound) (omega arith) long small is
+
+pub part_unpacked : (n m : ℕ) (words new : List ℕ) (from to : ℕ) → IsPacked n words → from ≤ to → to ≤ n → to - from ≡ m
+    → bits_of_words new ≡ take 0 (bits_of_words (replicate 5 0))
+    ++ (take (to - from) (drop from (bits_of_words words)) ++ drop (0 + (to - from)) (bits_of_words (replicate 5 0)))
+    → unpacked m new ≡ part (unpacked n words) from to
+part_unpacked n m words new from to h order bound fit is =
+    let clear : IsPacked m (replicate 5 0) = zero_packed m (omega (arith, h.fits)) in
+    let all : List Bool = part (unpacked n words) from to in
+    let long : length all ≡ to - from =
+    ap length (read_unpacked n words from (to - from) h (omega arith)) ∙ copied_length n words from to h order bound in
+    copied_part m n (replicate 5 0) new words 0 from to clear h order bound (omega arith) is
+    ∙ ap (λ l. all ++ l) (drop_all (0 + length all) (unpacked m (replicate 5 0))
+    (omega (arith, length-unpacked m (replicate 5 0) clear, long)))
+    ∙ append-nil all
 
 pub drop_zeros : (n m : ℕ) → 8 * m ≡ n → n ≤ 320 → bits_of_octets (drop {A = ℕ} m (replicate 40 0)) ≡ replicate (320 - n) false
 drop_zeros n m e h =

@@ -1,5 +1,5 @@
 //! Lists of a fixed number of bits, the highest first.
-ghost use Rattle.std.specs.Prelude.{◌≡◌, ◌+◌, ◌-◌, ◌*◌, ◌^◌, ◌<◌, ◌≤◌, ◌++◌, length, take, drop, replicate, false};
+ghost use Rattle.std.specs.Prelude.{◌≡◌, ◌+◌, ◌-◌, ◌*◌, ◌^◌, ◌<◌, ◌≤◌, ◌++◌, All, length, take, drop, replicate, false};
 ghost use Rattle.std.specs.Prelude.{slice_set, slice_index_or};
 ghost use Rattle.dmr_bits.specs.Bits.{number_of, bits_of, bits_of_octets, octets_of as octets_in, xor_bits, distance, part, put_at};
 
@@ -60,6 +60,7 @@ impl<const N: usize> Bits<N> {
     pub fn octets<const M: usize>(&self) -> [u8; M]
         requires whole { 8 * M ≡ N }
         ensures value { result ≡ octets_in M self.now }
+        ensures octets { All (λ octet. octet < 256) result }
         ensures spelled { bits_of_octets result ≡ self.now }
         ensures length { length self.now ≡ N }
     {
@@ -74,6 +75,7 @@ impl<const N: usize> Bits<N> {
         ensures value { result ≡ N }
         ensures length { length self.now ≡ N }
     {
+        // A value's use of its fields is where a proof learns what always holds of them.
         let _ = &self.words;
         N
     }
@@ -157,11 +159,9 @@ impl<const N: usize> Bits<N> {
         ensures count { length result ≡ to - from }
         ensures length { length self.now ≡ N }
     {
-        // The proof learns here how many bits there may be.
-        let _ = &self.words;
-        let mut bits = Bits::<M>::zero();
-        bits.put_part(0, self, from, to);
-        bits
+        let mut words = [0; 5];
+        copy(&mut words, 0, &self.words, from, to - from);
+        Bits { words }
     }
 
     /// Writes bits from a place on.

@@ -22,9 +22,7 @@ pub(crate) fn word_of<const N: usize, const K: usize, const W: usize>(
     ensures information { (columns : List ℕ) → IsShaped N K columns → are_words N K columns words.now ≡ true
         → take K result ≡ information.now }
 {
-    // The proof learns here how many bits there are.
-    let width = information.len();
-    let word = words[information.field(0, width) as usize];
+    let word = words[information.field(0, K) as usize];
     Bits::<N>::zero().with_field(0, N, u64::from(word))
 }
 
@@ -52,9 +50,7 @@ pub(crate) fn sum_of_words<
         → are_words_each N K (2 ^ LOW) (2 ^ (K - LOW)) columns upper.now ≡ true
         → are_words_each N K 1 (2 ^ LOW) columns lower.now ≡ true → take K result ≡ information.now }
 {
-    // The proof learns here how many bits there are.
-    let width = information.len();
-    let number = information.field(0, width);
+    let number = information.field(0, K);
     let high = upper[(number >> LOW) as usize];
     let low = lower[(number % (1 << LOW)) as usize];
     let high_word = Bits::<N>::zero().with_field(0, N, u64::from(high));

@@ -1,5 +1,5 @@
 //! What the bodies of some blocks mean.
-ghost use Rattle.std.specs.Prelude.{◌≡◌, ◌↔◌, IsSome, IfSome, slice_index_or, false};
+ghost use Rattle.std.specs.Prelude.{◌≡◌, ◌==◌, ◌↔◌, IsSome, IfSome, slice_index_or, false};
 ghost use Rattle.dmr_bits.specs.Bits.{number_of, part, bits_of_octets};
 
 use crate::block::Csbk;
@@ -36,6 +36,14 @@ pub struct Preamble {
 }
 
 impl Csbk {
+    /// Whether the opcode is one of the standard's feature set; a maker's gives the same number another meaning. ETSI TS 102
+    /// 361-1, clause 7.2.
+    pub fn is_standard(&self) -> bool
+        ensures value { result ≡ (self.now.fid == 0) }
+    {
+        self.fid == 0
+    }
+
     /// The body as BS_Dwn_Act, where the opcode says so. It tests the opcode alone.
     pub fn down_act(&self) -> Option<BsDownAct>
         ensures opcode { IsSome result ↔ (self.now.code ≡ 56) }

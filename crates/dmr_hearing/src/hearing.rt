@@ -60,25 +60,10 @@ fn hear_burst(burst: &[u8; 33], colour: u8) -> Heard
     let sync = read_mobile_sync(burst);
     Heard {
         data_burst: hear_data_burst(burst, sync, colour),
-        voice: hear_voice(burst, sync),
+        voice: sync.unwrap_or(false),
         emb: read_emb(burst),
         embedded: read_embedded(burst),
         vocoder: read_vocoder(burst),
-    }
-}
-
-/// Whether a burst, of which this is the sync, has the voice sync of a mobile station.
-fn hear_voice(burst: &[u8; 33], sync: Option<bool>) -> bool
-    requires within { IfSome sync (λ voice. HasSync (record { side = side.Ms; voice = voice }) (bits_of_octets burst.now)) }
-    requires only { (voice : Bool) → HasSync (record { side = side.Ms; voice = voice }) (bits_of_octets burst.now)
-        → sync ≡ Some voice }
-    ensures voice { IsTrue result ↔ HasSync (record { side = side.Ms; voice = true }) (bits_of_octets burst.now) }
-    ensures data { HasSync (record { side = side.Ms; voice = false }) (bits_of_octets burst.now) → result ≡ false }
-{
-    let _ = burst;
-    match sync {
-        Some(voice) => voice,
-        None => false,
     }
 }
 

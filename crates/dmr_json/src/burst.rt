@@ -5,7 +5,7 @@ use crate::link_control::LinkControl;
 use crate::place::PlaceKeys;
 use crate::values::{Hex, Known};
 use crate::wrong::WrongObject;
-use dmr_burst::{Emb, Side, SlotType};
+use dmr_burst::{Emb, Side};
 use dmr_link::FullLc;
 use dmr_listing::{BurstLine, BurstName, RecordedBurst, VoicePlace};
 use dmr_report::Reading;
@@ -29,15 +29,6 @@ fn side_value(reading: Reading) -> &'static str {
                 Side::Ms => "\"MS\"",
             },
         Reading::Voice(_) | Reading::Unreadable => "null",
-    }
-}
-
-/// The colour code that was read of a burst.
-fn colour_of(reading: Reading) -> Option<u8> {
-    match reading {
-        Reading::Data(_, SlotType { colour, .. }, _) => Some(colour),
-        Reading::Voice(Emb { colour, .. }) => Some(colour),
-        Reading::Untyped(_) | Reading::VoiceSync(_) | Reading::Unreadable => None,
     }
 }
 
@@ -88,7 +79,7 @@ struct SideKeys(Reading);
 impl fmt::Display for SideKeys {
     fn fmt<W: fmt::Write>(&self, f: &mut fmt::Formatter<W>) -> fmt::Result {
         let side = side_value(self.0);
-        let colour = Known(colour_of(self.0));
+        let colour = Known(self.0.colour_code());
         write!(f, "\"side\":{side},\"colour\":{colour}")
     }
 }

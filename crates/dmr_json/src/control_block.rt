@@ -7,9 +7,6 @@ use std::fmt;
 #[derive(Clone, Copy, Drop)]
 pub(crate) struct ControlBlock(pub(crate) Csbk);
 
-/// The feature set of the standard, whose opcodes have meanings here.
-const STANDARD: u8 = 0;
-
 /// What a preamble means.
 #[derive(Clone, Copy, Drop)]
 struct PreambleObject(Preamble);
@@ -47,7 +44,7 @@ struct MeaningKey(Csbk);
 impl fmt::Display for MeaningKey {
     fn fmt<W: fmt::Write>(&self, f: &mut fmt::Formatter<W>) -> fmt::Result {
         let block = self.0;
-        if block.fid != STANDARD {
+        if !block.is_standard() {
             return Ok(());
         }
         if let Some(preamble) = block.preamble() {

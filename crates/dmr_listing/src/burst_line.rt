@@ -98,15 +98,6 @@ fn side_letters(reading: Reading) -> &'static str {
     }
 }
 
-/// The colour code that was read of a burst.
-fn colour_of(reading: Reading) -> Option<u8> {
-    match reading {
-        Reading::Data(_, SlotType { colour, .. }, _) => Some(colour),
-        Reading::Voice(Emb { colour, .. }) => Some(colour),
-        Reading::Untyped(_) | Reading::VoiceSync(_) | Reading::Unreadable => None,
-    }
-}
-
 /// The details of a line.
 #[derive(Clone, Copy, Drop)]
 struct Details<'a>(&'a BurstLine);
@@ -171,7 +162,7 @@ impl fmt::Display for BurstLine {
     /// Time, frame, slot, side, colour code, name, details and wrong bits, in columns; the line ends with no space.
     fn fmt<W: fmt::Write>(&self, f: &mut fmt::Formatter<W>) -> fmt::Result {
         let side = SideAndAccessType(self.reading, self.access_type);
-        let colour = Colour(colour_of(self.reading));
+        let colour = Colour(self.reading.colour_code());
         let mut name: ArrayString<16> = ArrayString::new();
         let mut details: ArrayString<192> = ArrayString::new();
         write!(name, "{}", BurstName(self.reading, self.voice_place))?;

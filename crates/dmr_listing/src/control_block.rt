@@ -8,9 +8,6 @@ use std::fmt;
 #[derive(Clone, Copy, Drop)]
 pub(crate) struct ControlBlock(pub(crate) Csbk);
 
-/// The feature set of the standard, whose opcodes have meanings here.
-const STANDARD: u8 = 0;
-
 /// What follows a preamble: the blocks of a packet, or control signalling blocks.
 fn name_of_rest(packet: bool) -> &'static str {
     if packet { "data" } else { "CSBKs" }
@@ -30,7 +27,7 @@ fn write_preamble<W: fmt::Write>(preamble: &Preamble, f: &mut fmt::Formatter<W>)
 impl fmt::Display for ControlBlock {
     fn fmt<W: fmt::Write>(&self, f: &mut fmt::Formatter<W>) -> fmt::Result {
         let ControlBlock(block) = *self;
-        if block.fid == STANDARD {
+        if block.is_standard() {
             if let Some(preamble) = block.preamble() {
                 return write_preamble(&preamble, f);
             }

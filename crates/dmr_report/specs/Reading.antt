@@ -1,5 +1,5 @@
 -- What a burst is read as.
-use Rattle.std.specs.Prelude.{◌≡◌, ◌==◌, ◌||◌, ℕ, Bool, true, false, not, List}
+use Rattle.std.specs.Prelude.{◌≡◌, ◌==◌, ◌||◌, ℕ, Bool, true, false, not, List, Option, Some, None}
 use Rattle.dmr_bptc.specs.Decoding.{IsDecoded}
 use Rattle.dmr_burst.specs.DataTypes as data_type
 use Rattle.dmr_burst.specs.Emb.{HasEmb}
@@ -13,6 +13,14 @@ use Rattle.dmr_report.specs.declared.reading.Information.{Information}
 use Rattle.dmr_report.specs.declared.reading.Information.TheVariants.{Coded, AsReceived}
 use Rattle.dmr_report.specs.declared.reading.Reading.{Reading}
 use Rattle.dmr_report.specs.declared.reading.Reading.TheVariants.{Data, Untyped, VoiceSync, Voice, Unreadable}
+
+-- the colour code that a slot type or an EMB names
+abbrev pub named_colour : Reading → Option ℕ
+named_colour (Data side slot_type information) = Some slot_type.colour
+named_colour (Voice emb) = Some emb.colour
+named_colour (Untyped side) = None
+named_colour (VoiceSync side) = None
+named_colour Unreadable = None
 
 -- no word of a sync is near
 abbrev pub IsWithoutSync : List Bool → Type 0

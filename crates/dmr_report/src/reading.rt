@@ -2,7 +2,7 @@
 ghost use Rattle.std.specs.Prelude.{◌≡◌, false};
 ghost use Rattle.dmr_bits.specs.Bits.{bits_of_octets};
 ghost use Rattle.dmr_burst.specs.Sync.{HasSync};
-ghost use Rattle.dmr_report.specs.Reading.{IsInformation, IsReadAs, is_coded, IsWithoutSync};
+ghost use Rattle.dmr_report.specs.Reading.{IsInformation, IsReadAs, is_coded, named_colour, IsWithoutSync};
 
 use dmr_bits::Bits;
 use dmr_bptc::bptc_decode;
@@ -33,6 +33,19 @@ pub enum Reading {
     Voice(Emb),
     /// None of these, or one that is too damaged.
     Unreadable,
+}
+
+impl Reading {
+    /// The colour code, which a slot type and an EMB name.
+    pub fn colour_code(&self) -> Option<u8>
+        ensures value { result ≡ named_colour self.now }
+    {
+        match *self {
+            Reading::Data(_, SlotType { colour, .. }, _) => Some(colour),
+            Reading::Voice(Emb { colour, .. }) => Some(colour),
+            Reading::Untyped(_) | Reading::VoiceSync(_) | Reading::Unreadable => None,
+        }
+    }
 }
 
 /// What the information of a data burst of this type is.

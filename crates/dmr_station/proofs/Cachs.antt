@@ -2,9 +2,16 @@
 use Rattle.std.proofs.Common.{◌≡◌, ℕ, zero, suc, ◌%◌, ◌<◌, ◌==◌, Bool, List, [], ◌∷◌, length, slice_index_or}
 use Rattle.std.proofs.Common.{if◌then◌else◌, ap, subst, arith}
 use Rattle.std.proofs.lemmas.List.{get_or_default}
+use Rattle.std.proofs.lemmas.List.Elements.{All-cons, All-nil}
+use Rattle.std.specs.List.{All}
 use Rattle.dmr_bits.specs.Bits.{bits_of_octets}
 use Rattle.dmr_burst.specs.Cach.{IsCach}
-use Rattle.dmr_station.specs.Sent.{AreCachs, fragment_lcss}
+use Rattle.dmr_station.specs.Sent.{AreCachs, FitOctets, fragment_lcss}
+
+pub four_octets : (a b c d : List ℕ) → FitOctets a → FitOctets b → FitOctets c → FitOctets d → All FitOctets (a ∷ b ∷ c ∷ d ∷ [])
+four_octets a b c d h i j k =
+    All-cons FitOctets a (b ∷ c ∷ d ∷ []) h
+    (All-cons FitOctets b (c ∷ d ∷ []) i (All-cons FitOctets c (d ∷ []) j (All-cons FitOctets d [] k (All-nil FitOctets))))
 
 pub with_fragment : (busy odd : Bool) (lcss : ℕ) (fragments : List (List Bool)) (place : ℕ) (other : List Bool) (cach : List Bool)
     → place < 4 → length fragments ≡ 4 → IsCach busy odd lcss (slice_index_or fragments place other) cach

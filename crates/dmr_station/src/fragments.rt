@@ -1,8 +1,8 @@
 //! The fragments of the message that is announced, one in the CACH of each record.
-ghost use Rattle.std.specs.Prelude.{◌≡◌, ◌<◌, ◌%◌, ◌==◌};
+ghost use Rattle.std.specs.Prelude.{◌≡◌, ◌<◌, ◌%◌, ◌==◌, All};
 ghost use Rattle.dmr_bits.specs.Bits.{bits_of_octets};
 ghost use Rattle.dmr_burst.specs.Cach.{IsCach};
-ghost use Rattle.dmr_station.specs.Sent.{AreCachs, fragment_lcss};
+ghost use Rattle.dmr_station.specs.Sent.{AreCachs, FitOctets, fragment_lcss};
 
 use crate::announcing::Message;
 use dmr_bits::Bits;
@@ -22,15 +22,16 @@ pub struct Fragments {
 
 // Clauses see the message.
 impl Model for Fragments {
-    ghost use Rattle.std.specs.Prelude.{false, true};
-    ghost use Rattle.dmr_station.specs.Sent.{CarryMessage};
+    ghost use Rattle.std.specs.Prelude.{All, false, true};
+    ghost use Rattle.dmr_station.specs.Sent.{CarryMessage, FitOctets};
     ghost use Rattle.dmr_station.specs.declared.announcing.Message.{Message};
 
     ghost Value = { Message };
 
     ghost view = { λ f. f.message };
 
-    ghost invariant = { λ f. CarryMessage false f.message f.free × CarryMessage true f.message f.busy };
+    ghost invariant = { λ f. CarryMessage false f.message f.free × CarryMessage true f.message f.busy
+        × All FitOctets f.free × All FitOctets f.busy };
 }
 
 impl Fragments {
@@ -69,6 +70,7 @@ impl Fragments {
 
     /// The CACH of a record.
     pub(crate) fn cach(&self, busy: bool, place: u32) -> [u8; 3]
+        ensures octets { FitOctets result }
         ensures cach { IsCachOf busy self.now place result }
     {
         if busy {
@@ -81,6 +83,7 @@ impl Fragments {
 
 /// The CACHs with these fragments.
 fn cachs(busy: bool, fragments: &[Bits<17>; 4]) -> [[u8; 3]; 4]
+    ensures octets { All FitOctets result }
     ensures cachs { AreCachs busy fragments.now result }
 {
     [
@@ -93,6 +96,7 @@ fn cachs(busy: bool, fragments: &[Bits<17>; 4]) -> [[u8; 3]; 4]
 
 /// The CACH of a record at this place, with this fragment.
 fn cach_at(busy: bool, place: u32, fragment: &Bits<17>) -> [u8; 3]
+    ensures octets { FitOctets result }
     ensures cach { IsCach busy (place % 2 == 1) (fragment_lcss place) fragment.now (bits_of_octets result) }
 {
     cach(

@@ -3,7 +3,7 @@ ghost use Rattle.std.specs.Prelude.{◌≡◌, ◌≤◌, ◌<◌, ◌^◌, ◌+
 ghost use Rattle.dmr_burst.specs.Burst.{IsBurst};
 ghost use Rattle.dmr_station.specs.Announced.{IsFitMessage};
 ghost use Rattle.dmr_station.specs.DownlinkRules.{is_repeated as slot_is_repeated, repeated_count};
-ghost use Rattle.dmr_station.specs.Sent.{FitOctets, AreSentAs, IsSentAs};
+ghost use Rattle.dmr_station.specs.Sent.{AreSentAs, IsSentAs};
 ghost use Rattle.dmr_station.specs.StationRules.{marked, marked_slots};
 ghost use Rattle.dmr_station.specs.declared.announcing.Message.{Message};
 
@@ -11,13 +11,6 @@ use crate::announcing::Message;
 use crate::fragments::Fragments;
 use dmr_burst::{Burst, Side, encode_burst};
 use dmr_slot::SlotOut;
-
-/// Tells the proof that octets are below 256, which the array that a call gives doesn't.
-fn below_256(octets: &[u8])
-    ensures octets { FitOctets octets.now }
-{
-    let _count = octets.len();
-}
 
 /// The octets of a slot that sends this burst, which is the record at this place of the downlink, counted from 0. Its CACH tells
 /// whether its line repeats a burst, and carries a fragment of the message.
@@ -35,13 +28,8 @@ fn encode_slot(
     match burst {
         Some(burst) => {
             fragments.take(message);
-            let sent = (
-                fragments.cach(out.repeated.is_some(), place),
-                encode_burst(burst, Side::Bs),
-            );
-            below_256(&sent.0);
-            below_256(&sent.1);
-            Some(sent)
+            let cach = fragments.cach(out.repeated.is_some(), place);
+            Some((cach, encode_burst(burst, Side::Bs)))
         }
         None => None,
     }

@@ -41,10 +41,7 @@ fn fields_of(link_control: &FullLc) -> [u32; 4]
     requires fit { link_control.now.flco < 64 }
     ensures carrier { IsCarrier link_control.now result }
 {
-    let fields = embed(&link_control.octets());
-    // The proof learns here that they are four numbers of 32 bits.
-    let _first = pick_field(&fields, Place::B);
-    fields
+    embed(&link_control.octets())
 }
 
 impl Carrier {

@@ -6,6 +6,7 @@ ghost use Rattle.std.specs.Prelude.{◌≡◌, ◌<◌, ◌≤◌, ◌+◌, ◌-
 ghost use Rattle.dmr_bits.specs.Bits.{bits_of};
 ghost use Rattle.dmr_bptc.specs.Spread.{four};
 ghost use Rattle.dmr_bptc.specs.ProductWord.{cell};
+ghost use Rattle.dmr_bptc.specs.Rows.{AreRows, laid};
 
 use crate::table::Table;
 use dmr_bits::Bits;
@@ -136,9 +137,7 @@ pub(crate) fn sent_bits(table: &Table) -> Bits<196>
     ensures value { result ≡ table.now }
     ensures long { length result ≡ 196 }
 {
-    // The proof learns here that there are 196 bits.
-    let _ = &table.rows;
-    let cells = cells_of(table);
+    let cells = cells_of(&table.rows);
     let mut first = 0;
     let mut second = 0;
     let mut third = 0;
@@ -169,28 +168,31 @@ fn in_lines(cells: u64) -> u64
     IN_LINES[cells as usize]
 }
 
-/// The cells of a table, row by row.
+/// The cells of a table of these rows, row by row.
 #[inline(always)]
-fn cells_of(table: &Table) -> Bits<195>
-    ensures cells { (k : ℕ) → k < 195 → slice_index_or result k false ≡ cell table.now (k / 15) (k % 15) }
+fn cells_of(rows: &[u64; 13]) -> Bits<195>
+    requires rows { AreRows rows.now }
+    ensures cells { (k : ℕ) → k < 195 → slice_index_or result k false ≡ cell (laid rows.now) (k / 15) (k % 15) }
 {
     let mut cells = Bits::<195>::zero();
     for group in 0..3 {
-        cells = cells.with_field(60 * group, 60, four_rows(table, 4 * group));
+        cells = cells.with_field(60 * group, 60, four_rows(rows, 4 * group));
     }
-    cells.with_field(180, 15, table.rows[12])
+    cells.with_field(180, 15, rows[12])
 }
 
 /// The number that the cells of four rows spell.
 #[inline(always)]
-fn four_rows(table: &Table, from: usize) -> u64
+fn four_rows(rows: &[u64; 13], from: usize) -> u64
+    requires rows { AreRows rows.now }
     requires inside { from ≤ 9 }
     ensures fits { result < 2 ^ 60 }
-    ensures cells { (k : ℕ) → k < 60 → slice_index_or (bits_of 60 result) k false ≡ cell table.now (from + k / 15) (k % 15) }
+    ensures cells { (k : ℕ) → k < 60
+        → slice_index_or (bits_of 60 result) k false ≡ cell (laid rows.now) (from + k / 15) (k % 15) }
 {
     let mut number = 0;
     for row in from..from + 4 {
-        number = number * 32768 + table.rows[row];
+        number = number * 32768 + rows[row];
     }
     number
 }

@@ -68,6 +68,7 @@ fn preamble_of_a_packet(rt: HostRuntime) {
         target: 2,
         source: 1,
     };
+    assert!(rt; preamble.is_standard());
     assert!(rt; preamble.preamble() == Some(meaning));
     assert!(rt; preamble.down_act() == None);
 }

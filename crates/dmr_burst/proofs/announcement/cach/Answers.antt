@@ -20,6 +20,7 @@ returns c =
     let word : tact_field (bits_of_octets c.octets.result) ≡ c.tact_word.result =
     ap tact_field made ∙ tact_in_order tact fragment c.put.ensures.count in
     record {
+      octets = c.octets.ensures.octets;
       fields = record {
         long = ap length made;
         word = subst IsHamming7 (sym word) c.tact_word.ensures.word;

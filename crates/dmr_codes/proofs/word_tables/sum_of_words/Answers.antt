@@ -9,7 +9,7 @@ use Rattle.dmr_codes.proofs.word_tables.sum_of_words.Goals as goal
 
 pub bounds-upper-number : goal.bounds-upper-number
 bounds-upper-number g c =
-    let small : c.field-number.result < 2 ^ g.row.K = rw c.len-width.ensures.value at c.field-number.ensures.bound in
+    let small : c.field-number.result < 2 ^ g.row.K = c.field-number.ensures.bound in
     rw c.requires.upper_count (high_small g.row.K g.row.LOW c.field-number.result c.requires.low small)
 
 pub returns-clause-word : goal.returns-clause-word
@@ -18,7 +18,7 @@ returns-clause-word g c = λ columns shaped high rest.
     let a : ℕ = get_or c.args.upper.now (n / 2 ^ g.row.LOW) 0 in
     let b : ℕ = get_or c.args.lower.now (n % 2 ^ g.row.LOW) 0 in
     let few : g.row.LOW ≤ 32 = omega (arith, c.requires.low, c.requires.places, c.requires.narrow) in
-    let small : n < 2 ^ g.row.K = rw c.len-width.ensures.value at c.field-number.ensures.bound in
+    let small : n < 2 ^ g.row.K = c.field-number.ensures.bound in
     let first : c.with_field-high_word.result ≡ bits_of g.row.N a =
     c.with_field-high_word.ensures.value ∙ rw c.zero.ensures.value (whole_field g.row.N c.from.result)
     ∙ ap (bits_of g.row.N) c.from.ensures in
@@ -38,7 +38,7 @@ returns-clause-information g c = λ columns shaped high rest.
     let a : ℕ = get_or c.args.upper.now (n / 2 ^ g.row.LOW) 0 in
     let b : ℕ = get_or c.args.lower.now (n % 2 ^ g.row.LOW) 0 in
     let few : g.row.LOW ≤ 32 = omega (arith, c.requires.low, c.requires.places, c.requires.narrow) in
-    let small : n < 2 ^ g.row.K = rw c.len-width.ensures.value at c.field-number.ensures.bound in
+    let small : n < 2 ^ g.row.K = c.field-number.ensures.bound in
     let first : c.with_field-high_word.result ≡ bits_of g.row.N a =
     c.with_field-high_word.ensures.value ∙ rw c.zero.ensures.value (whole_field g.row.N c.from.result)
     ∙ ap (bits_of g.row.N) c.from.ensures in
@@ -52,4 +52,4 @@ returns-clause-information g c = λ columns shaped high rest.
     (sum_information g.row.N g.row.K g.row.LOW n columns c.args.upper.now c.args.lower.now shaped high rest
     (high_small g.row.K g.row.LOW n c.requires.low small)
     ∙ bits_of_field g.row.K c.args.information.now n c.field-number.ensures.length
-    (rw c.len-width.ensures.value at c.field-number.ensures.value))
+    c.field-number.ensures.value)

@@ -9,7 +9,7 @@ use Rattle.dmr_codes.proofs.word_tables.word_of.Goals as goal
 pub returns-clause-word : goal.returns-clause-word
 returns-clause-word g c = λ columns shaped are.
     let i : ℕ = c.field.result in
-    let small : i < 2 ^ g.row.K = rw c.len-width.ensures.value at c.field.ensures.bound in
+    let small : i < 2 ^ g.row.K = c.field.ensures.bound in
     let whole : c.with_field.result ≡ bits_of g.row.N (get_or c.args.words.now i 0) =
     c.with_field.ensures.value ∙ rw c.zero.ensures.value (whole_field g.row.N c.from.result)
     ∙ ap (bits_of g.row.N) c.from.ensures in
@@ -18,10 +18,10 @@ returns-clause-word g c = λ columns shaped are.
 pub returns-clause-information : goal.returns-clause-information
 returns-clause-information g c = λ columns shaped are.
     let i : ℕ = c.field.result in
-    let small : i < 2 ^ g.row.K = rw c.len-width.ensures.value at c.field.ensures.bound in
+    let small : i < 2 ^ g.row.K = c.field.ensures.bound in
     let whole : c.with_field.result ≡ bits_of g.row.N (get_or c.args.words.now i 0) =
     c.with_field.ensures.value ∙ rw c.zero.ensures.value (whole_field g.row.N c.from.result)
     ∙ ap (bits_of g.row.N) c.from.ensures in
     rw whole
     (front_at g.row.N g.row.K columns c.args.words.now i shaped are small
-    ∙ bits_of_field g.row.K c.args.information.now i c.field.ensures.length (rw c.len-width.ensures.value at c.field.ensures.value))
+    ∙ bits_of_field g.row.K c.args.information.now i c.field.ensures.length c.field.ensures.value)

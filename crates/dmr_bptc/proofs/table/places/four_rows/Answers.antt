@@ -2,6 +2,7 @@ use Rattle.std.proofs.Common.{◌≡◌, ℕ, ◌+◌, ◌-◌, ◌*◌, ◌/◌
 use Rattle.std.proofs.Math.Pow.{pow_mono}
 use Rattle.dmr_bits.specs.Bits.{bits_of}
 use Rattle.dmr_bptc.specs.ProductWord.{cell}
+use Rattle.dmr_bptc.specs.Rows.{laid}
 use Rattle.dmr_bptc.proofs.Numbered.{joined_fits, joined_more}
 use Rattle.dmr_bptc.proofs.RowNumbers.{cell_laid}
 use Rattle.dmr_bptc.proofs.table.places.four_rows.Goals as goal
@@ -12,8 +13,8 @@ overflow_mul-number c =
 
 pub overflow_add-number : goal.overflow_add-number
 overflow_add-number c =
-    let n : ℕ = get_or c.table.inside.rows c.loop-row.row 0 in
-    let small : n < 2 ^ 15 = c.table.invariant.small c.loop-row.row 0 (omega (arith, c.table.invariant.long, c.requires.inside)) in
+    let n : ℕ = get_or c.args.rows.now c.loop-row.row 0 in
+    let small : n < 2 ^ 15 = c.requires.rows.small c.loop-row.row 0 (omega (arith, c.requires.rows.long, c.requires.inside)) in
     omega (arith, small, c.loop-row.invariant.fits, pow_mono {i = 15 * (c.loop-row.row - c.args.from)} {j = 45} (omega arith))
 
 pub loop-row-preserved : goal.loop-row-preserved
@@ -22,9 +23,9 @@ loop-row-preserved c =
     let r : ℕ = c.loop-row.row in
     let w : ℕ = 15 * (r - from) in
     let n : ℕ = c.loop-row.number in
-    let m : ℕ = get_or c.table.inside.rows r 0 in
-    let small : m < 2 ^ 15 = c.table.invariant.small r 0 (omega (arith, c.table.invariant.long, c.requires.inside)) in
-    let f : ℕ → Bool = λ k. cell c.args.table.now (from + k / 15) (k % 15) in
+    let m : ℕ = get_or c.args.rows.now r 0 in
+    let small : m < 2 ^ 15 = c.requires.rows.small r 0 (omega (arith, c.requires.rows.long, c.requires.inside)) in
+    let f : ℕ → Bool = λ k. cell (laid c.args.rows.now) (from + k / 15) (k % 15) in
     let next : w + 15 ≡ 15 * (r + 1 - from) = omega arith in
     record {
       fits = subst (λ (k : ℕ). n * 32768 + m < 2 ^ k) next (joined_fits w 15 n m c.loop-row.invariant.fits small);
@@ -32,8 +33,8 @@ loop-row-preserved c =
           ∙ joined_more f w 15 n m small c.loop-row.invariant.cells
           (λ i l. let line : r ≡ from + (w + i) / 15 = omega arith in
           let across : i ≡ (w + i) % 15 = omega arith in
-          sym (cell_laid c.table.inside.rows r i (omega (arith, c.requires.inside)) l) ∙ ap (λ b. cell b r i) c.table.view_is
-          ∙ ap (λ j. cell c.args.table.now j i) line ∙ ap (cell c.args.table.now (from + (w + i) / 15)) across)
+          sym (cell_laid c.args.rows.now r i (omega (arith, c.requires.inside)) l)
+          ∙ ap (λ j. cell (laid c.args.rows.now) j i) line ∙ ap (cell (laid c.args.rows.now) (from + (w + i) / 15)) across)
           k (omega arith);
     }
 

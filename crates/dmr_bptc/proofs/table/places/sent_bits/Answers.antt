@@ -49,7 +49,7 @@ returns c =
     let m : ℕ = 3 * c.loop-group.group in
     let end : m ≡ 15 = omega arith in
     let is : (k : ℕ) → k < 195 → get_or cells k false ≡ cell (laid rows) (k / 15) (k % 15) =
-    λ k h. c.cells_of-cells.ensures.cells k h ∙ ap (λ l. cell l (k / 15) (k % 15)) (sym c.table.view_is) in
+    λ k h. c.cells_of-cells.ensures.cells k h in
     let F : ℕ → Bool = λ p. get_or (laid rows) p false in
     let long : length (laid rows) ≡ 196 = length-laid rows in
     let at_first = field_more F c.zero.result 1 60 c.loop-group.first (omega (arith, c.with_field-four.ensures.length))
