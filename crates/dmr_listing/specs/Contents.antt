@@ -72,4 +72,4 @@ pub record HoldsContents (kind : ℕ) (bits : List Bool) (contents : Contents) :
   pub data_header : kind ≡ data_type.data_header → HoldsDataHeader bits contents
   pub idle : kind ≡ data_type.idle → HoldsUntold bits contents
   pub other : IsOther kind → HoldsOctets bits contents
-  pub uncoded : is_coded kind ≡ false → contents ≡ AsReceived
+  pub as_received : is_coded kind ≡ false → contents ≡ AsReceived
