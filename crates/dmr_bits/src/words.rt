@@ -1,5 +1,5 @@
 //! Numbers in five words of 64 bits, which are one list, the highest bit of the first word first.
-ghost use Rattle.std.specs.Prelude.{◌≡◌, ◌+◌, ◌-◌, ◌*◌, ◌/◌, ◌%◌, ◌^◌, ◌<◌, ◌≤◌, ◌++◌, All, length, take, drop};
+ghost use Rattle.std.specs.Prelude.{◌≡◌, ◌+◌, ◌-◌, ◌/◌, ◌%◌, ◌^◌, ◌<◌, ◌≤◌, ◌++◌, All, length, take, drop};
 ghost use Rattle.dmr_bits.specs.Bits.{bits_of};
 ghost use Rattle.dmr_bits.specs.Words.{word_bits, bits_of_words};
 

@@ -1,5 +1,5 @@
 //! The table of 13 rows and 15 columns: its cells, its rows and its columns.
-ghost use Rattle.std.specs.Prelude.{◌≡◌, ◌≢◌, ◌<◌, ◌^◌, ℕ, false, length, slice_index_or};
+ghost use Rattle.std.specs.Prelude.{◌≡◌, ◌≢◌, ◌<◌, ◌^◌, ℕ, false, slice_index_or};
 ghost use Rattle.dmr_bits.specs.Bits.{bits_of};
 ghost use Rattle.dmr_bptc.specs.ProductWord.{cell, row};
 

@@ -1,5 +1,5 @@
 //! Words looked up: a code of few words by a table of them, and what is wrong by a table over the checks.
-ghost use Rattle.std.specs.Prelude.{◌≡◌, ◌-◌, ◌*◌, ◌^◌, ◌≤◌, IfSome, IsTrue, ℕ, List, Bool, Some, nat_lt, take, true};
+ghost use Rattle.std.specs.Prelude.{◌≡◌, ◌-◌, ◌^◌, ◌≤◌, IfSome, IsTrue, ℕ, List, Bool, Some, nat_lt, take, true};
 ghost use Rattle.std.specs.List.{list_all};
 ghost use Rattle.dmr_bits.specs.Bits.{distance};
 ghost use Rattle.dmr_codes.specs.Code.{IsWord, IsShaped};

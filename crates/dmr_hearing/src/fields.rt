@@ -1,6 +1,5 @@
 //! The link control that four embedded fields carry.
 ghost use Rattle.std.specs.Prelude.{◌≡◌, Some};
-ghost use Rattle.dmr_embedded.specs.Extracting.{IsExtracted};
 ghost use Rattle.dmr_hearing.specs.Fields.{IsReadFrom, IsReceived};
 ghost use Rattle.dmr_link.specs.declared.full_lc.FullLc.{FullLc};
 

@@ -2,7 +2,7 @@
 use crate::access_type::AccessType;
 use crate::contents::Contents;
 use crate::link_control::LinkControl;
-use crate::place::{Place, Seconds};
+use crate::place::Place;
 use crate::voice_place::VoicePlace;
 use crate::wrong::Wrong;
 use arrayvec::ArrayString;

@@ -1,6 +1,6 @@
 //! The eight octets that begin each file.
 
-ghost use Rattle.std.specs.Prelude.{◌≡◌, ◌≢◌, List, ℕ, false, true, length, IfOk, IfErr, IfSome, IfNone, OnOk, OnErr};
+ghost use Rattle.std.specs.Prelude.{◌≡◌, ◌≢◌, List, ℕ, false, true, IfOk, IfErr, IfSome, IfNone, OnOk, OnErr};
 ghost use Rattle.std.specs.Io.KnownBytes.{Consumes, Appends, IsAtEnd};
 ghost use Rattle.dmr_record.specs.Devices.{Tears};
 ghost use Rattle.dmr_record.specs.Faults.{is_of_end, is_device_fault};

@@ -1,7 +1,6 @@
 //! Lines of text.
 ghost use Rattle.std.specs.Prelude.{◌≡◌, false, true, OnOk, OnErr};
 ghost use Rattle.std.specs.Io.KnownBytes.{Appends};
-ghost use Rattle.dmr_record.specs.Devices.{Tears};
 ghost use Rattle.dmr_report.specs.Line.{IsOneLine, error_octets, first_line, line_octets};
 ghost use Rattle.dmr_report.specs.Status.{failure};
 

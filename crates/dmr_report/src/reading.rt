@@ -2,7 +2,7 @@
 ghost use Rattle.std.specs.Prelude.{◌≡◌, false};
 ghost use Rattle.dmr_bits.specs.Bits.{bits_of_octets};
 ghost use Rattle.dmr_burst.specs.Sync.{HasSync};
-ghost use Rattle.dmr_report.specs.Reading.{IsInformation, IsReadAs, is_coded, named_colour, IsWithoutSync};
+ghost use Rattle.dmr_report.specs.Reading.{IsInformation, IsReadAs, named_colour, IsWithoutSync};
 
 use dmr_bits::Bits;
 use dmr_bptc::bptc_decode;

@@ -1,5 +1,5 @@
 //! What the channel announces of the calls in its slots.
-ghost use Rattle.std.specs.Prelude.{◌≡◌, ◌<◌, ◌^◌, ◌++◌, Some, option_copied};
+ghost use Rattle.std.specs.Prelude.{◌<◌, ◌^◌, ◌++◌, Some, option_copied};
 ghost use Rattle.dmr_bits.specs.Bits.{bits_of};
 ghost use Rattle.dmr_checks.specs.Generators.{crc8_generator, Completes};
 ghost use Rattle.dmr_slot.specs.Activity.{IsActivity, IsMessage};

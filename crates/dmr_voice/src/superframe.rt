@@ -1,5 +1,5 @@
 //! The embedded fields of a superframe, which its places from B to E carry in turn.
-ghost use Rattle.std.specs.Prelude.{◌≡◌, ◌<◌, ◌^◌, All, length, slice_index_or};
+ghost use Rattle.std.specs.Prelude.{◌≡◌, ◌<◌, slice_index_or};
 ghost use Rattle.dmr_hearing.specs.Fields.{IsCarrier};
 ghost use Rattle.dmr_voice.specs.Places.{field_number};
 
@@ -30,8 +30,6 @@ impl Model for Carrier {
 /// The field that a place from B to E has among four.
 fn pick_field(fields: &[u32; 4], place: Place) -> u32
     ensures field { result ≡ slice_index_or fields.now (field_number place) 0 }
-    ensures four { length fields.now ≡ 4 }
-    ensures narrow { All (λ field. field < 2 ^ 32) fields.now }
 {
     fields[place.field_number()]
 }

@@ -11,7 +11,7 @@ use dmr_embedded::embed;
 use dmr_link::{FullLc, LcUse, lc_info};
 use dmr_test_values::CALL_FIELDS;
 use dmr_voice::{Heard, Role, VoiceOut, VoiceTrack, hear};
-use std::alloc::{AllocError, Global};
+use std::alloc::AllocError;
 use std::process::Abort;
 use std::test::Fail;
 

@@ -1,5 +1,5 @@
 //! The checks of all columns at once, as sums of rows, and the columns that they correct.
-ghost use Rattle.std.specs.Prelude.{◌≡◌, ◌<◌, ◌≤◌, ◌-◌, ◌*◌, ◌/◌, ◌%◌, ◌^◌, ◌==◌, ◌↔◌, ℕ, IsTrue, true, false, All, slice_index_or};
+ghost use Rattle.std.specs.Prelude.{◌≡◌, ◌<◌, ◌≤◌, ◌-◌, ◌%◌, ◌^◌, ◌==◌, ◌↔◌, ℕ, IsTrue, true, false, All, slice_index_or};
 ghost use Rattle.dmr_bits.specs.Bits.{bits_of, xor};
 ghost use Rattle.dmr_codes.specs.Seven.{IsHamming13, hamming13_columns};
 ghost use Rattle.dmr_bptc.specs.Decoding.{IsCorrected};
