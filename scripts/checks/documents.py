@@ -19,6 +19,11 @@ DECLARED = re.compile(
     r"|^    ([A-Z]\w*)(?:,$|\(| \{$)",
     re.MULTILINE,
 )
+# The name of a definition that other files may cite, and that of a type.
+DEFINED = re.compile(r"^(?:abbrev pub|unfoldable pub|pub record|pub data) (\w+)", re.MULTILINE)
+TYPE = re.compile(r"^(?:pub(?:\([a-z]+\))? )?(?:struct|enum|record|data) (\w+)", re.MULTILINE)
+# What the tables of a product word and of an embedded link control both have.
+CELLS = {"cell", "place", "row", "column"}
 
 
 def sources_of(crate):
@@ -132,6 +137,43 @@ def check_words(report):
             report.expect(f"{name} stands in {stands}", name in declared_in(*places))
 
 
+def libraries_of(report):
+    """The crates but for those of tests."""
+    crates = sorted(it for it in (report.top / "crates").iterdir() if (it / "src").is_dir())
+    return [it for it in crates if not it.name.startswith("dmr_test_") and not it.name.endswith("_tests")]
+
+
+def homes_of(found, files):
+    """For each name that is found in files, the files."""
+    homes = {}
+    for file in files:
+        for name in found.findall(file.read_text()):
+            homes.setdefault(name, []).append(file)
+    return homes
+
+
+def check_names(report):
+    """Each definition has a name of its own, but for the cells of tables."""
+    homes = homes_of(DEFINED, [file for crate in libraries_of(report) for file in definitions_of(crate)])
+    several = {name: files for name, files in homes.items() if len(files) > 1 and name not in CELLS}
+    report.expect("definitions are found", len(homes) > 500, len(homes))
+    report.expect("each definition has a name of its own", not several, several)
+
+
+def check_types(report):
+    """Where several crates have a type of one name, the word list has it for each of them."""
+    owners = {}
+    for crate in libraries_of(report):
+        for name in homes_of(TYPE, sources_of(crate) + definitions_of(crate)):
+            owners.setdefault(name, set()).add(crate.name)
+    shared = {(name, crate) for name, crates in owners.items() if len(crates) > 1 for crate in crates}
+    text = (report.top / "docs/architecture.md").read_text()
+    pieces = [it for *_, stands in tables_of(text, "| Word | Means | Stands in |") for it in stands.split(";")]
+    told = {(name, crate) for it in pieces for name in NAME.findall(it) for crate in re.findall(r"\bdmr_\w+", it)}
+    report.expect("types of one name are found", len(shared) > 20, shared)
+    report.expect("the word list has each type whose name several crates have", shared <= told, sorted(shared - told))
+
+
 def check_crates(report):
     """README and docs/architecture.md name each crate, and no other."""
     listed = re.findall(r"^(\w+):", (report.top / "crates.txt").read_text(), re.MULTILINE)
@@ -166,5 +208,7 @@ def check(report):
     check_promises(report)
     check_headline(report)
     check_words(report)
+    check_names(report)
+    check_types(report)
     check_crates(report)
     check_width(report)

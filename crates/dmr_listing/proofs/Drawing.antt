@@ -10,7 +10,7 @@ use Rattle.dmr_listing.specs.ListingRules.{GivenInTurn, IsRead, Lists, ListingTu
 use Rattle.dmr_listing.specs.Marks.{mark_of}
 use Rattle.dmr_listing.specs.Recordings.{IsSlotOf, RecordedSlot, spelling}
 use Rattle.dmr_listing.specs.Strips.{AreStrips, IsGivenWhereFull, IsMarkAt, IsStripOf, IsStripped, Picture, IsStrippedUpToStrip}
-use Rattle.dmr_listing.specs.Strips.{has, marks_of, most_marks, pushed, pushed_in, shown, unless_empty}
+use Rattle.dmr_listing.specs.Strips.{has, shown_marks, most_marks, pushed, pushed_in, shown, unless_empty}
 use Rattle.dmr_listing.specs.declared.burst_line.BurstLine.{BurstLine}
 use Rattle.dmr_listing.specs.declared.frames.Frames.{Frames}
 use Rattle.dmr_listing.specs.declared.mark.Mark.{Mark}
@@ -28,7 +28,7 @@ pub record IsDrawn {L : Type 0} (Takes : L → Picture → L → Type 0) (record
   pub read : IsRead recording slots lines part end left_old left_new
   pub full : List (Place × Mark)
   pub rest : List (Place × Mark)
-  pub marks : marks_of frames 0 slots lines ≡ full ++ rest
+  pub marks : shown_marks frames 0 slots lines ≡ full ++ rest
   pub strips : List Picture
   pub drawn : AreStrips full strips
   pub whole : length full ≡ most_marks * length strips
@@ -67,8 +67,8 @@ strip_more (first ∷ more) strip place mark (frame, marks) = rw marks (
 -- the marks with that of a silent slot more
 marks_silent : (frames : Frames) (turn : ListingTurn) (slots : List RecordedSlot) (lines : List BurstLine) (end : ListingTurn)
     → Lists turn slots lines end
-    → marks_of frames turn.slots (slots ++ None ∷ []) lines
-    ≡ marks_of frames turn.slots slots lines ++ shown frames end.slots Silence
+    → shown_marks frames turn.slots (slots ++ None ∷ []) lines
+    ≡ shown_marks frames turn.slots slots lines ++ shown frames end.slots Silence
 marks_silent frames turn [] lines end (none, same) =
     append-nil (shown frames turn.slots Silence) ∙ ap (λ (t : ListingTurn). shown frames t.slots Silence) (sym same)
 marks_silent frames turn (None ∷ slots) lines end lists =
@@ -83,8 +83,8 @@ marks_silent frames turn (Some b ∷ slots) (line ∷ lines) end (first, lists) 
 marks_burst : (frames : Frames) (turn : ListingTurn) (slots : List RecordedSlot) (lines : List BurstLine) (end : ListingTurn)
     (burst : RecordedBurst)
     (line : BurstLine) → Lists turn slots lines end
-    → marks_of frames turn.slots (slots ++ Some burst ∷ []) (lines ++ line ∷ [])
-    ≡ marks_of frames turn.slots slots lines ++ shown frames end.slots (mark_of line)
+    → shown_marks frames turn.slots (slots ++ Some burst ∷ []) (lines ++ line ∷ [])
+    ≡ shown_marks frames turn.slots slots lines ++ shown frames end.slots (mark_of line)
 marks_burst frames turn [] lines end burst line (none, same) = rw none (
     append-nil (shown frames turn.slots (mark_of line)) ∙ ap (λ (t : ListingTurn). shown frames t.slots (mark_of line)) (sym same)
     )
@@ -102,7 +102,8 @@ pub record IsOneMore (recording : Recording) (frames : Frames) (slots : List Rec
     (turn : ListingTurn) (slot : RecordedSlot) (mark : Mark) (end : ListingTurn) (a c : Option (List ℕ)) : Type 0 where
   pub lines_more : List BurstLine
   pub read : IsRead recording (slots ++ slot ∷ []) lines_more [] end a c
-  pub marks : marks_of frames 0 (slots ++ slot ∷ []) lines_more ≡ marks_of frames 0 slots lines ++ shown frames turn.slots mark
+  pub marks : shown_marks frames 0 (slots ++ slot ∷ []) lines_more
+      ≡ shown_marks frames 0 slots lines ++ shown frames turn.slots mark
 
 pub one_more : (recording : Recording) (frames : Frames) (slots : List RecordedSlot) (lines : List BurstLine) (turn : ListingTurn)
     (slot : RecordedSlot) (mark : Mark) (end : ListingTurn) (a b c : Option (List ℕ))

@@ -39,12 +39,12 @@ shown frames number mark = if has frames (number / 2) then (place_by_number numb
 
 -- The marks of slots, whose bursts have these lines, from the slot of this number on: one for each slot whose frame is asked for,
 -- with its place.
-abbrev pub marks_of : Frames → ℕ → List RecordedSlot → List BurstLine → List (Place × Mark)
-marks_of frames number [] lines = []
-marks_of frames number (None ∷ slots) lines = shown frames number Silence ++ marks_of frames (number + 1) slots lines
-marks_of frames number (Some burst ∷ slots) [] = []
-marks_of frames number (Some burst ∷ slots) (line ∷ lines) =
-    shown frames number (mark_of line) ++ marks_of frames (number + 1) slots lines
+abbrev pub shown_marks : Frames → ℕ → List RecordedSlot → List BurstLine → List (Place × Mark)
+shown_marks frames number [] lines = []
+shown_marks frames number (None ∷ slots) lines = shown frames number Silence ++ shown_marks frames (number + 1) slots lines
+shown_marks frames number (Some burst ∷ slots) [] = []
+shown_marks frames number (Some burst ∷ slots) (line ∷ lines) =
+    shown frames number (mark_of line) ++ shown_marks frames (number + 1) slots lines
 
 -- The strip has exactly these marks, and begins in the frame of the first of them.
 abbrev pub IsStripOf : List (Place × Mark) → Picture → Type 0
@@ -91,7 +91,7 @@ pub record IsStripped {L : Type 0} (Takes : L → Picture → L → Type 0) (rec
   pub lines : List BurstLine
   pub read : IsRead recording slots lines part end left_old left_new
   pub strips : List Picture
-  pub drawn : AreStrips (marks_of frames 0 slots lines) strips
+  pub drawn : AreStrips (shown_marks frames 0 slots lines) strips
   pub given : GivenInTurn Takes old strips new
 
 -- The recording was read up to a slot that shows this fault, and a taker was given the strips of the slots before it.
@@ -101,7 +101,7 @@ pub record IsStrippedUpToFault {L : Type 0} (Takes : L → Picture → L → Typ
   pub lines : List BurstLine
   pub read : IsReadUpToFault recording slots lines fault left_old left_new
   pub strips : List Picture
-  pub drawn : AreStrips (marks_of frames 0 slots lines) strips
+  pub drawn : AreStrips (shown_marks frames 0 slots lines) strips
   pub given : GivenInTurn Takes old strips new
 
 -- The recording was read up to a slot, and of the strips of these slots a taker was given all but the last, which it refused.
@@ -114,5 +114,5 @@ pub record IsStrippedUpToStrip {L : Type 0} (Takes Refuses : L → Picture → L
   pub read : IsRead recording slots lines part end left_old left_new
   pub strips : List Picture
   pub last : Picture
-  pub drawn : AreStrips (marks_of frames 0 slots lines) (strips ++ last ∷ [])
+  pub drawn : AreStrips (shown_marks frames 0 slots lines) (strips ++ last ∷ [])
   pub given : IsRefusedBehind Takes Refuses old strips last new

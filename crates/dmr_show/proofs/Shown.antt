@@ -8,7 +8,7 @@ use Rattle.dmr_listing.specs.OutgoingListings as outgoing
 use Rattle.dmr_listing.specs.ReceivedListings as received
 use Rattle.dmr_listing.specs.Recordings.{RecordedSlot}
 use Rattle.dmr_listing.specs.Endings.{IfFile}
-use Rattle.dmr_listing.specs.Strips.{AreStrips, IsStripped, IsStrippedUpToFault, Picture, marks_of}
+use Rattle.dmr_listing.specs.Strips.{AreStrips, IsStripped, IsStrippedUpToFault, Picture, shown_marks}
 use Rattle.dmr_listing.specs.declared.frames.Frames.{Frames}
 use Rattle.dmr_listing.specs.declared.listing.ListingEnd.{ListingEnd}
 use Rattle.dmr_listing.specs.declared.listing.ListingEnd.TheVariants.{File, Output}
@@ -217,7 +217,7 @@ strip_shown old new Takes filter_of held_of of frames summary slots end a b aske
       count = sum_by (lines_of_strip (filter_of old)) stripped.strips;
       lines = (
         stripped.strips,
-        subst (λ f. AreStrips (marks_of f 0 slots stripped.lines) stripped.strips) asked stripped.drawn,
+        subst (λ f. AreStrips (shown_marks f 0 slots stripped.lines) stripped.strips) asked stripped.drawn,
         refl,
       );
       put = puts_as _ _ _ _ (around_none _) put;
@@ -236,7 +236,7 @@ strip_shown_up_to_fault old new Takes filter_of held_of of frames fault a b aske
       count = sum_by (lines_of_strip (filter_of old)) stripped.strips;
       lines = (
         stripped.strips,
-        subst (λ f. AreStrips (marks_of f 0 stripped.slots stripped.lines) stripped.strips) asked stripped.drawn,
+        subst (λ f. AreStrips (shown_marks f 0 stripped.slots stripped.lines) stripped.strips) asked stripped.drawn,
         refl,
       );
       put = puts_as _ _ _ _ (before_none _) put;

@@ -2,7 +2,7 @@
 use Rattle.std.specs.Prelude.{◌≡◌, ℕ, ◌+◌, ◌-◌, ◌^◌, ◌&&◌, List, Option, if◌then◌else◌, length, nat_le, unwrap_or}
 use Rattle.std.specs.Io.KnownBytes.{Appends}
 use Rattle.std.specs.List.{All, flat_map, sum_by}
-use Rattle.dmr_listing.specs.Strips.{AreStrips, Picture, marks_of}
+use Rattle.dmr_listing.specs.Strips.{AreStrips, Picture, shown_marks}
 use Rattle.dmr_listing.specs.declared.frames.Frames.{Frames}
 use Rattle.dmr_listing.specs.declared.place.Place.{Place}
 use Rattle.dmr_report.specs.Line.{IsOneLine, line_octets}
@@ -40,7 +40,7 @@ abbrev pub HasLines : Form → Filter → Records → ℕ → Type 0
 HasLines form.Listing filter records count = count ≡ sum_by (lines_at filter) (places_of records)
 HasLines form.Json filter records count = count ≡ sum_by (lines_at filter) (places_of records)
 HasLines form.Strip filter (Slots slots lines) count =
-    (strips : List Picture) × AreStrips (marks_of (frames_of filter) 0 slots lines) strips
+    (strips : List Picture) × AreStrips (shown_marks (frames_of filter) 0 slots lines) strips
     × (count ≡ sum_by (lines_of_strip filter) strips)
 HasLines form.Strip filter records count = ⊥
 
