@@ -1,4 +1,4 @@
-//! The command line of `dmrgate`: what its words ask for, and doing that.
+//! The command line of the program that repeats: what its words ask for, and doing that.
 //!
 //! `request_of` reads the words, by a command line parser whose texts are its own, and `fulfil` does what they ask for, on a system
 //! (`dmr_files`), and prints to two sinks (`dmr_record`): what was asked for to the first, errors to the second. `obey` is both,

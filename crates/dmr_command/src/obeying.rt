@@ -1,84 +1,14 @@
 //! Doing what the words of a command line ask for.
 ghost use Rattle.std.specs.Prelude.{◌≡◌, ◌≤◌, ◌⊎◌, false, true};
-ghost use Rattle.dmr_report.specs.Line.{PutsError};
-ghost use Rattle.dmr_report.specs.Status.{failure, success, usage};
-ghost use Rattle.dmr_show.specs.Showing.{TellsFault};
-ghost use Rattle.dmr_command.specs.Request.{IsShow};
+ghost use Rattle.dmr_lines.specs.Status.{failure, success, usage};
 
 use crate::request::{Request, request_of};
-use clap::Error;
-use dmr_files::{OpenFault, Place, System, open_source, run_places};
+use dmr_files::System;
+use dmr_options::{print_answer, print_elsewhere};
+use dmr_program::{RunEnd, print_end, print_slot, run_places};
 use dmr_record::Sink;
-use dmr_report::{
-    FAILURE, RunEnd, SUCCESS, USAGE, line_of, print_end, print_error, print_slot, print_text,
-};
-use dmr_show::{Filter, Form, print_want_of_memory, show};
 use std::alloc::Global;
 use std::convert::AsStr;
-
-/// Prints what the parser answers in place of matches: help and the version, or a mistake in the words.
-fn print_answer<K: Sink, E: Sink>(alloc: Global, answer: &Error, out: &mut K, err: &mut E) -> u8
-    requires out { K.has_failed out.old ≡ false }
-    requires err { E.has_failed err.old ≡ false }
-    ensures alone { (out.new ≡ out.old) ⊎ (err.new ≡ err.old) }
-    ensures success { result ≡ success → err.new ≡ err.old }
-    ensures usage { result ≡ usage → out.new ≡ out.old }
-    ensures status { result ≤ 2 }
-    ensures out_failed { K.has_failed out.new ≡ true → result ≡ failure }
-    ensures err_failed { E.has_failed err.new ≡ true → result ≡ failure }
-{
-    match format!(in alloc; "{answer}") {
-        Ok(text) if answer.use_stderr() => print_text(err, text.as_str(), USAGE),
-        Ok(text) => print_text(out, text.as_str(), SUCCESS),
-        Err(_) => print_error(err, "out of memory", USAGE),
-    }
-}
-
-/// Tells that a file can't be opened.
-fn print_cannot_open<E: Sink>(alloc: Global, name: &str, err: &mut E)
-    requires err { E.has_failed err.old ≡ false }
-    ensures error { E.has_failed err.new ≡ false → PutsError (E.held err.old) (E.held err.new) }
-{
-    let name = line_of(name);
-    match format!(in alloc; "{name}: cannot open") {
-        Ok(text) => {
-            let _failure = print_error(err, line_of(text.as_str()), FAILURE);
-        }
-        Err(_) => print_want_of_memory(err),
-    }
-}
-
-/// Shows the file of this name in a form, as far as it can be read.
-fn show_file<S: System, K: Sink, E: Sink>(
-    alloc: Global,
-    system: &S,
-    name: &str,
-    form: Form,
-    filter: Filter,
-    out: &mut K,
-    err: &mut E,
-) -> u8
-    requires out { K.has_failed out.old ≡ false }
-    requires err { E.has_failed err.old ≡ false }
-    ensures alone { (err.new ≡ err.old)
-        ⊎ TellsFault result (K.has_failed out.new) (E.has_failed err.new) (E.held err.old) (E.held err.new) }
-    ensures success { result ≡ success → err.new ≡ err.old }
-    ensures status { result ≤ 1 }
-    ensures out_failed { K.has_failed out.new ≡ true → result ≡ failure }
-    ensures err_failed { E.has_failed err.new ≡ true → result ≡ failure }
-{
-    match open_source(system, alloc, Place::named(name)) {
-        Ok(mut source) => show(alloc, name, form, filter, &mut source, out, err),
-        Err(OpenFault::CannotOpen) => {
-            print_cannot_open(alloc, name, err);
-            FAILURE
-        }
-        Err(OpenFault::Memory) => {
-            print_want_of_memory(err);
-            FAILURE
-        }
-    }
-}
 
 /// Does what is asked for, and answers the exit status.
 pub fn fulfil<S: System, K: Sink, E: Sink>(
@@ -91,10 +21,7 @@ pub fn fulfil<S: System, K: Sink, E: Sink>(
     requires out { K.has_failed out.old ≡ false }
     requires err { E.has_failed err.old ≡ false }
     // What is printed goes to one of the two, which of them the status tells.
-    ensures alone { (IsShow request.entry → ⊥) → (out.new ≡ out.old) ⊎ (err.new ≡ err.old) }
-    // A listing goes to the first; where it ends at a fault, a line of error goes to the second.
-    ensures listing { IsShow request.entry → (err.new ≡ err.old)
-        ⊎ TellsFault result (K.has_failed out.new) (E.has_failed err.new) (E.held err.old) (E.held err.new) }
+    ensures alone { (out.new ≡ out.old) ⊎ (err.new ≡ err.old) }
     ensures success { result ≡ success → err.new ≡ err.old }
     ensures usage { result ≡ usage → out.new ≡ out.old }
     ensures status { result ≤ 2 }
@@ -110,9 +37,7 @@ pub fn fulfil<S: System, K: Sink, E: Sink>(
             };
             print_end(&end, out, err)
         }
-        Request::Show { name, form, filter } => show_file(
-            alloc, system, name, form, filter, out, err,
-        ),
+        Request::Elsewhere(_) => print_elsewhere(err),
     }
 }
 
@@ -126,10 +51,8 @@ pub fn obey<T: AsStr, S: System, K: Sink, E: Sink>(
 ) -> u8
     requires out { K.has_failed out.old ≡ false }
     requires err { E.has_failed err.old ≡ false }
-    // What is printed goes to one of the two, which of them the status tells; a listing that ends at a fault goes to the first, and
-    // its line of error to the second.
-    ensures alone { (out.new ≡ out.old) ⊎ (err.new ≡ err.old)
-        ⊎ TellsFault result (K.has_failed out.new) (E.has_failed err.new) (E.held err.old) (E.held err.new) }
+    // What is printed goes to one of the two, which of them the status tells.
+    ensures alone { (out.new ≡ out.old) ⊎ (err.new ≡ err.old) }
     ensures success { result ≡ success → err.new ≡ err.old }
     ensures usage { result ≡ usage → out.new ≡ out.old }
     ensures status { result ≤ 2 }

@@ -1,14 +1,14 @@
 //! What the words of a command line ask for.
 ghost use Rattle.std.specs.Prelude.{◌≡◌, option_map};
 ghost use Rattle.clap.specs.Words.{found_of};
-ghost use Rattle.dmr_command.specs.Request.{ArePlacesOf, AreSettingsOf, IsAskedBy, IsFilterOf, IsFormOf, IsNumberOf};
-ghost use Rattle.dmr_command.specs.Request.{IsFlagOf, IsPlaceOf, form_by, text_of};
+ghost use Rattle.dmr_command.specs.Request.{ArePlacesOf, AreSettingsOf, IsAskedBy, IsPlaceOf};
+ghost use Rattle.dmr_options.specs.Found.{IsNumberOf};
 
 use clap::{ArgMatches, Error};
-use dmr_files::{Place, Places};
+use dmr_files::Place;
 use dmr_gateway::{Config, ConfigFault};
-use dmr_options::command;
-use dmr_show::{Filter, Form};
+use dmr_options::{repeating_commands, text_of};
+use dmr_program::Places;
 use std::alloc::Global;
 use std::convert::AsStr;
 
@@ -22,19 +22,8 @@ pub enum Request<'a> {
         config: Result<Config, ConfigFault>,
         places: Places<'a>,
     },
-    /// To show the file of this name in a form, as far as a filter lets its lines pass.
-    Show {
-        name: &'a str,
-        form: Form,
-        filter: Filter,
-    },
-}
-
-/// The text of an option that is required.
-fn text_of<'a>(matches: &ArgMatches<'a>, option: &str) -> &'a str
-    ensures text { result.now ≡ text_of (found_of matches.now) option.now }
-{
-    matches.get_str(option).unwrap_or("")
+    /// What another program does, by the name of the command.
+    Elsewhere(&'a str),
 }
 
 /// The place that an option of `run` names, which requires each.
@@ -99,42 +88,6 @@ fn config_of(run: &ArgMatches<'_>) -> Result<Config, ConfigFault>
     )
 }
 
-/// The lines that a command line of `show` asks for.
-fn filter_of(show: &ArgMatches<'_>) -> Filter
-    ensures filter { IsFilterOf (found_of show.now) result }
-{
-    Filter {
-        slot: show.get_one::<u8>("slot"),
-        from: show.get_one::<u32>("from"),
-        to: show.get_one::<u32>("to"),
-    }
-}
-
-/// Whether an option is given that takes no text.
-fn flag_of(show: &ArgMatches<'_>, option: &str) -> bool
-    ensures flag { IsFlagOf (found_of show.now) option.now result }
-{
-    show.get_flag(option)
-}
-
-/// The form by the two options that ask for one.
-fn form_by(strip: bool, json: bool) -> Form
-    ensures value { result ≡ form_by strip json }
-{
-    match (strip, json) {
-        (true, _) => Form::Strip,
-        (false, true) => Form::Json,
-        (false, false) => Form::Listing,
-    }
-}
-
-/// The form that a command line of `show` asks for.
-fn form_of(show: &ArgMatches<'_>) -> Form
-    ensures form { IsFormOf (found_of show.now) result }
-{
-    form_by(flag_of(show, "strip"), flag_of(show, "json"))
-}
-
 /// What a command with its options asks for.
 pub(crate) fn request_by<'a>(command: Option<(&'a str, &ArgMatches<'a>)>) -> Request<'a>
     ensures asked { IsAskedBy (option_map (λ c. (c.0.now, found_of c.1.now)) command.entry) result }
@@ -144,12 +97,8 @@ pub(crate) fn request_by<'a>(command: Option<(&'a str, &ArgMatches<'a>)>) -> Req
             config: config_of(run),
             places: places_of(run),
         },
-        Some(("show", show)) => Request::Show {
-            name: text_of(show, "file"),
-            form: form_of(show),
-            filter: filter_of(show),
-        },
-        Some((_, slot)) => Request::Slot(text_of(slot, "burst")),
+        Some(("slot", slot)) => Request::Slot(text_of(slot, "burst")),
+        Some((name, _)) => Request::Elsewhere(name),
         // Not reached, since a command is required. No burst has no digits.
         None => Request::Slot(""),
     }
@@ -158,6 +107,6 @@ pub(crate) fn request_by<'a>(command: Option<(&'a str, &ArgMatches<'a>)>) -> Req
 /// What the words of a command line ask for, of which the first is the program's name. The error has the text for whoever wrote
 /// them, which is help or the version where these are asked for.
 pub fn request_of<'a, T: AsStr>(alloc: Global, words: &'a [T]) -> Result<Request<'a>, Error> {
-    let matches = command(alloc)?.try_get_matches_from(words)?;
+    let matches = repeating_commands(alloc)?.try_get_matches_from(words)?;
     Ok(request_by(matches.subcommand()))
 }

@@ -3,7 +3,6 @@ use Rattle.std.specs.Prelude.{◌≡◌, ◌==◌, ◌&&◌, Bool, true, false, 
 use Rattle.dmr_files.specs.declared.identity.FileKind.{FileKind}
 use Rattle.dmr_files.specs.declared.identity.FileKind.TheVariants.{Regular, Device, Other}
 use Rattle.dmr_files.specs.declared.identity.Identity.{Identity}
-use Rattle.dmr_files.specs.declared.system.StandardFiles.{StandardFiles}
 
 -- one file, by its device and its number
 abbrev pub is_one_file : Identity → Identity → Bool
@@ -29,11 +28,3 @@ clashes output other = not (is_device output.kind) && is_one_file output other
 abbrev pub is_behind : Identity → Option Identity → Bool
 is_behind output (Some stream) = is_regular output.kind && is_one_file output stream
 is_behind output None = false
-
--- An output that may be written: it is no input, and is behind no standard stream.
-pub record IsApart (uplink outgoing : Identity) (standard : StandardFiles) (output : Identity) : Type 0 where
-  pub from_uplink : clashes output uplink ≡ false
-  pub from_outgoing : clashes output outgoing ≡ false
-  pub from_standard_input : is_behind output standard.input ≡ false
-  pub from_standard_output : is_behind output standard.output ≡ false
-  pub from_standard_error : is_behind output standard.error ≡ false

@@ -30,7 +30,7 @@ impl Identity {
     }
 
     /// Whether an output that is this file would get into another file of the run. Any number may write to a device.
-    pub(crate) fn clashes(&self, other: &Identity) -> bool
+    pub fn clashes(&self, other: &Identity) -> bool
         ensures clash { result ≡ clashes self.now other.now }
     {
         self.kind != FileKind::Device && self.is_one_file(other)

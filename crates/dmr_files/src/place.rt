@@ -10,15 +10,6 @@ pub enum Place<'a> {
     Path(&'a str),
 }
 
-/// Where the four files of a run are.
-#[derive(Clone, Copy)]
-pub struct Places<'a> {
-    pub uplink: Place<'a>,
-    pub outgoing: Place<'a>,
-    pub downlink: Place<'a>,
-    pub received: Place<'a>,
-}
-
 impl<'a> Place<'a> {
     /// The place of this name: a hyphen names the standard stream, and anything else is a path.
     pub fn named(name: &'a str) -> Place<'a>

@@ -8,7 +8,7 @@ use crate::wrong::WrongObject;
 use dmr_burst::{Emb, Side};
 use dmr_link::FullLc;
 use dmr_listing::{BurstLine, BurstName, RecordedBurst, VoicePlace};
-use dmr_report::Reading;
+use dmr_reading::Reading;
 use std::fmt;
 
 /// The object of a burst of a recording.

@@ -1,6 +1,6 @@
 //! What an object has of wrong bits.
 use dmr_listing::Wrong;
-use dmr_report::{Information, Reading};
+use dmr_reading::{Information, Reading};
 use std::fmt;
 
 /// How many bits are wrong of each part that was read; null stands for information that wasn't, and for a burst that wasn't.

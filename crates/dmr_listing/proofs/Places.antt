@@ -4,8 +4,8 @@ use Rattle.std.proofs.Common.{ap, ◌∙◌, arith}
 use Rattle.dmr_listing.specs.declared.voice_place.VoicePlace.{VoicePlace}
 use Rattle.dmr_listing.specs.declared.voice_place.VoicePlace.TheVariants.{A, B, C, D, E, F}
 use Rattle.dmr_listing.specs.VoicePlace.{following, place_after, voice_place_of, IsVoiceSync, IsWithin, StandsIn}
-use Rattle.dmr_report.specs.declared.reading.Reading.{Reading}
-use Rattle.dmr_report.specs.declared.reading.Reading.TheVariants.{VoiceSync, Voice, Unreadable}
+use Rattle.dmr_reading.specs.declared.reading.Reading.{Reading}
+use Rattle.dmr_reading.specs.declared.reading.Reading.TheVariants.{VoiceSync, Voice, Unreadable}
 
 -- what neither begins nor ends a superframe stands a frame behind
 after_within : (before : Option VoicePlace) (reading : Option Reading) → IsWithin reading → place_after before reading ≡

@@ -14,7 +14,7 @@ use Rattle.dmr_link.specs.declared.sealing.LcUse.TheVariants.{Header, Terminator
 use Rattle.dmr_listing.specs.declared.contents.Contents.{Contents}
 use Rattle.dmr_listing.specs.declared.contents.Contents.TheVariants.{LinkControl, ControlBlock, DataHeader, OtherFormat}
 use Rattle.dmr_listing.specs.declared.contents.Contents.TheVariants.{Unsealed, Octets, Idle, AsReceived, Unreadable}
-use Rattle.dmr_report.specs.Reading.{is_coded}
+use Rattle.dmr_reading.specs.Reading.{is_coded}
 
 -- the product code gives these twelve octets
 abbrev pub AreOctetsOf : List Bool → List ℕ → Type 0

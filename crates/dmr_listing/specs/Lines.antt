@@ -12,9 +12,9 @@ use Rattle.dmr_listing.specs.declared.burst_line.BurstLine.{BurstLine}
 use Rattle.dmr_listing.specs.declared.contents.Contents.{Contents}
 use Rattle.dmr_listing.specs.declared.fragments.Fragment.{Fragment}
 use Rattle.dmr_listing.specs.declared.voice_place.VoicePlace.{VoicePlace}
-use Rattle.dmr_report.specs.Reading.{IsReadAs}
-use Rattle.dmr_report.specs.declared.reading.Reading.{Reading}
-use Rattle.dmr_report.specs.declared.reading.Reading.TheVariants.{Data, Voice}
+use Rattle.dmr_reading.specs.Reading.{IsReadAs}
+use Rattle.dmr_reading.specs.declared.reading.Reading.{Reading}
+use Rattle.dmr_reading.specs.declared.reading.Reading.TheVariants.{Data, Voice}
 
 -- What is kept of a slot: the place of its last frame, and what its newest four frames carry, the newest last.
 pub record SlotPast : Type 0 where

@@ -5,8 +5,8 @@ use Rattle.dmr_listing.specs.declared.burst_line.BurstLine.{BurstLine}
 use Rattle.dmr_listing.specs.declared.mark.Mark.{Mark}
 use Rattle.dmr_listing.specs.declared.mark.Mark.TheVariants as mark
 use Rattle.dmr_listing.specs.declared.voice_place.VoicePlace.{VoicePlace}
-use Rattle.dmr_report.specs.declared.reading.Reading.{Reading}
-use Rattle.dmr_report.specs.declared.reading.Reading.TheVariants.{Data, Untyped, VoiceSync, Voice, Unreadable}
+use Rattle.dmr_reading.specs.declared.reading.Reading.{Reading}
+use Rattle.dmr_reading.specs.declared.reading.Reading.TheVariants.{Data, Untyped, VoiceSync, Voice, Unreadable}
 
 -- the mark of a data burst of a type, which no reserved type has
 abbrev pub mark_of_type : ℕ → Mark

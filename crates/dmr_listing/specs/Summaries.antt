@@ -2,8 +2,8 @@
 use Rattle.std.specs.Prelude.{◌==◌, ◌+◌, ◌-◌, ◌^◌, ℕ, Bool, true, false, if◌then◌else◌, min}
 use Rattle.dmr_listing.specs.declared.burst_line.BurstLine.{BurstLine}
 use Rattle.dmr_listing.specs.declared.summary.BurstCounts.{BurstCounts}
-use Rattle.dmr_report.specs.declared.reading.Reading.{Reading}
-use Rattle.dmr_report.specs.declared.reading.Reading.TheVariants.{Unreadable}
+use Rattle.dmr_reading.specs.declared.reading.Reading.{Reading}
+use Rattle.dmr_reading.specs.declared.reading.Reading.TheVariants.{Unreadable}
 
 -- whether a burst read as nothing: it is of no known kind, or too damaged
 abbrev pub is_unreadable : Reading → Bool

@@ -2,8 +2,8 @@
 use Rattle.std.specs.Prelude.{ℕ, ◌<◌, List, [], ◌∷◌, Option, Some, None, slice_index_or, option_and_then}
 use Rattle.dmr_listing.specs.declared.voice_place.VoicePlace.{VoicePlace}
 use Rattle.dmr_listing.specs.declared.voice_place.VoicePlace.TheVariants.{A, B, C, D, E, F}
-use Rattle.dmr_report.specs.declared.reading.Reading.{Reading}
-use Rattle.dmr_report.specs.declared.reading.Reading.TheVariants.{Data, Untyped, VoiceSync}
+use Rattle.dmr_reading.specs.declared.reading.Reading.{Reading}
+use Rattle.dmr_reading.specs.declared.reading.Reading.TheVariants.{Data, Untyped, VoiceSync}
 
 -- the place a frame behind this one
 abbrev pub following : VoicePlace → Option VoicePlace

@@ -12,10 +12,10 @@ use Rattle.dmr_burst.specs.declared.sync.Side.{Side}
 use Rattle.dmr_burst.specs.declared.sync.Sync.{Sync}
 use Rattle.dmr_codes.specs.Seven.{IsGolay20, IsResidue16}
 use Rattle.dmr_listing.specs.declared.wrong.Wrong.{Wrong}
-use Rattle.dmr_report.specs.declared.reading.Information.{Information}
-use Rattle.dmr_report.specs.declared.reading.Information.TheVariants.{Coded}
-use Rattle.dmr_report.specs.declared.reading.Reading.{Reading}
-use Rattle.dmr_report.specs.declared.reading.Reading.TheVariants.{Data, Untyped, VoiceSync, Voice, Unreadable}
+use Rattle.dmr_reading.specs.declared.reading.Information.{Information}
+use Rattle.dmr_reading.specs.declared.reading.Information.TheVariants.{Coded}
+use Rattle.dmr_reading.specs.declared.reading.Reading.{Reading}
+use Rattle.dmr_reading.specs.declared.reading.Reading.TheVariants.{Data, Untyped, VoiceSync, Voice, Unreadable}
 
 -- the data sync of a side
 abbrev pub data_sync : Side → Sync

@@ -8,7 +8,7 @@ use crate::wrong::Wrong;
 use arrayvec::ArrayString;
 use dmr_burst::{Emb, Side, SlotType, data_type};
 use dmr_link::FullLc;
-use dmr_report::Reading;
+use dmr_reading::Reading;
 use std::fmt;
 use std::fmt::Write;
 

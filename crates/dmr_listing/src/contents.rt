@@ -4,7 +4,7 @@ ghost use Rattle.dmr_bits.specs.Bits.{bits_of_octets};
 ghost use Rattle.dmr_bptc.specs.Decoding.{IsDecoded};
 ghost use Rattle.dmr_burst.specs.Layout.{information_field};
 ghost use Rattle.dmr_listing.specs.Contents.{HoldsContents, HoldsControlBlock, HoldsDataHeader, HoldsLinkControl};
-ghost use Rattle.dmr_report.specs.Reading.{IsInformation, is_coded};
+ghost use Rattle.dmr_reading.specs.Reading.{IsInformation, is_coded};
 
 use crate::control_block::ControlBlock;
 use crate::data_header::DataHeader;
@@ -15,7 +15,7 @@ use dmr_burst::{data_type, read_information};
 use dmr_csbk::{Csbk, CsbkFault, csbk_read};
 use dmr_data::{Header, HeaderFault, header_read};
 use dmr_link::{FullLc, LcFault, LcUse, lc_read};
-use dmr_report::Information;
+use dmr_reading::Information;
 use std::fmt;
 
 /// What the information of a data burst holds, as far as its type tells.

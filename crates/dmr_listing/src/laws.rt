@@ -6,7 +6,7 @@ ghost use Rattle.dmr_listing.specs.Recordings.{RecordedSlot};
 ghost use Rattle.dmr_listing.specs.VoicePlace.{voice_place_of, StandsIn};
 ghost use Rattle.dmr_listing.specs.declared.burst_line.BurstLine.{BurstLine};
 ghost use Rattle.dmr_listing.specs.declared.voice_place.VoicePlace.{VoicePlace};
-ghost use Rattle.dmr_report.specs.declared.reading.Reading.{Reading};
+ghost use Rattle.dmr_reading.specs.declared.reading.Reading.{Reading};
 
 /// A frame stands in a place exactly where its slot had a voice sync so many frames before it, and since then neither that
 /// nor data.

@@ -5,7 +5,7 @@ ghost use Rattle.dmr_listing.specs.Marks.{mark_of, mark_of_type};
 use crate::burst_line::{BurstLine, place_letter};
 use crate::voice_place::VoicePlace;
 use dmr_burst::data_type;
-use dmr_report::Reading;
+use dmr_reading::Reading;
 use std::fmt;
 
 /// What stands in a slot of a frame: what a strip shows of it.

@@ -1,7 +1,7 @@
 //! The lines of one slot.
 ghost use Rattle.std.specs.Prelude.{◌≡◌};
 ghost use Rattle.dmr_bits.specs.Bits.{bits_of_octets};
-ghost use Rattle.dmr_report.specs.Reading.{IsReadAs};
+ghost use Rattle.dmr_reading.specs.Reading.{IsReadAs};
 ghost use Rattle.dmr_listing.specs.Lines.{IsCachAccessType, IsHeld, IsLine, after_burst, fragment_of, no_past, passed};
 
 use crate::access_type::AccessType;
@@ -12,7 +12,7 @@ use crate::place::Place;
 use crate::voice_place::VoicePlaces;
 use crate::wrong::wrong_of;
 use dmr_burst::read_embedded;
-use dmr_report::{Reading, read_burst};
+use dmr_reading::{Reading, read_burst};
 use std::marker::Model;
 
 /// What the lines of a slot need of the frames before: where superframes stand, and what was carried of a link control.

@@ -4,7 +4,7 @@ ghost use Rattle.dmr_listing.specs.Summaries.{counted_line};
 
 use crate::burst_line::BurstLine;
 use crate::place::{Place, Seconds};
-use dmr_report::Reading;
+use dmr_reading::Reading;
 use std::fmt;
 
 /// What a listing of a recording counts.

@@ -2,7 +2,7 @@
 ghost use Rattle.std.specs.Prelude.{◌≡◌, None};
 ghost use Rattle.dmr_listing.specs.VoicePlace.{following, place_after};
 
-use dmr_report::Reading;
+use dmr_reading::Reading;
 use std::marker::Model;
 
 /// A place of a superframe. ETSI TS 102 361-1, clause 5.1.2.1.

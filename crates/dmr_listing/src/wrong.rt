@@ -5,7 +5,7 @@ ghost use Rattle.dmr_burst.specs.Emb.{HasEmb};
 ghost use Rattle.dmr_burst.specs.Layout.{emb_field, slot_type_field, sync_field};
 ghost use Rattle.dmr_burst.specs.SlotType.{HasSlotType};
 ghost use Rattle.dmr_burst.specs.Sync.{sync_word};
-ghost use Rattle.dmr_report.specs.Reading.{IsReadAs};
+ghost use Rattle.dmr_reading.specs.Reading.{IsReadAs};
 ghost use Rattle.dmr_listing.specs.Wrong.{IsWrong, IsWrongIn, IsWrongOfEmb, IsWrongOfInformation, IsWrongOfSlotType};
 ghost use Rattle.dmr_listing.specs.Wrong.{data_sync, wrong_of_sync};
 
@@ -13,7 +13,7 @@ use dmr_bits::Bits;
 use dmr_bptc::bptc_encode;
 use dmr_burst::{Burst, Emb, Side, SlotType, Sync, encode_burst, read_information};
 use dmr_codes::{BlockCode, Golay20, Residue16};
-use dmr_report::{Information, Reading};
+use dmr_reading::{Information, Reading};
 use std::fmt;
 
 /// How many bits of a burst are wrong, field by field: how far what came is from the word that it was read as. It is 0 of what a

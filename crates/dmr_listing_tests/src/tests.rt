@@ -8,7 +8,7 @@ use dmr_listing::{
     StripLine, StripLines, VoicePlace, VoicePlaces, list_recording, strip_recording,
 };
 use dmr_record::{DeviceFault, FromRead, Received, ReceivedKind, RecordFault, read_outgoing};
-use dmr_report::Reading;
+use dmr_reading::Reading;
 use hex::FromHex;
 use std::alloc::AllocError;
 use std::fmt::Write;

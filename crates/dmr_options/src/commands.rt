@@ -1,49 +1,40 @@
 //! The commands.
 
-use crate::options::{burst, files, listing, settings};
-use crate::texts::{ABOUT_LISTINGS, ABOUT_RUNS, ABOUT_SLOTS, VERSION};
+use crate::texts::VERSION;
 use clap::Command;
 use std::alloc::{AllocError, Global};
 
-/// `run`, with its files and its settings.
-fn run_command<'a>(alloc: Global) -> Result<Command<'a>, AllocError> {
-    let files = files(alloc)?;
-    let settings = settings(alloc)?;
-    Command::new(alloc, "run")
-        .about("Repeats a recording of the uplink into the downlink")
-        .after_help(ABOUT_RUNS)
-        .args(files)?
-        .args(settings)
+/// A command by its name, with its line of help.
+#[derive(Clone, Copy)]
+pub struct Listed {
+    pub name: &'static str,
+    pub about: &'static str,
 }
 
-/// `slot`, with its burst.
-fn slot_command<'a>(alloc: Global) -> Result<Command<'a>, AllocError> {
-    Command::new(alloc, "slot")
-        .about("Says what one burst is")
-        .after_help(ABOUT_SLOTS)
-        .arg(burst(alloc))
+impl Listed {
+    pub const RUN: Listed = Listed {
+        name: "run",
+        about: "Repeats a recording of the uplink into the downlink",
+    };
+
+    pub const SLOT: Listed = Listed {
+        name: "slot",
+        about: "Says what one burst is",
+    };
+
+    pub const SHOW: Listed = Listed {
+        name: "show",
+        about: "Lists what a file holds",
+    };
 }
 
-/// `show`, with its file and the lines that are asked for.
-fn show_command<'a>(alloc: Global) -> Result<Command<'a>, AllocError> {
-    let listing = listing(alloc)?;
-    Command::new(alloc, "show")
-        .about("Lists what a file holds")
-        .after_help(ABOUT_LISTINGS)
-        .args(listing)
+/// A command with its line of help and no options, which is all that a program knows of another program's.
+pub fn bare_command<'a>(alloc: Global, command: Listed) -> Command<'a> {
+    Command::new(alloc, command.name).about(command.about)
 }
 
-/// The commands, in the order in which help has them.
-fn commands<'a>(alloc: Global) -> Result<Vec<Command<'a>>, AllocError> {
-    let run = run_command(alloc)?;
-    let slot = slot_command(alloc)?;
-    let show = show_command(alloc)?;
-    Ok(vec![in alloc; run, slot, show]?)
-}
-
-/// The whole command line.
-pub fn command<'a>(alloc: Global) -> Result<Command<'a>, AllocError> {
-    let commands = commands(alloc)?;
+/// The whole command line, with these commands in the order in which help has them.
+pub fn command<'a>(alloc: Global, commands: Vec<Command<'a>>) -> Result<Command<'a>, AllocError> {
     Command::new(alloc, "dmrgate")
         .about("A two-slot DMR repeater with an IP data gateway, run on recordings")
         .version(VERSION)

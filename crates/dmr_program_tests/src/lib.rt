@@ -1,4 +1,5 @@
-//! Tests of what the program does with its command line, its files and its two outputs (dmr_command, dmr_files, dmr_report).
+//! Tests of what the program does with its command line, its files and its two outputs (dmr_command, dmr_files, dmr_lines,
+//! dmr_program).
 #![tactic(auto)]
 
 #[cfg(test)]

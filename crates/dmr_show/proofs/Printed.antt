@@ -11,7 +11,7 @@ use Rattle.std.proofs.lemmas.List.Sums.{sum_by-cons}
 use Rattle.std.specs.Io.KnownBytes.{Appends}
 use Rattle.std.specs.List.{sum_by}
 use Rattle.dmr_listing.specs.ListingRules.{GivenInTurn}
-use Rattle.dmr_report.specs.Line.{IsOneLine, PutsLine, line_octets}
+use Rattle.dmr_lines.specs.Line.{IsOneLine, PutsLine, line_octets}
 use Rattle.dmr_show.specs.Held.{held_by}
 use Rattle.dmr_show.specs.Printed.{PutsLines, lines_of_slot, lines_of_strip}
 use Rattle.dmr_show.specs.declared.filter.Filter.{Filter}

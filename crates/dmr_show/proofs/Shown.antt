@@ -37,7 +37,7 @@ use Rattle.dmr_show.specs.declared.form.Form.{Form}
 use Rattle.dmr_show.specs.Held.{held_by}
 use Rattle.std.specs.Io.KnownBytes.{Appends, Consumes, IsAtEnd}
 use Rattle.dmr_record.specs.Head.{head_octets, magic_of}
-use Rattle.dmr_report.specs.Line.{PutsLine}
+use Rattle.dmr_lines.specs.Line.{PutsLine}
 use Rattle.dmr_show.specs.declared.file_summary.FileSummary.TheVariants.{OfRecording, OfList}
 use Rattle.dmr_show.specs.declared.filter.Filter.{Filter}
 use Rattle.dmr_show.specs.declared.form.Form.TheVariants as form

@@ -15,8 +15,8 @@ use Rattle.dmr_record.specs.Outgoing.{Sending}
 use Rattle.dmr_record.specs.Received.{Receipt}
 use Rattle.dmr_record.specs.declared.head.FileFormat.{FileFormat}
 use Rattle.dmr_record.specs.declared.head.FileFormat.TheVariants.{Uplink, Downlink, Outgoing, Received}
-use Rattle.dmr_report.specs.Line.{PutsError}
-use Rattle.dmr_report.specs.Status.{failure}
+use Rattle.dmr_lines.specs.Line.{PutsError}
+use Rattle.dmr_lines.specs.Status.{failure}
 use Rattle.dmr_show.specs.Printed.{HasLines, PutsLines, lines_around}
 use Rattle.dmr_show.specs.Records.{Records, Slots, Sendings, Receipts}
 use Rattle.dmr_show.specs.declared.file_summary.FileSummary.{FileSummary}

@@ -2,7 +2,7 @@
 ghost use Rattle.std.specs.Io.KnownBytes.{Appends};
 ghost use Rattle.std.specs.Prelude.{◌≡◌, ◌≤◌, [], OnOk, false, length};
 ghost use Rattle.dmr_record.specs.Devices.{failed_after};
-ghost use Rattle.dmr_report.specs.Line.{PutsLine};
+ghost use Rattle.dmr_lines.specs.Line.{PutsLine};
 ghost use Rattle.dmr_show.specs.Held.{held_by};
 ghost use Rattle.dmr_show.specs.Filter.{IsInSlot, Passes};
 ghost use Rattle.dmr_show.specs.Printed.{PutsLines, frames_of, lines_at, lines_of_slot, lines_of_strip};
@@ -19,7 +19,7 @@ use dmr_listing::{
     RecordedBurst, RecordingSummary, Strip, StripLines,
 };
 use dmr_record::{DeviceFault, FileFormat, Outgoing, Received, Sink};
-use dmr_report::line_of;
+use dmr_lines::line_of;
 use std::fmt::{Display, Write};
 
 /// Prints the lines of a file to a sink, each in a notation, as far as a filter lets them pass.

@@ -1,8 +1,8 @@
 //! A file, shown.
 ghost use Rattle.std.specs.Prelude.{◌≡◌, ◌≤◌, ◌⊎◌, false, true, length, IfOk, IfErr, OnOk};
 ghost use Rattle.dmr_listing.specs.Endings.{IfFile, IfNotWritten};
-ghost use Rattle.dmr_report.specs.Line.{PutsError};
-ghost use Rattle.dmr_report.specs.Status.{failure, success};
+ghost use Rattle.dmr_lines.specs.Line.{PutsError};
+ghost use Rattle.dmr_lines.specs.Status.{failure, success};
 ghost use Rattle.dmr_show.specs.Showing.{BeginsWithStrip, IsAtFault, IsShownInPart, IsShownWhole, IsWithoutStrip, TellsFault};
 
 use crate::file_listing::{Shown, show_all};
@@ -11,7 +11,7 @@ use crate::form::Form;
 use crate::lines::Lines;
 use dmr_listing::{FaultLine, ListingEnd};
 use dmr_record::{OCTET_LIMIT, Sink, Source};
-use dmr_report::{FAILURE, SUCCESS, line_of, print_error};
+use dmr_lines::{FAILURE, SUCCESS, line_of, print_error};
 use std::alloc::{AllocError, Global};
 
 /// How many octets the longest line has at most: a received record that is no datagram, in digits, behind its other columns.

@@ -2,7 +2,7 @@
 ghost use Rattle.std.specs.Prelude.{◌≡◌, ◌++◌, [], OnOk, OnErr, false};
 ghost use Rattle.std.specs.Io.KnownBytes.{Appends};
 ghost use Rattle.dmr_record.specs.Devices.{Tears, failed_after};
-ghost use Rattle.dmr_report.specs.Line.{line_octets};
+ghost use Rattle.dmr_lines.specs.Line.{line_octets};
 ghost use Rattle.dmr_show.specs.Held.{held_by};
 
 use arrayvec::ArrayVec;

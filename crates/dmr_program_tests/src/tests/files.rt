@@ -1,9 +1,9 @@
 //! Which place each file is taken from, which files are no others, and whose fault is told.
 use crate::tests::stand_in::StandIn;
-use dmr_files::{Place, Places, run_places};
+use dmr_files::Place;
 use dmr_gateway::Config;
+use dmr_program::{Places, RunEnd, run_places};
 use dmr_repeater::{Stream, Summary};
-use dmr_report::RunEnd;
 use std::process::Abort;
 
 /// The numbers of a run over the stand-in's files.

@@ -1,9 +1,10 @@
 //! What is printed, to which sink, and the status.
 use arrayvec::ArrayString;
 use dmr_gateway::ConfigFault;
+use dmr_lines::{print_error, print_text};
+use dmr_program::{RunEnd, print_end, print_slot};
 use dmr_record::{RecordFault, ToWrite};
 use dmr_repeater::{RunFault, Stream, Summary};
-use dmr_report::{RunEnd, print_end, print_error, print_slot, print_text};
 use std::fmt::Write;
 use std::process::Abort;
 

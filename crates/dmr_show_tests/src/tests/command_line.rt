@@ -1,8 +1,8 @@
 //! The command line of `show`, over a system of one file.
-use dmr_command::{Request, obey, request_of};
 use dmr_files::{FileKind, Identity, Open, Place, StandardFiles, System};
 use dmr_record::ToWrite;
 use dmr_show::{Filter, Form};
+use dmr_tools::{Request, obey, request_of};
 use std::io::{self, ErrorKind, Sink};
 use std::test::Fail;
 

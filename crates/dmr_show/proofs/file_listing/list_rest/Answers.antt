@@ -1,5 +1,5 @@
 use Rattle.std.proofs.Common.{rules}
-use Rattle.dmr_report.specs.Line.{PutsLine}
+use Rattle.dmr_lines.specs.Line.{PutsLine}
 use Rattle.dmr_show.proofs.Shown.{rest_behind, rest_between, told}
 use Rattle.dmr_show.specs.Held.{held_by}
 use Rattle.dmr_show.proofs.file_listing.list_rest.Goals as goal

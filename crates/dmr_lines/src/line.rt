@@ -1,0 +1,83 @@
+//! Lines of text.
+ghost use Rattle.std.specs.Prelude.{◌≡◌, false, true, OnOk, OnErr};
+ghost use Rattle.std.specs.Io.KnownBytes.{Appends};
+ghost use Rattle.dmr_lines.specs.Line.{IsOneLine, error_octets, first_line, line_octets};
+ghost use Rattle.dmr_lines.specs.Status.{failure};
+
+use crate::status::FAILURE;
+use dmr_record::{RecordFault, Sink, put};
+
+/// A text up to its first line feed, so that it has one line whatever it prints: all of it, where it has none.
+pub fn line_of(text: &str) -> &str
+    ensures line { result.now ≡ first_line text.now }
+    ensures one { IsOneLine result.now }
+    ensures whole { IsOneLine text.now → result.now ≡ text.now }
+{
+    match text.split_once('\n') {
+        Some((line, _)) => line,
+        None => text,
+    }
+}
+
+/// Puts a text and the end of its line.
+fn put_line<K: Sink>(sink: &mut K, text: &str) -> Result<(), RecordFault>
+    requires well { K.has_failed sink.old ≡ false }
+    ensures octets { OnOk result (Appends (K.held sink.old) (K.held sink.new) (line_octets text.now)) }
+    ensures well { OnOk result (K.has_failed sink.new ≡ false) }
+    ensures failed { OnErr result (K.has_failed sink.new ≡ true) }
+{
+    put(sink, text.as_bytes())?;
+    put(sink, b"\n")
+}
+
+/// Puts a line that tells an error.
+fn put_error<K: Sink>(sink: &mut K, message: &str) -> Result<(), RecordFault>
+    requires well { K.has_failed sink.old ≡ false }
+    ensures octets { OnOk result (Appends (K.held sink.old) (K.held sink.new) (error_octets message.now)) }
+    ensures well { OnOk result (K.has_failed sink.new ≡ false) }
+    ensures failed { OnErr result (K.has_failed sink.new ≡ true) }
+{
+    put(sink, b"error: ")?;
+    put_line(sink, message)
+}
+
+/// The status, where what was to be printed was.
+fn status_after(printed: Result<(), RecordFault>, status: u8) -> u8
+    ensures ok { OnOk printed (result ≡ status) }
+    ensures err { OnErr printed (result ≡ failure) }
+{
+    match printed {
+        Ok(()) => status,
+        Err(_) => FAILURE,
+    }
+}
+
+/// Prints a line, and answers the status that is to follow it.
+pub fn print_line<K: Sink>(sink: &mut K, text: &str, status: u8) -> u8
+    requires well { K.has_failed sink.old ≡ false }
+    ensures octets { K.has_failed sink.new ≡ false → Appends (K.held sink.old) (K.held sink.new) (line_octets text.now) }
+    ensures status { K.has_failed sink.new ≡ false → result ≡ status }
+    ensures failed { K.has_failed sink.new ≡ true → result ≡ failure }
+{
+    status_after(put_line(sink, text), status)
+}
+
+/// Prints a line that tells an error, and answers the status that is to follow it.
+pub fn print_error<K: Sink>(sink: &mut K, message: &str, status: u8) -> u8
+    requires well { K.has_failed sink.old ≡ false }
+    ensures octets { K.has_failed sink.new ≡ false → Appends (K.held sink.old) (K.held sink.new) (error_octets message.now) }
+    ensures status { K.has_failed sink.new ≡ false → result ≡ status }
+    ensures failed { K.has_failed sink.new ≡ true → result ≡ failure }
+{
+    status_after(put_error(sink, message), status)
+}
+
+/// Prints a text that has its own ends of lines, and answers the status that is to follow it.
+pub fn print_text<K: Sink>(sink: &mut K, text: &str, status: u8) -> u8
+    requires well { K.has_failed sink.old ≡ false }
+    ensures octets { K.has_failed sink.new ≡ false → Appends (K.held sink.old) (K.held sink.new) text.now }
+    ensures status { K.has_failed sink.new ≡ false → result ≡ status }
+    ensures failed { K.has_failed sink.new ≡ true → result ≡ failure }
+{
+    status_after(put(sink, text.as_bytes()), status)
+}

@@ -1,0 +1,38 @@
+//! What the parser answers in place of matches.
+ghost use Rattle.std.specs.Prelude.{◌≡◌, ◌≤◌, ◌⊎◌, false, true};
+ghost use Rattle.dmr_lines.specs.Line.{PutsError};
+ghost use Rattle.dmr_lines.specs.Status.{failure, success, usage};
+
+use clap::Error;
+use dmr_lines::{SUCCESS, USAGE, print_error, print_text};
+use dmr_record::Sink;
+use std::alloc::Global;
+
+/// Prints what the parser answers in place of matches, and answers the exit status: help and the version to the first sink, a
+/// mistake in the words to the second.
+pub fn print_answer<K: Sink, E: Sink>(alloc: Global, answer: &Error, out: &mut K, err: &mut E) -> u8
+    requires out { K.has_failed out.old ≡ false }
+    requires err { E.has_failed err.old ≡ false }
+    ensures alone { (out.new ≡ out.old) ⊎ (err.new ≡ err.old) }
+    ensures success { result ≡ success → err.new ≡ err.old }
+    ensures usage { result ≡ usage → out.new ≡ out.old }
+    ensures status { result ≤ 2 }
+    ensures out_failed { K.has_failed out.new ≡ true → result ≡ failure }
+    ensures err_failed { E.has_failed err.new ≡ true → result ≡ failure }
+{
+    match format!(in alloc; "{answer}") {
+        Ok(text) if answer.use_stderr() => print_text(err, text.as_str(), USAGE),
+        Ok(text) => print_text(out, text.as_str(), SUCCESS),
+        Err(_) => print_error(err, "out of memory", USAGE),
+    }
+}
+
+/// Tells that another program does what is asked for, and answers the exit status. Nobody sees it who starts the script `dmrgate`.
+pub fn print_elsewhere<E: Sink>(err: &mut E) -> u8
+    requires err { E.has_failed err.old ≡ false }
+    ensures error { E.has_failed err.new ≡ false → PutsError (E.held err.old) (E.held err.new) }
+    ensures status { E.has_failed err.new ≡ false → result ≡ usage }
+    ensures failed { E.has_failed err.new ≡ true → result ≡ failure }
+{
+    print_error(err, "another program of dmrgate does this: start it by the command dmrgate", USAGE)
+}

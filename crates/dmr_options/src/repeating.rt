@@ -1,0 +1,116 @@
+//! The command line of the program that repeats: `run` and `slot` with their options, and every other command by its name.
+
+use crate::arguments::{file, number, word};
+use crate::commands::{Listed, bare_command, command};
+use crate::texts::{ABOUT_RUNS, ABOUT_SLOTS};
+use clap::{Arg, Command, value_parser};
+use std::alloc::{AllocError, Global};
+
+/// The gateway's address.
+fn address<'a>(alloc: Global) -> Arg<'a> {
+    let help = "The gateway's address on the air (LLID), 1 to 16777215";
+    number(alloc, "llid", help)
+        .value_parser(value_parser!(u32).range(1..16_777_216))
+        .required(true)
+}
+
+/// The colour code, in either spelling.
+fn colour<'a>(alloc: Global) -> Result<Arg<'a>, AllocError> {
+    number(alloc, "colour", "The colour code, 0 to 15")
+        .value_parser(value_parser!(u8).range(0..16))
+        .default_value("1")
+        .alias("color")
+}
+
+/// How many frames a hang has, and how many it has where that is left out.
+fn hang<'a>(alloc: Global, name: &'a str, help: &'a str, frames: &'a str) -> Arg<'a> {
+    number(alloc, name, help)
+        .value_parser(value_parser!(u16))
+        .default_value(frames)
+}
+
+/// How many datagrams may wait.
+fn queue<'a>(alloc: Global) -> Arg<'a> {
+    number(alloc, "queue", "Datagrams that may wait in a slot, 1 to 64")
+        .value_parser(value_parser!(u8).range(1..65))
+        .default_value("9")
+}
+
+/// The options of `run` that name files.
+fn files<'a>(alloc: Global) -> Result<Vec<Arg<'a>>, AllocError> {
+    Ok(vec![in alloc;
+        file(
+            alloc,
+            "uplink",
+            "The recording of the uplink, to read; - is standard input",
+        ),
+        file(
+            alloc,
+            "outgoing",
+            "The datagrams to send, to read; - is standard input",
+        ),
+        file(
+            alloc,
+            "downlink",
+            "The downlink, to write; - is standard output, where that is a pipe",
+        ),
+        file(
+            alloc,
+            "received",
+            "The datagrams received, to write; - is standard output, where that is a pipe",
+        ),
+    ]?)
+}
+
+/// The options of `run` that are settings.
+fn settings<'a>(alloc: Global) -> Result<Vec<Arg<'a>>, AllocError> {
+    let colour = colour(alloc)?;
+    Ok(vec![in alloc;
+        address(alloc),
+        colour,
+        hang(
+            alloc,
+            "call-hang",
+            "Frames of 60 ms that a call is held behind its last burst, at most the channel hang",
+            "3",
+        ),
+        hang(
+            alloc,
+            "channel-hang",
+            "Frames of 60 ms that the channel stays on the air behind its last traffic, 0 to 65535",
+            "5",
+        ),
+        queue(alloc),
+    ]?)
+}
+
+/// The burst of `slot`.
+fn burst<'a>(alloc: Global) -> Arg<'a> {
+    word(alloc, "burst", "HEX", "A burst of 66 hexadecimal digits")
+}
+
+/// `run`, with its files and its settings.
+fn run_command<'a>(alloc: Global) -> Result<Command<'a>, AllocError> {
+    let files = files(alloc)?;
+    let settings = settings(alloc)?;
+    bare_command(alloc, Listed::RUN)
+        .after_help(ABOUT_RUNS)
+        .args(files)?
+        .args(settings)
+}
+
+/// `slot`, with its burst.
+fn slot_command<'a>(alloc: Global) -> Result<Command<'a>, AllocError> {
+    bare_command(alloc, Listed::SLOT)
+        .after_help(ABOUT_SLOTS)
+        .arg(burst(alloc))
+}
+
+/// The command line of the program that repeats.
+pub fn repeating_commands<'a>(alloc: Global) -> Result<Command<'a>, AllocError> {
+    let run = run_command(alloc)?;
+    let slot = slot_command(alloc)?;
+    let show = bare_command(alloc, Listed::SHOW);
+    let commands = vec![in alloc; run, slot, show]?;
+    command(alloc, commands)
+}

@@ -1,0 +1,28 @@
+//! The words that a program is started with.
+ghost use Rattle.std.specs.Prelude.{◌≡◌, ◌≤◌, false, true};
+ghost use Rattle.dmr_lines.specs.Line.{PutsError};
+ghost use Rattle.dmr_lines.specs.Status.{failure, usage};
+
+use dmr_lines::{USAGE, print_error};
+use dmr_record::Sink;
+use std::env;
+use std::io::{self, Error, ErrorKind};
+
+/// The words of the command line, of which the first is the program's name.
+pub fn words_of(rt: &HostRuntime) -> io::Result<Vec<String>> {
+    let words = env::args(rt)?.collect(rt.alloc())?;
+    Ok(words)
+}
+
+/// Tells why the words of the command line can't be had, and answers the exit status.
+pub fn print_no_words<E: Sink>(error: &Error, err: &mut E) -> u8
+    requires err { E.has_failed err.old ≡ false }
+    ensures error { E.has_failed err.new ≡ false → PutsError (E.held err.old) (E.held err.new) }
+    ensures status { E.has_failed err.new ≡ false → result ≡ usage }
+    ensures failed { E.has_failed err.new ≡ true → result ≡ failure }
+{
+    match error.kind() {
+        ErrorKind::OutOfMemory => print_error(err, "out of memory", USAGE),
+        _ => print_error(err, "the command line is not UTF-8 text", USAGE),
+    }
+}

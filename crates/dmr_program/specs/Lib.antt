@@ -1,0 +1,4 @@
+pub mod Apart
+pub mod Digits
+pub mod Ending
+pub mod RunEnd

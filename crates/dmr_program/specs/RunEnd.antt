@@ -1,0 +1,17 @@
+-- How runs end.
+use Rattle.std.specs.Prelude.{ℕ}
+use Rattle.dmr_lines.specs.Status.{success, failure, usage}
+use Rattle.dmr_program.specs.declared.run_end.RunEnd.{RunEnd}
+use Rattle.dmr_program.specs.declared.run_end.RunEnd.TheVariants.{Done, Fault, CannotOpen, Setting}
+
+-- at the end of its files
+abbrev pub IsDone : RunEnd → Type 0
+IsDone (Done summary) = Unit {0}
+IsDone end = ⊥
+
+-- The exit status: success of a run that was done, failure of one that wasn't, and that of usage of one that can't be asked for.
+abbrev pub status_of : RunEnd → ℕ
+status_of (Done summary) = success
+status_of (Fault fault) = failure
+status_of (CannotOpen stream) = failure
+status_of (Setting fault) = usage

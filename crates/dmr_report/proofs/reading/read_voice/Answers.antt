@@ -1,6 +1,0 @@
-use Rattle.dmr_report.proofs.reading.read_voice.Goals as goal
-
-pub returns-in-None : goal.returns-in-None
-returns-in-None c = record {
-  read = (c.requires.sync, λ emb has. cc (c.in-None.ensures.only emb has));
-}

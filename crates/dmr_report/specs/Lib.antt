@@ -1,5 +1,0 @@
-pub mod Digits
-pub mod Line
-pub mod Reading
-pub mod RunEnd
-pub mod Status

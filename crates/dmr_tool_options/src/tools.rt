@@ -1,0 +1,15 @@
+//! The command line of the tools.
+
+use crate::showing::show_command;
+use clap::Command;
+use dmr_options::{Listed, bare_command, command};
+use std::alloc::{AllocError, Global};
+
+/// The command line of the tools, with the other commands by their names.
+pub fn tool_commands<'a>(alloc: Global) -> Result<Command<'a>, AllocError> {
+    let show = show_command(alloc)?;
+    let run = bare_command(alloc, Listed::RUN);
+    let slot = bare_command(alloc, Listed::SLOT);
+    let commands = vec![in alloc; run, slot, show]?;
+    command(alloc, commands)
+}

@@ -1,0 +1,15 @@
+//! The command line of the tools: what its words ask for, and doing that.
+//!
+//! The tools are what `dmrgate` does beside repeating; they are a program of their own, so that nobody who repeats waits for their
+//! proofs. `request_of` reads the words, by a command line parser whose texts are its own, and `fulfil` does what they ask for, on
+//! a system (`dmr_files`), and prints to two sinks (`dmr_record`): what was asked for to the first, errors to the second. `obey` is
+//! both, and `program` is that on the system that it runs on. `specs/Request.antt` says which option each part comes from.
+#![tactic(auto)]
+
+mod obeying;
+mod process;
+mod request;
+
+pub use obeying::{fulfil, obey};
+pub use process::program;
+pub use request::{Request, request_of};

@@ -1,0 +1,116 @@
+//! Doing what the words of a command line ask for.
+ghost use Rattle.std.specs.Prelude.{◌≡◌, ◌≤◌, ◌⊎◌, false, true};
+ghost use Rattle.dmr_lines.specs.Line.{PutsError};
+ghost use Rattle.dmr_lines.specs.Status.{failure, success, usage};
+ghost use Rattle.dmr_show.specs.Showing.{TellsFault};
+ghost use Rattle.dmr_tools.specs.Request.{IsShow};
+
+use crate::request::{Request, request_of};
+use dmr_files::{OpenFault, Place, System, open_source};
+use dmr_lines::{FAILURE, line_of, print_error};
+use dmr_options::{print_answer, print_elsewhere};
+use dmr_record::Sink;
+use dmr_show::{Filter, Form, print_want_of_memory, show};
+use std::alloc::Global;
+use std::convert::AsStr;
+
+/// Tells that a file can't be opened.
+fn print_cannot_open<E: Sink>(alloc: Global, name: &str, err: &mut E)
+    requires err { E.has_failed err.old ≡ false }
+    ensures error { E.has_failed err.new ≡ false → PutsError (E.held err.old) (E.held err.new) }
+{
+    let name = line_of(name);
+    match format!(in alloc; "{name}: cannot open") {
+        Ok(text) => {
+            let _failure = print_error(err, line_of(text.as_str()), FAILURE);
+        }
+        Err(_) => print_want_of_memory(err),
+    }
+}
+
+/// Shows the file of this name in a form, as far as it can be read.
+fn show_file<S: System, K: Sink, E: Sink>(
+    alloc: Global,
+    system: &S,
+    name: &str,
+    form: Form,
+    filter: Filter,
+    out: &mut K,
+    err: &mut E,
+) -> u8
+    requires out { K.has_failed out.old ≡ false }
+    requires err { E.has_failed err.old ≡ false }
+    ensures alone { (err.new ≡ err.old)
+        ⊎ TellsFault result (K.has_failed out.new) (E.has_failed err.new) (E.held err.old) (E.held err.new) }
+    ensures success { result ≡ success → err.new ≡ err.old }
+    ensures status { result ≤ 1 }
+    ensures out_failed { K.has_failed out.new ≡ true → result ≡ failure }
+    ensures err_failed { E.has_failed err.new ≡ true → result ≡ failure }
+{
+    match open_source(system, alloc, Place::named(name)) {
+        Ok(mut source) => show(alloc, name, form, filter, &mut source, out, err),
+        Err(OpenFault::CannotOpen) => {
+            print_cannot_open(alloc, name, err);
+            FAILURE
+        }
+        Err(OpenFault::Memory) => {
+            print_want_of_memory(err);
+            FAILURE
+        }
+    }
+}
+
+/// Does what is asked for, and answers the exit status.
+pub fn fulfil<S: System, K: Sink, E: Sink>(
+    alloc: Global,
+    request: Request<'_>,
+    system: &S,
+    out: &mut K,
+    err: &mut E,
+) -> u8
+    requires out { K.has_failed out.old ≡ false }
+    requires err { E.has_failed err.old ≡ false }
+    // What isn't done here is told to the second sink.
+    ensures elsewhere { (IsShow request.entry → ⊥) → out.new ≡ out.old }
+    // A listing goes to the first; where it ends at a fault, a line of error goes to the second.
+    ensures listing { IsShow request.entry → (err.new ≡ err.old)
+        ⊎ TellsFault result (K.has_failed out.new) (E.has_failed err.new) (E.held err.old) (E.held err.new) }
+    ensures success { result ≡ success → err.new ≡ err.old }
+    ensures usage { result ≡ usage → out.new ≡ out.old }
+    ensures status { result ≤ 2 }
+    ensures out_failed { K.has_failed out.new ≡ true → result ≡ failure }
+    ensures err_failed { E.has_failed err.new ≡ true → result ≡ failure }
+{
+    match request {
+        Request::Show { name, form, filter } => show_file(
+            alloc, system, name, form, filter, out, err,
+        ),
+        Request::Elsewhere(_) => print_elsewhere(err),
+    }
+}
+
+/// Does what the words of a command line ask for, of which the first is the program's name, and answers the exit status.
+pub fn obey<T: AsStr, S: System, K: Sink, E: Sink>(
+    alloc: Global,
+    words: &[T],
+    system: &S,
+    out: &mut K,
+    err: &mut E,
+) -> u8
+    requires out { K.has_failed out.old ≡ false }
+    requires err { E.has_failed err.old ≡ false }
+    // What is printed goes to one of the two, which of them the status tells; a listing that ends at a fault goes to the first, and
+    // its line of error to the second.
+    ensures alone { (out.new ≡ out.old) ⊎ (err.new ≡ err.old)
+        ⊎ TellsFault result (K.has_failed out.new) (E.has_failed err.new) (E.held err.old) (E.held err.new) }
+    ensures success { result ≡ success → err.new ≡ err.old }
+    ensures usage { result ≡ usage → out.new ≡ out.old }
+    ensures status { result ≤ 2 }
+    ensures out_failed { K.has_failed out.new ≡ true → result ≡ failure }
+    ensures err_failed { E.has_failed err.new ≡ true → result ≡ failure }
+{
+    match request_of(alloc, words) {
+        Ok(request) => fulfil(alloc, request, system, out, err),
+        Err(answer) => print_answer(alloc, &answer, out, err),
+    }
+}

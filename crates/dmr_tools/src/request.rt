@@ -1,0 +1,76 @@
+//! What the words of a command line ask for.
+ghost use Rattle.std.specs.Prelude.{◌≡◌, option_map};
+ghost use Rattle.clap.specs.Words.{found_of};
+ghost use Rattle.dmr_tools.specs.Request.{IsAskedBy, IsFilterOf, IsFormOf, form_by};
+
+use clap::{ArgMatches, Error};
+use dmr_options::{flag_of, text_of};
+use dmr_show::{Filter, Form};
+use dmr_tool_options::tool_commands;
+use std::alloc::Global;
+use std::convert::AsStr;
+
+/// What the words of a command line ask for.
+#[derive(Clone, Copy)]
+pub enum Request<'a> {
+    /// To show the file of this name in a form, as far as a filter lets its lines pass.
+    Show {
+        name: &'a str,
+        form: Form,
+        filter: Filter,
+    },
+    /// What another program does, by the name of the command.
+    Elsewhere(&'a str),
+}
+
+/// The lines that a command line of `show` asks for.
+fn filter_of(show: &ArgMatches<'_>) -> Filter
+    ensures filter { IsFilterOf (found_of show.now) result }
+{
+    Filter {
+        slot: show.get_one::<u8>("slot"),
+        from: show.get_one::<u32>("from"),
+        to: show.get_one::<u32>("to"),
+    }
+}
+
+/// The form by the two options that ask for one.
+fn form_by(strip: bool, json: bool) -> Form
+    ensures value { result ≡ form_by strip json }
+{
+    match (strip, json) {
+        (true, _) => Form::Strip,
+        (false, true) => Form::Json,
+        (false, false) => Form::Listing,
+    }
+}
+
+/// The form that a command line of `show` asks for.
+fn form_of(show: &ArgMatches<'_>) -> Form
+    ensures form { IsFormOf (found_of show.now) result }
+{
+    form_by(flag_of(show, "strip"), flag_of(show, "json"))
+}
+
+/// What a command with its options asks for.
+pub(crate) fn request_by<'a>(command: Option<(&'a str, &ArgMatches<'a>)>) -> Request<'a>
+    ensures asked { IsAskedBy (option_map (λ c. (c.0.now, found_of c.1.now)) command.entry) result }
+{
+    match command {
+        Some(("show", show)) => Request::Show {
+            name: text_of(show, "file"),
+            form: form_of(show),
+            filter: filter_of(show),
+        },
+        Some((name, _)) => Request::Elsewhere(name),
+        // Not reached, since a command is required.
+        None => Request::Elsewhere(""),
+    }
+}
+
+/// What the words of a command line ask for, of which the first is the program's name. The error has the text for whoever wrote
+/// them, which is help or the version where these are asked for.
+pub fn request_of<'a, T: AsStr>(alloc: Global, words: &'a [T]) -> Result<Request<'a>, Error> {
+    let matches = tool_commands(alloc)?.try_get_matches_from(words)?;
+    Ok(request_by(matches.subcommand()))
+}

@@ -1,0 +1,1 @@
+"""Proving and building the programs of this repository, side by side."""

@@ -1,0 +1,47 @@
+"""The Rattle kit: where it is, and the words of its compiler for a library and for a program."""
+
+import pathlib
+import shutil
+import subprocess
+import sys
+
+TARGET = "x86_64-unknown-linux-gnu"
+
+
+class Kit:
+    """The kit whose command rt is on the path."""
+
+    def __init__(self):
+        if not shutil.which("rt"):
+            sys.exit("dmrgate: to build it, the command rt of the Rattle kit has to be on the path")
+        page = subprocess.run(["rt", "doc"], capture_output=True, text=True, check=True).stdout.strip()
+        self.folder = pathlib.Path(page).parent
+        self.compiler = self.folder / "bin/rattle"
+        version = subprocess.run(["rt", "version"], capture_output=True, text=True, check=True).stdout.strip()
+        self.identity = f"{self.folder} {version}"
+
+    def libraries(self, crate, below):
+        """The words for what a crate stands on: libraries of the kit, and those of the repository, which are built."""
+        for name in ["std", *crate.of_kit]:
+            yield from ("--extern", f"{name}={self.folder}/rlibs/{name}.rlib")
+        for it in crate.below:
+            yield from ("--extern", f"{it}={below[it]}")
+        yield from ("-L", f"dependency={self.folder}/rlibs")
+        for library in below.values():
+            yield from ("-L", f"dependency={library.parent}")
+
+    def build(self, crate, below, jobs, made):
+        """The words that prove a crate and build it, with what an earlier build kept of it at hand."""
+        yield from (self.compiler, "build", "--crate-name", crate.name, crate.root)
+        yield from self.libraries(crate, below)
+        yield from ("--antt-project", f"{self.folder}/rattle/logic/antt-project.json")
+        yield from ("--logic-built", f"{self.folder}/logic_built", "--incremental", "out/incremental")
+        yield from ("--links", f"{crate.name}=", "--jobs", str(jobs))
+        if crate.is_program:
+            yield from ("--toolchain", f"{self.folder}/toolchain", "--backend", "llvm")
+        yield from ("-o", made)
+
+    def link(self, compiled, made):
+        """The words that make a program of what was compiled."""
+        yield from (self.folder / "bin/rattle-link", "--target", TARGET, "--toolchain", f"{self.folder}/toolchain")
+        yield from ("-o", made, compiled, f"{self.folder}/c/libos_c.a", f"{self.folder}/c/liblibc_c.a")
