@@ -36,7 +36,7 @@ def free_memory():
 
 
 class Built:
-    """What was built of a crate, a library or a program, beside the sum of what it was built from. A library serves one kit alone."""
+    """What was built of a crate, a library or a program, and the sum of what it was built from. A library serves one kit alone."""
 
     def __init__(self, crate, kit=None):
         self.crate = crate

@@ -22,7 +22,7 @@ pub enum Request<'a> {
         config: Result<Config, ConfigFault>,
         places: Places<'a>,
     },
-    /// What another program does, by the name of the command.
+    /// A command that another program has, by its name.
     Elsewhere(&'a str),
 }
 

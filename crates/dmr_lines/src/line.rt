@@ -1,4 +1,4 @@
-//! Lines of text.
+//! Lines of text, printed to a sink.
 ghost use Rattle.std.specs.Prelude.{◌≡◌, false, true, OnOk, OnErr};
 ghost use Rattle.std.specs.Io.KnownBytes.{Appends};
 ghost use Rattle.dmr_lines.specs.Line.{IsOneLine, error_octets, first_line, line_octets};

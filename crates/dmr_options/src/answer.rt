@@ -1,4 +1,4 @@
-//! What the parser answers in place of matches.
+//! What is printed where nothing is to be done: what the parser answers in place of matches, and that another program does it.
 ghost use Rattle.std.specs.Prelude.{◌≡◌, ◌≤◌, ◌⊎◌, false, true};
 ghost use Rattle.dmr_lines.specs.Line.{PutsError};
 ghost use Rattle.dmr_lines.specs.Status.{failure, success, usage};
@@ -27,7 +27,8 @@ pub fn print_answer<K: Sink, E: Sink>(alloc: Global, answer: &Error, out: &mut K
     }
 }
 
-/// Tells that another program does what is asked for, and answers the exit status. Nobody sees it who starts the script `dmrgate`.
+/// Tells that another program does what is asked for, and answers the exit status. Whoever starts the command `dmrgate` never sees
+/// this, since that starts the program that has the command.
 pub fn print_elsewhere<E: Sink>(err: &mut E) -> u8
     requires err { E.has_failed err.old ≡ false }
     ensures error { E.has_failed err.new ≡ false → PutsError (E.held err.old) (E.held err.new) }

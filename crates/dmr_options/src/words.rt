@@ -8,7 +8,8 @@ use dmr_record::Sink;
 use std::env;
 use std::io::{self, Error, ErrorKind};
 
-/// The words of the command line, of which the first is the program's name.
+/// The words of the command line, of which the first is the program's name. They can't be had where there is no memory, or where
+/// one of them is no UTF-8 text.
 pub fn words_of(rt: &HostRuntime) -> io::Result<Vec<String>> {
     let words = env::args(rt)?.collect(rt.alloc())?;
     Ok(words)

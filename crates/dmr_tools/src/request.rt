@@ -19,7 +19,7 @@ pub enum Request<'a> {
         form: Form,
         filter: Filter,
     },
-    /// What another program does, by the name of the command.
+    /// A command that another program has, by its name.
     Elsewhere(&'a str),
 }
 
