@@ -124,8 +124,9 @@ class Building:
             self.chains[name] = self.cost(name) + max(above, default=0)
 
     def cost(self, name):
-        """The seconds that one processor is expected to take for a crate."""
-        return self.costs.get(name, 60)
+        """The seconds that one processor is expected to take for a crate: few, where an earlier build kept what it proved."""
+        is_kept = (all_crates()[name].out / "incremental").is_dir()
+        return min(self.costs.get(name, 60), 20 if is_kept else 1000)
 
     def waits(self, name):
         """Whether a crate has to wait for another below it."""

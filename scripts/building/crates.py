@@ -2,6 +2,7 @@
 
 import functools
 import hashlib
+import os
 import pathlib
 import re
 
@@ -22,7 +23,8 @@ class Crate:
         self.root = "src/main.rt" if self.is_program else "src/lib.rt"
 
     def files(self):
-        return sorted(it for part in PARTS for it in (self.folder / part).rglob("*") if it.is_file())
+        walked = (step for part in PARTS for step in os.walk(self.folder / part))
+        return sorted(os.path.join(at, name) for at, _, names in walked for name in names)
 
 
 @functools.lru_cache(maxsize=None)
@@ -49,7 +51,9 @@ def own_sum(crate):
     """A sum of the sources of a crate as they stand now."""
     made = hashlib.sha256(repr([crate.name, crate.of_kit]).encode())
     for file in crate.files():
-        made.update(repr([str(file.relative_to(crate.folder)), file.read_bytes()]).encode())
+        with open(file, "rb") as it:
+            octets = it.read()
+        made.update(f"{os.path.relpath(file, crate.folder)} {len(octets)}\n".encode() + octets)
     return made.hexdigest()
 
 

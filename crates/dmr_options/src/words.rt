@@ -3,7 +3,7 @@ ghost use Rattle.std.specs.Prelude.{◌≡◌, ◌≤◌, false, true};
 ghost use Rattle.dmr_lines.specs.Line.{PutsError};
 ghost use Rattle.dmr_lines.specs.Status.{failure, usage};
 
-use dmr_lines::{USAGE, print_error};
+use dmr_lines::{USAGE, line_of, print_error};
 use dmr_record::Sink;
 use std::env;
 use std::io::{self, Error, ErrorKind};
@@ -22,8 +22,9 @@ pub fn print_no_words<E: Sink>(error: &Error, err: &mut E) -> u8
     ensures status { E.has_failed err.new ≡ false → result ≡ usage }
     ensures failed { E.has_failed err.new ≡ true → result ≡ failure }
 {
-    match error.kind() {
-        ErrorKind::OutOfMemory => print_error(err, "out of memory", USAGE),
-        _ => print_error(err, "the command line is not UTF-8 text", USAGE),
-    }
+    let message = match error.kind() {
+        ErrorKind::OutOfMemory => "out of memory",
+        _ => "the command line is not UTF-8 text",
+    };
+    print_error(err, line_of(message), USAGE)
 }

@@ -5,8 +5,8 @@ ghost use Rattle.dmr_repeater.specs.Runs.{is_of_its_stream};
 ghost use Rattle.dmr_program.specs.Ending.{IfDone, IfFault, IsRefused};
 
 use crate::opening::{Opened, open_files};
-use crate::places::Places;
 use crate::run_end::RunEnd;
+use dmr_command::Places;
 use dmr_files::System;
 use dmr_gateway::Config;
 use dmr_record::{FromRead, RecordFault, Sink, Source, ToWrite};
