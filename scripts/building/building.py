@@ -56,6 +56,16 @@ class Built:
     def keep(self):
         self.built_of.write_text(self.sum)
 
+    def take_over(self):
+        """Takes over the program that the gate built of these sources, which it leaves under the crate's name."""
+        built = self.crate.out / self.crate.name
+        if built.is_file():
+            self.clear()
+            new = self.made.with_suffix(".new")
+            shutil.copy(built, new)
+            new.replace(self.made)
+            self.keep()
+
 
 class Work:
     """A crate that is being proved and built, with what its commands say in a file."""

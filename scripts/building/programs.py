@@ -75,6 +75,20 @@ def tell_begun(building):
     print("dmrgate: for a look at once that proves nothing, ./dmrgate --unproved run ..", file=sys.stderr, flush=True)
 
 
+def sums():
+    """A sum of the sources of each program, as they stand now."""
+    forget()
+    return {it: Built(all_crates()[it]).sum for it in PROGRAMS}
+
+
+def take_over(before):
+    """Takes over the programs that the gate built, where the sources are still those of these sums, with which it began."""
+    with one_at_a_time():
+        for program, now in sums().items():
+            if now == before[program]:
+                Built(all_crates()[program]).take_over()
+
+
 def build(programs):
     """Proves and builds these programs, and answers where they are. Once more, where the sources change meanwhile."""
     for number in (signal.SIGTERM, signal.SIGHUP):
