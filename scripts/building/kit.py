@@ -3,22 +3,36 @@
 import pathlib
 import shutil
 import subprocess
-import sys
+
+from building.saying import fail
 
 TARGET = "x86_64-unknown-linux-gnu"
+
+
+def found_rt():
+    """The kit's command."""
+    return shutil.which("rt") or fail("to build it, the command rt of the Rattle kit has to be on the path")
+
+
+def answer_of(*words):
+    """What a command prints, in one line."""
+    ran = subprocess.run(words, capture_output=True, text=True, errors="replace")
+    if ran.returncode:
+        fail(f"{' '.join(words)} ended with status {ran.returncode}: {ran.stderr.strip()}")
+    return ran.stdout.strip()
 
 
 class Kit:
     """The kit whose command rt is on the path."""
 
     def __init__(self):
-        if not shutil.which("rt"):
-            sys.exit("dmrgate: to build it, the command rt of the Rattle kit has to be on the path")
-        page = subprocess.run(["rt", "doc"], capture_output=True, text=True, check=True).stdout.strip()
-        self.folder = pathlib.Path(page).parent
+        rt = found_rt()
+        # The page that the kit says to read first stands in its folder.
+        self.folder = pathlib.Path(answer_of(rt, "doc")).parent
         self.compiler = self.folder / "bin/rattle"
-        version = subprocess.run(["rt", "version"], capture_output=True, text=True, check=True).stdout.strip()
-        self.identity = f"{self.folder} {version}"
+        if not self.compiler.is_file():
+            fail(f"{rt} is of no Rattle kit that could build it: there is no {self.compiler}")
+        self.identity = f"{self.folder} {answer_of(rt, 'version')}"
 
     def libraries(self, crate, below):
         """The words for what a crate stands on: libraries of the kit, and those of the repository, which are built."""

@@ -34,7 +34,7 @@ class Report:
         self.programs = dict(zip(PROGRAMS, build(PROGRAMS)))
 
     def begin(self, part):
-        """A part starts the programs themselves, past the script that looks whether the sources changed, unless it says otherwise."""
+        """A part starts the programs themselves, past the script that looks after the sources, unless it says otherwise."""
         self.by_script = False
         print(f"== {part}", flush=True)
 

@@ -51,7 +51,8 @@ def help_of(report, *words):
 def check_alike(report):
     """What isn't asked of one command, all programs tell alike."""
     report.expect("there are several programs", len(report.programs) > 1, report.programs)
-    for words in ([], ["--help"], ["-h"], ["help"], ["help", "help"], ["--version"], ["-V"], ["walk"], ["help", "walk"], ["--walk"]):
+    asked = [], ["--help"], ["-h"], ["help"], ["help", "help"], ["--version"], ["-V"], ["walk"], ["help", "walk"], ["--walk"]
+    for words in asked:
         ended = [report.call(*words, program=name) for name in report.programs]
         told = {(ran.status, ran.out, ran.err) for ran in ended}
         report.expect(f"all programs tell the same of {words}", len(told) == 1, ended)
