@@ -7,7 +7,7 @@ import signal
 import subprocess
 import time
 
-from building.crates import all_crates, own_sum, sum_of, with_all_below
+from building.crates import all_crates, has_changed, sum_of, with_all_below
 
 # What a check takes at most, as far as was seen; so many run at once as the memory has room for.
 MEMORY = 2_000_000_000
@@ -15,13 +15,20 @@ MEMORY = 2_000_000_000
 # More jobs for one crate gain little.
 MOST_JOBS = 4
 
+# How often it is looked at what has ended, in seconds.
+EVERY = 0.05
+
 
 class Failed(Exception):
-    """A crate that isn't proved, or isn't built."""
+    """A crate that isn't proved, or isn't built, and the status of the command that failed."""
+
+    def __init__(self, crate, status):
+        super().__init__(crate.name)
+        self.crate, self.status = crate, status
 
 
 class Changed(Exception):
-    """A crate whose sources changed while it was built."""
+    """A crate whose sources changed since they were looked at."""
 
 
 def processors():
@@ -43,6 +50,8 @@ class Built:
         self.sum = sum_of(crate.name) + ("" if crate.is_program else f" {kit.identity}")
         self.made = crate.out / "program" if crate.is_program else crate.out / f"rlib/{crate.name}.rlib"
         self.built_of = crate.out / ("program.sources" if crate.is_program else "rlib/sources")
+        # A program is made beside its place, so that one that runs goes on with its own.
+        self.new = crate.out / "program.new" if crate.is_program else self.made
 
     def is_there(self):
         return self.made.exists() and self.built_of.is_file() and self.built_of.read_text() == self.sum
@@ -54,66 +63,90 @@ class Built:
         self.made.parent.mkdir(parents=True, exist_ok=True)
 
     def keep(self):
+        """Puts in its place what was made."""
+        if self.crate.is_program:
+            self.new.replace(self.made)
         self.built_of.write_text(self.sum)
+
+    def take_over(self):
+        """Takes over the program that the gate built of these sources, which it leaves under the crate's name."""
+        built = self.crate.out / self.crate.name
+        if built.is_file():
+            self.clear()
+            shutil.copy(built, self.new)
+            self.keep()
+
+
+class Command:
+    """A command that runs in a session of its own, with all that it starts, and inherits what keeps other builds out."""
+
+    def __init__(self, words, folder, log, held):
+        words = [str(it) for it in words]
+        with log.open("ab") as said:
+            how = {"stdin": subprocess.DEVNULL, "stdout": said, "stderr": subprocess.STDOUT, "pass_fds": held}
+            self.process = subprocess.Popen(words, cwd=folder, start_new_session=True, **how)
+
+    def has_ended(self):
+        """Whether it has ended. Until `end`, no other process gets its number."""
+        return os.waitid(os.P_PID, self.process.pid, os.WEXITED | os.WNOHANG | os.WNOWAIT) is not None
+
+    def end(self):
+        """Ends what still runs of it and of all that it started, and answers its status."""
+        os.killpg(self.process.pid, signal.SIGKILL)
+        return self.process.wait()
 
 
 class Work:
     """A crate that is being proved and built, with what its commands say in a file."""
 
-    def __init__(self, kit, built, below, jobs):
-        self.kit, self.built, self.below, self.jobs = kit, built, below, jobs
+    def __init__(self, kit, built, below, jobs, held):
+        self.kit, self.built, self.below, self.jobs, self.held = kit, built, below, jobs, held
         self.crate, self.begun = built.crate, time.monotonic()
-        self.own_sum = own_sum(self.crate)
         self.log = self.crate.out / "build.log"
+        self.fault = self.command = None
         built.clear()
         self.log.write_text("")
         self.steps = list(self.commands())
         self.begin()
 
     def commands(self):
-        made = self.built.made.relative_to(self.crate.folder)
+        made = self.built.new.relative_to(self.crate.folder)
         if not self.crate.is_program:
             yield self.kit.build(self.crate, self.below, self.jobs, made)
             return
         yield self.kit.build(self.crate, self.below, self.jobs, "out/program.o")
-        yield self.kit.link("out/program.o", "out/program.new")
+        yield self.kit.link("out/program.o", made)
 
     def begin(self):
-        words = [str(it) for it in self.steps.pop(0)]
-        with self.log.open("ab") as log:
-            how = {"stdin": subprocess.DEVNULL, "stdout": log, "stderr": subprocess.STDOUT}
-            self.process = subprocess.Popen(words, cwd=self.crate.folder, start_new_session=True, **how)
+        self.command = Command(self.steps.pop(0), self.crate.folder, self.log, self.held)
 
     def is_over(self):
-        """Whether the last command has ended; one that fails is told."""
-        if self.process.poll() is None:
+        """Whether it has ended, well or at a fault. Where a command has ended well, the next one begins."""
+        if not self.command.has_ended():
             return False
-        if self.process.returncode:
-            raise Failed(self.crate.name)
-        if self.steps:
+        status = self.end()
+        if status == 0 and self.steps:
             self.begin()
             return False
-        if own_sum(self.crate) != self.own_sum:
-            raise Changed(self.crate.name)
-        if self.crate.is_program:
-            (self.crate.out / "program.new").replace(self.built.made)
-        self.built.keep()
+        if has_changed(self.crate.name):
+            self.fault = Changed(self.crate.name)
+        elif status:
+            self.fault = Failed(self.crate, status)
+        else:
+            self.built.keep()
         return True
 
     def end(self):
-        """Ends its command and all that this began."""
-        try:
-            os.killpg(self.process.pid, signal.SIGKILL)
-        except ProcessLookupError:
-            pass
-        self.process.wait()
+        """Ends the command that runs, if one does, and answers its status."""
+        command, self.command = self.command, None
+        return command.end() if command else None
 
 
 class Building:
     """All that is to be built for some programs."""
 
-    def __init__(self, kit, programs, costs, jobs=None):
-        self.kit, self.costs, self.lanes = kit, costs, jobs or processors()
+    def __init__(self, kit, programs, costs, held):
+        self.kit, self.costs, self.held, self.lanes = kit, costs, held, processors()
         names = dict.fromkeys(it for program in programs for it in with_all_below(program))
         self.built = {it: Built(all_crates()[it], kit) for it in names}
         self.left = [it for it in names if not self.built[it].is_there()]
@@ -129,9 +162,9 @@ class Building:
         return min(self.costs.get(name, 60), 20 if is_kept else 1000)
 
     def waits(self, name):
-        """Whether a crate has to wait for another below it."""
+        """Whether a crate has to wait for another below it. All of those are at hand when it is built, not only those it names."""
         unfinished = {*self.left, *self.running}
-        return any(it in unfinished for it in all_crates()[name].below)
+        return not unfinished.isdisjoint(with_all_below(name)[:-1])
 
     def rlibs_below(self, name):
         return {it: self.built[it].made for it in with_all_below(name)[:-1]}
@@ -139,26 +172,34 @@ class Building:
     def idle(self):
         return self.lanes - sum(it.jobs for it in self.running.values())
 
+    def begin(self, name, jobs):
+        """Begins a crate, where neither its sources nor those of what it stands on have changed."""
+        changed = [it for it in with_all_below(name) if has_changed(it)]
+        if changed:
+            raise Changed(*changed)
+        self.left.remove(name)
+        self.running[name] = Work(self.kit, self.built[name], self.rlibs_below(name), jobs, self.held)
+
     def begin_more(self):
         """Begins as many crates as processors and memory allow, those with the longest chain above them first."""
         ready = sorted((it for it in self.left if not self.waits(it)), key=lambda it: -self.chains[it])
         memory = free_memory()
         while ready and self.idle() > 0 and (not self.running or memory >= MEMORY):
-            name = ready.pop(0)
             # Processors that no other crate could use help the one with the longest chain.
-            jobs = max(1, min(MOST_JOBS, self.idle() - len(ready)))
-            self.left.remove(name)
-            self.running[name] = Work(self.kit, self.built[name], self.rlibs_below(name), jobs)
+            jobs = max(1, min(MOST_JOBS, self.idle() - len(ready) + 1))
+            self.begin(ready.pop(0), jobs)
             memory -= MEMORY * jobs
 
     def take_ended(self):
-        """Takes the crates that have ended, and answers their names."""
-        ended = [name for name, work in self.running.items() if work.is_over()]
-        for name in ended:
-            work = self.running.pop(name)
+        """Takes the crates that have ended, one by one, and answers their names. Where one is at fault, the others are kept."""
+        ended = [work for work in self.running.values() if work.is_over()]
+        for fault in [work.fault for work in ended if work.fault]:
+            raise fault
+        for work in ended:
+            del self.running[work.crate.name]
             self.spent += (time.monotonic() - work.begun) * work.jobs
-            self.expected += self.cost(name)
-        return ended
+            self.expected += self.cost(work.crate.name)
+            yield work.crate.name
 
     def seconds_left(self):
         """How long it will take still: by what is expected, and by how fast this machine was so far."""
@@ -174,15 +215,16 @@ class Building:
         for work in self.running.values():
             work.end()
 
-    def run(self, progress):
-        """Proves and builds all; one that fails ends the others."""
+    def run(self, progress, ending):
+        """Proves and builds all; one that fails ends the others, and so does a signal that asks for an end."""
         try:
             while self.left or self.running:
-                self.begin_more()
+                ending.look()
                 for name in self.take_ended():
                     progress.ended(self, name)
+                self.begin_more()
                 progress.show(self)
-                time.sleep(0.1)
+                time.sleep(EVERY)
         finally:
             self.end()
             progress.close()

@@ -12,6 +12,11 @@ TOP = pathlib.Path(__file__).resolve().parent.parent.parent
 PARTS = ("src", "specs", "proofs")
 
 
+def is_of_an_editor(name):
+    """Whether an editor keeps a file of this name beside the one that it edits: a lock, what isn't saved yet, or an older text."""
+    return name.startswith((".", "#")) or name.endswith("~")
+
+
 class Crate:
     """A crate of crates.txt: the crates here that it stands on, and the libraries of the kit that it names."""
 
@@ -22,9 +27,14 @@ class Crate:
         self.is_program = (self.folder / "src/main.rt").is_file()
         self.root = "src/main.rt" if self.is_program else "src/lib.rt"
 
+    def folders(self):
+        """Each folder of its sources, with the names of the files in it."""
+        for part in PARTS:
+            for at, _, names in os.walk(self.folder / part):
+                yield at, [it for it in names if not is_of_an_editor(it)]
+
     def files(self):
-        walked = (step for part in PARTS for step in os.walk(self.folder / part))
-        return sorted(os.path.join(at, name) for at, _, names in walked for name in names)
+        return sorted(os.path.join(at, name) for at, names in self.folders() for name in names)
 
 
 @functools.lru_cache(maxsize=None)
@@ -39,6 +49,7 @@ def all_crates():
     }
 
 
+@functools.lru_cache(maxsize=None)
 def with_all_below(name):
     """A crate and all that it stands on, each behind what it stands on itself."""
     found = {}
@@ -51,20 +62,51 @@ def own_sum(crate):
     """A sum of the sources of a crate as they stand now."""
     made = hashlib.sha256(repr([crate.name, crate.of_kit]).encode())
     for file in crate.files():
-        with open(file, "rb") as it:
-            octets = it.read()
+        try:
+            with open(file, "rb") as it:
+                octets = it.read()
+        except FileNotFoundError:
+            # It went since the folder was read.
+            continue
         made.update(f"{os.path.relpath(file, crate.folder)} {len(octets)}\n".encode() + octets)
     return made.hexdigest()
 
 
+def mark_of(place):
+    """What the system gives anew to a file or a folder whenever it is changed, or nothing where there is none."""
+    try:
+        it = os.lstat(place)
+    except FileNotFoundError:
+        return None
+    return place, it.st_ino, it.st_size, it.st_mtime_ns, it.st_ctime_ns
+
+
+def marks_of(crate):
+    """The marks of all sources of a crate and of their folders. They also tell of a change that was taken back."""
+    return [mark_of(it) for it in [*sorted(at for at, _ in crate.folders()), *crate.files()]]
+
+
+@functools.lru_cache(maxsize=None)
+def seen(name):
+    """How the sources of a crate stood when they were first looked at: their marks, which are taken first, and their sum."""
+    crate = all_crates()[name]
+    return marks_of(crate), own_sum(crate)
+
+
+def has_changed(name):
+    """Whether the sources of a crate were changed since they were first looked at, also where that was taken back."""
+    crate = all_crates()[name]
+    return (marks_of(crate), own_sum(crate)) != seen(name)
+
+
 @functools.lru_cache(maxsize=None)
 def sum_of(name):
-    """A sum of the sources of a crate and of all that it stands on, as they stood when it was first asked for."""
-    crate = all_crates()[name]
-    return hashlib.sha256(repr([own_sum(crate), [sum_of(it) for it in crate.below]]).encode()).hexdigest()
+    """A sum of the sources of a crate and of all that it stands on, as they stood when they were first looked at."""
+    sums = [seen(name)[1], [sum_of(it) for it in all_crates()[name].below]]
+    return hashlib.sha256(repr(sums).encode()).hexdigest()
 
 
 def forget():
-    """Has the sources read anew, which may have changed."""
-    all_crates.cache_clear()
-    sum_of.cache_clear()
+    """Has the sources looked at anew, which may have changed."""
+    for it in (all_crates, with_all_below, seen, sum_of):
+        it.cache_clear()

@@ -3,19 +3,23 @@
 import pathlib
 import shutil
 import subprocess
-import sys
+
+from building.saying import fail
 
 TARGET = "x86_64-unknown-linux-gnu"
 
 
 def found_rt():
     """The kit's command."""
-    return shutil.which("rt") or sys.exit("dmrgate: to build it, the command rt of the Rattle kit has to be on the path")
+    return shutil.which("rt") or fail("to build it, the command rt of the Rattle kit has to be on the path")
 
 
 def answer_of(*words):
     """What a command prints, in one line."""
-    return subprocess.run(words, capture_output=True, text=True, check=True).stdout.strip()
+    ran = subprocess.run(words, capture_output=True, text=True, errors="replace")
+    if ran.returncode:
+        fail(f"{' '.join(words)} ended with status {ran.returncode}: {ran.stderr.strip()}")
+    return ran.stdout.strip()
 
 
 class Kit:
@@ -26,6 +30,8 @@ class Kit:
         # The page that the kit says to read first stands in its folder.
         self.folder = pathlib.Path(answer_of(rt, "doc")).parent
         self.compiler = self.folder / "bin/rattle"
+        if not self.compiler.is_file():
+            fail(f"{rt} is of no Rattle kit that could build it: there is no {self.compiler}")
         self.identity = f"{self.folder} {answer_of(rt, 'version')}"
 
     def libraries(self, crate, below):

@@ -1,14 +1,15 @@
 """The programs behind the one command: which does what, and how they are made ready."""
 
 import contextlib
-import fcntl
 import signal
-import sys
 
 from building.building import Building, Built, Changed, Failed
-from building.crates import TOP, all_crates, forget
+from building.crates import TOP, all_crates, forget, seen, sum_of, with_all_below
+from building.ending import Ending
 from building.kit import Kit
-from building.progress import minutes, progress_on
+from building.locking import alone_in
+from building.progress import minutes, progress
+from building.saying import fail, say, write
 
 FIRST = "dmrgate"
 
@@ -43,55 +44,56 @@ def costs():
     return {name: int(seconds) for name, seconds in (line.split() for line in lines if line and not line.startswith("#"))}
 
 
-@contextlib.contextmanager
-def one_at_a_time():
-    """Waits while another build of this repository runs."""
-    folder = TOP / "crates" / FIRST / "out"
-    folder.mkdir(parents=True, exist_ok=True)
-    with open(folder / "lock", "w") as lock:
-        try:
-            fcntl.flock(lock, fcntl.LOCK_EX | fcntl.LOCK_NB)
-        except BlockingIOError:
-            print("dmrgate: waiting for another build of it to end", file=sys.stderr, flush=True)
-            fcntl.flock(lock, fcntl.LOCK_EX)
-        yield
-
-
-def ended_by(number, _frame):
-    sys.exit(128 + number)
-
-
-def tell_failed(name):
+def tell_failed(fault):
     """Shows the end of what was said of a crate that isn't proved, or isn't built."""
-    log = all_crates()[name].out / "build.log"
-    print("\n".join(log.read_text(errors="replace").splitlines()[-LAST_LINES:]), file=sys.stderr)
-    sys.exit(f"dmrgate: {name} is not proved or not built; all that was said stands in {log.relative_to(TOP)}")
+    log = fault.crate.out / "build.log"
+    write("".join(f"{line}\n" for line in log.read_text(errors="replace").splitlines()[-LAST_LINES:]))
+    if fault.status == -signal.SIGKILL:
+        say("it was killed, most likely for want of memory")
+    fail(f"{fault.crate.name} is not proved or not built; all that was said stands in {log.relative_to(TOP)}")
 
 
 def tell_begun(building):
     """Says what begins, and what to do for who doesn't want to wait."""
-    count = len(building.left)
-    print(f"dmrgate: proving and building {count} of {building.total} crates, {minutes(building.seconds_left())}", file=sys.stderr)
-    print("dmrgate: for a look at once that proves nothing, ./dmrgate --unproved run ..", file=sys.stderr, flush=True)
+    say(f"proving and building {len(building.left)} of {building.total} crates, {minutes(building.seconds_left())}")
+    say("for a look at once that proves nothing, ./dmrgate --unproved run ..")
+
+
+@contextlib.contextmanager
+def alone():
+    """Keeps other builds out, and notes the signals that ask for an end: answers those, and what keeps the others out."""
+    folders = [it.folder for it in all_crates().values() if it.folder.is_dir()]
+    with Ending() as ending, alone_in(folders, ending) as held:
+        yield ending, held
+
+
+def states():
+    """How the sources of each program stand now."""
+    forget()
+    return {it: [sum_of(it), *(seen(crate) for crate in with_all_below(it))] for it in PROGRAMS}
+
+
+def take_over(before):
+    """Takes over the programs that the gate built, where the sources stand as they did when it began, and did so all the time."""
+    with alone():
+        for program, now in states().items():
+            if now == before[program]:
+                Built(all_crates()[program]).take_over()
 
 
 def build(programs):
     """Proves and builds these programs, and answers where they are. Once more, where the sources change meanwhile."""
-    for number in (signal.SIGTERM, signal.SIGHUP):
-        signal.signal(number, ended_by)
-    with one_at_a_time():
+    with alone() as (ending, held):
         while True:
             forget()
-            made = [ready(it) for it in programs]
-            if all(made):
-                return made
-            building = Building(Kit(), programs, costs())
+            left = [it for it in programs if not ready(it)]
+            if not left:
+                return [ready(it) for it in programs]
+            building = Building(Kit(), left, costs(), held)
             tell_begun(building)
             try:
-                building.run(progress_on(sys.stderr))
-            except Failed as failed:
-                tell_failed(failed.args[0])
+                building.run(progress(), ending)
+            except Failed as fault:
+                tell_failed(fault)
             except Changed:
-                print("dmrgate: the sources changed meanwhile", file=sys.stderr)
-            except KeyboardInterrupt:
-                sys.exit(128 + signal.SIGINT)
+                say("the sources changed meanwhile")

@@ -1,7 +1,13 @@
 """How far a build is, in a line."""
 
+import os
 import sys
 import time
+
+from building.saying import say, write
+
+# Goes back to the beginning of the line, and clears it.
+RENEWED = "\r\x1b[K"
 
 
 def minutes(seconds):
@@ -22,29 +28,34 @@ class OnTerminal:
     """One line that is renewed."""
 
     def __init__(self, stream):
-        self.stream, self.shown_at = stream, 0
+        self.stream, self.shown_at = stream, None
 
     def ended(self, building, name):
-        self.shown_at = 0
+        self.shown_at = None
 
     def show(self, building):
         now = time.monotonic()
-        if now - self.shown_at >= 1:
+        if self.shown_at is None or now - self.shown_at >= 1:
             self.shown_at = now
-            print(f"\r\x1b[K{how_far(building)}: {', '.join(building.running)}", end="", file=self.stream, flush=True)
+            line = ": ".join(it for it in (how_far(building), ", ".join(building.running)) if it)
+            # A line that is longer than the terminal is wide would go on in the next one, and stay there.
+            write(RENEWED + line[: self.width() - 1])
+
+    def width(self):
+        try:
+            return os.get_terminal_size(self.stream.fileno()).columns or 80
+        except OSError:
+            return 80
 
     def close(self):
-        print("\r\x1b[K", end="", file=self.stream, flush=True)
+        write(RENEWED)
 
 
 class InLines:
     """A line for each crate that is there."""
 
-    def __init__(self, stream):
-        self.stream = stream
-
     def ended(self, building, name):
-        print(f"dmrgate: {name} is proved and built: {how_far(building)}", file=self.stream, flush=True)
+        say(f"{name} is proved and built: {how_far(building)}")
 
     def show(self, building):
         pass
@@ -53,5 +64,7 @@ class InLines:
         pass
 
 
-def progress_on(stream):
-    return OnTerminal(stream) if stream.isatty() else InLines(stream)
+def progress():
+    """The progress for whoever reads standard error."""
+    is_terminal = sys.stderr is not None and sys.stderr.isatty() and os.environ.get("TERM") != "dumb"
+    return OnTerminal(sys.stderr) if is_terminal else InLines()

@@ -1,12 +1,14 @@
-"""The program as users run it, and what is expected of it."""
+"""The programs as users run them, and what is expected of them."""
 
 import pathlib
 import subprocess
 import tempfile
 
+from building.programs import PROGRAMS, build, program_of
+
 
 class Ran:
-    """How a run of the program ended: its status, and what it printed."""
+    """How a run of a program ended: its status, and what it printed."""
 
     def __init__(self, status, out, err):
         self.status, self.out, self.err = status, out, err
@@ -24,17 +26,21 @@ class Report:
 
     def __init__(self, top):
         self.top, self.passed, self.failed = top, 0, 0
-        self.script, self.built = top / "dmrgate", top / "crates/dmr_program/out/dmrgate"
-        self.program = self.script
-        self.is_built = False
+        self.script, self.programs = top / "dmrgate", {}
+        self.by_script = False
+
+    def build(self):
+        """Has the programs proved and built, where they aren't."""
+        self.programs = dict(zip(PROGRAMS, build(PROGRAMS)))
 
     def begin(self, part):
-        """A part starts the program itself, past the script that looks whether the sources changed, unless it says otherwise."""
-        if not self.is_built:
-            subprocess.run([self.script, "--version"], stdout=subprocess.DEVNULL, check=True)
-            self.is_built = True
-        self.program = self.built
+        """A part starts the programs themselves, past the script that looks after the sources, unless it says otherwise."""
+        self.by_script = False
         print(f"== {part}", flush=True)
+
+    def started_for(self, words):
+        """What is started for these words: the script, or the program that it would choose."""
+        return self.script if self.by_script else self.programs[program_of(words)]
 
     def expect(self, name, is_so, why=""):
         if is_so:
@@ -43,11 +49,13 @@ class Report:
             self.failed += 1
             print(f"FAILED {name}: {why}", flush=True)
 
-    def call(self, *words, given=b"", cwd=None, env=None, **streams):
-        """Runs the program with these words, and this on its standard input."""
+    def call(self, *words, program=None, given=b"", cwd=None, env=None, **streams):
+        """Runs what does these words, or the program of this name, with this on its standard input."""
+        words = [str(it) for it in words]
+        started = self.programs[program] if program else self.started_for(words)
         how = {"stdout": subprocess.PIPE, "stderr": subprocess.PIPE, **streams}
         how.update({} if "stdin" in how else {"input": given})
-        ran = subprocess.run([self.program, *map(str, words)], cwd=cwd, env=env, timeout=600, **how)
+        ran = subprocess.run([started, *words], cwd=cwd, env=env, timeout=600, **how)
         return Ran(ran.returncode, ran.stdout or b"", ran.stderr or b"")
 
 

@@ -179,13 +179,23 @@ def check_words(report):
     ran = report.call("slot")
     report.expect("the text of a slot without a burst", (ran.status, ran.out, ran.err.decode()) == (2, b"", SLOT_ALONE), ran)
     with open("/dev/full", "wb") as full:
-        for words in (["--help"], ["--version"], ["slot", it.IDLE]):
+        for words in (["--help"], ["--version"], ["slot", it.IDLE], ["show", "--help"], ["help", "show"]):
             ran = report.call(*words, stdout=full)
             report.expect(f"{words}, and standard output is full", (ran.status, ran.err) == (1, b""), ran)
-        ran = report.call(stderr=full)
-        report.expect("no words, and standard error is full", (ran.status, ran.out) == (1, b""), ran)
-    ran = report.call(b"slot", b"\xff".decode(errors="surrogateescape"))
-    report.expect("words that are no text", ran.is_error("the command line is not UTF-8 text", 2), ran)
+        for words in ([], ["show"]):
+            ran = report.call(*words, stderr=full)
+            report.expect(f"words {words}, and standard error is full", (ran.status, ran.out) == (1, b""), ran)
+    for command in ("slot", "show"):
+        ran = report.call(command, b"\xff".decode(errors="surrogateescape"))
+        report.expect(f"words of {command} that are no text", ran.is_error("the command line is not UTF-8 text", 2), ran)
+
+
+def check_elsewhere(report):
+    """A program refuses the commands of the other one, past the command that chooses between them."""
+    text = "another program of dmrgate does this: start it by the command dmrgate"
+    for program, command in (("dmrgate", "show"), ("dmrgate_tools", "run"), ("dmrgate_tools", "slot")):
+        ran = report.call(command, program=program)
+        report.expect(f"{program} doesn't do {command}", ran.is_error(text, 2), ran)
 
 
 def check_bursts(report):
@@ -208,4 +218,5 @@ def check(report):
     check_files(report)
     check_devices(report)
     check_words(report)
+    check_elsewhere(report)
     check_bursts(report)

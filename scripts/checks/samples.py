@@ -26,7 +26,7 @@ def check_tested_recordings(report):
 
 def check(report):
     """As users start it: by the script."""
-    report.program = report.script
+    report.by_script = True
     folders = sorted(it for it in (report.top / "samples").iterdir() if it.is_dir())
     report.expect("there are samples", folders)
     check_tested_recordings(report)

@@ -1,157 +1,201 @@
-"""The script dmrgate: whatever stands in the sources is what runs. A toolchain of a few lines stands in for the real one."""
+"""The script dmrgate: whatever stands in the sources is what runs, and nothing is built twice. A stand-in builds it."""
 
 import os
-import pathlib
+import re
 import shutil
+import signal
 import subprocess
-import tempfile
 
-# It builds a program that prints the sources, and counts its builds; so does its gate. Asked to, it changes a source meanwhile, or
-# fails.
-TOOLCHAIN = r"""#!/bin/sh
-here=$(pwd)
-top=${here%/crates/*}
-echo "$(basename "$here") $1" >>"$top/said"
-case $1 in
-    run) sleep 0.2 ;;
-    ci) cd crates/dmr_program ;;
-    *) exit 0 ;;
-esac
-if [ -e "$top/fail" ]; then
-    echo "a function is not proved"
-    exit 1
-fi
-mkdir -p out
-{
-    echo '#!/bin/sh'
-    echo "cat <<'END'"
-    cat "$top"/crates/low/src/* "$top"/crates/dmr_program/src/* "$top/crates.txt"
-    echo 'END'
-    echo 'echo "$@"'
-} >out/dmr_program
-chmod +x out/dmr_program
-if [ -e "$top/edit" ]; then
-    mv "$top/edit" "$top/crates/low/src/lib.rt"
-fi
-[ "$1" != ci ] || echo "2 passed, 0 failed"
-"""
+from checks.standin import FIRST, TOOLS, WORDS, in_trees
 
 
-class Tree:
-    """A small repository with the script."""
-
-    def __init__(self, report, folder):
-        self.top = pathlib.Path(folder) / "with space"
-        self.low = self.top / "crates/low/src"
-        self.tools = pathlib.Path(folder) / "tools"
-        for it in (self.low, self.top / "crates/dmr_program/src", self.tools):
-            it.mkdir(parents=True)
-        (self.low / "lib.rt").write_text("low\n")
-        (self.top / "crates/dmr_program/src/main.rt").write_text("main\n")
-        (self.top / "crates.txt").write_text("# Lowest first.\nunused:\nlow: kit\ndmr_program: low\n")
-        (self.tools / "rt").write_text(TOOLCHAIN)
-        (self.tools / "rt").chmod(0o755)
-        for it in ("dmrgate", "check"):
-            shutil.copy(report.top / it, self.top / it)
-        shutil.copytree(report.top / "scripts", self.top / "scripts", ignore=shutil.ignore_patterns("__pycache__"))
-        self.report, self.script = report, self.top / "dmrgate"
-
-    def call(self, *words, path=None):
-        env = {**os.environ, "PATH": path or f"{self.tools}:{os.environ['PATH']}"}
-        return subprocess.run(words, env=env, cwd="/", capture_output=True, text=True)
-
-    def run(self, script=None, path=None):
-        return self.call(script or self.script, "a", "b c", path=path)
-
-    def expect_gate(self, name, status, last):
-        """The gate ends so, when it is run by the script check."""
-        ran = self.call(self.top / "check", "proofs")
-        self.report.expect(name, (ran.returncode, ran.stdout.splitlines()[-1:]) == (status, [last]), ran)
-
-    def expect(self, name, builds, script=None):
-        """The program that ran was built of what stands in the sources, and was built so often."""
-        said = self.top / "said"
-        said.unlink(missing_ok=True)
-        ran = self.run(script)
-        sources = [*sorted(self.low.iterdir()), self.top / "crates/dmr_program/src/main.rt", self.top / "crates.txt"]
-        wanted = "".join(it.read_text() for it in sources) + "a b c\n"
-        had = said.read_text().splitlines() if said.exists() else []
-        self.report.expect(f"{name}: what ran", (ran.returncode, ran.stdout) == (0, wanted), ran)
-        self.report.expect(f"{name}: builds", had == builds * ["low lib", "dmr_program run"], had)
-        self.report.expect(f"{name}: said so", bool(ran.stderr) == bool(builds), ran.stderr)
-        return ran
+def check_sources(tree):
+    """Each change of the sources is noticed, and what stands on it is built anew."""
+    tree.expect_run("the first time", FIRST)
+    tree.expect_run("with no change", [])
+    tree.edit("low", "lower\n")
+    tree.expect_run("an edit of the lowest crate", FIRST)
+    tree.edit("left", "more left\n")
+    tree.expect_run("an edit of a crate", ["left", "dmrgate"])
+    tree.edit("dmrgate", "another main\n")
+    tree.expect_run("an edit of the program", ["dmrgate"])
+    older = tree.folder / "older"
+    older.write_text("older\n")
+    os.utime(older, (0, 0))
+    older.replace(tree.source("left"))
+    tree.expect_run("an older file in place of a source", ["left", "dmrgate"])
+    tree.put("crates.txt", (tree.top / "crates.txt").read_text().replace("left: low", "left: low kit"))
+    tree.expect_run("another line of crates.txt", ["left", "dmrgate"])
+    tree.edit("side", "another side\n")
+    tree.expect_run("an edit of what it doesn't stand on", [])
 
 
-def check_two_at_once(tree):
-    """Of two that are started at once one builds, and the other waits for it."""
-    if not shutil.which("flock"):
-        return
-    said = tree.top / "said"
-    said.unlink(missing_ok=True)
-    (tree.low / "lib.rt").write_text("at once\n")
-    env = {**os.environ, "PATH": f"{tree.tools}:{os.environ['PATH']}"}
-    both = [subprocess.Popen([tree.script], env=env, stdout=subprocess.PIPE, stderr=subprocess.PIPE) for _ in range(2)]
-    printed = [it.communicate()[0] for it in both]
-    is_so = [it.returncode for it in both] == [0, 0] and printed[0] == printed[1] and b"at once" in printed[0]
-    tree.report.expect("two at once: what ran", is_so, printed)
-    had = said.read_text().splitlines()
-    tree.report.expect("two at once: builds", had == ["low lib", "dmr_program run"], had)
+def check_files(tree):
+    """Files that come and go are noticed, where they are sources."""
+    tree.run(*WORDS)
+    more = tree.source("right").with_name("more.rt")
+    more.write_text("more\n")
+    tree.expect_run("a new file", ["right", "dmrgate"])
+    more.unlink()
+    tree.expect_run("a file less", ["right", "dmrgate"])
+    for file in ("specs/Left.antt", "proofs/left/Left.antt"):
+        tree.put(f"crates/left/{file}", "left is left\n")
+        tree.expect_run(f"a new file {file}", ["left", "dmrgate"])
+    tree.put("crates/left/must-fail/left_is_right.edit", "")
+    tree.put("crates/left/stdin", "")
+    tree.expect_run("files that nothing is built of", [])
+
+
+def check_editors(tree):
+    """What editors keep beside the files that they have open is no source."""
+    folder = tree.source("left").parent
+    tree.run(*WORDS)
+    tree.begun()
+    (folder / ".#lib.rt").symlink_to("nobody@nowhere.1")
+    for name in (".lib.rt.swp", "lib.rt~", "#lib.rt#"):
+        (folder / name).write_text("an older text\n")
+    ran = tree.run(*WORDS)
+    tree.expect("what editors keep is no source", (ran.returncode, ran.stderr, tree.begun()) == (0, "", []), ran)
+
+
+def check_programs(tree):
+    """Each program is built for its own commands alone, and what both stand on is built once."""
+    tree.expect_run("the first program alone", FIRST, "run", "show")
+    for words in (["slot"], ["help"], ["help", "run"], ["--help", "show"], ["--version"], ["walk"], ["help", "walk", "show"]):
+        tree.expect_run(f"words {words}", [], *words)
+    ran = tree.run()
+    tree.expect("no words", (ran.returncode, ran.stdout, ran.stderr) == (0, tree.printed(), ""), ran)
+    tree.expect_run("the tools", TOOLS, "show", "x y", program="dmrgate_tools")
+    tree.expect_run("help of a tool", [], "help", "show", program="dmrgate_tools")
+    tree.edit("dmrgate", "a third main\n")
+    tree.expect_run("the tools don't stand on the first", [], "show", program="dmrgate_tools")
+    tree.edit("side", "a third side\n")
+    ran = tree.run("--build")
+    begun = sorted(tree.begun())
+    is_so = (ran.returncode, ran.stdout, begun) == (0, "", sorted(["dmrgate", *TOOLS]))
+    tree.expect("--build builds all, and runs none", is_so, (ran, begun))
+    ran = tree.run("--build")
+    tree.expect("--build of what is built", (ran.returncode, ran.stdout, ran.stderr, tree.begun()) == (0, "", "", []), ran)
+
+
+def check_signals(tree):
+    """A program gets its signals as if nothing had started it before: what writes to a broken pipe is ended by the system."""
+    tree.run(*WORDS)
+    read, broken = os.pipe()
+    os.close(read)
+    with os.fdopen(broken, "wb") as pipe:
+        ended = tree.ended(tree.start(*WORDS, stdout=pipe))
+    tree.expect("a program that writes to a broken pipe", ended == (-signal.SIGPIPE, "", ""), ended)
+
+
+def check_other_builds(tree):
+    """What else is built in the folders of crates isn't taken for what the script built."""
+    tree.run(*WORDS)
+    tree.put("crates/dmrgate/out/dmrgate", "#!/bin/sh\necho another build\n", is_program=True)
+    tree.expect_run("another build beside it", [])
+    rlib = tree.top / "crates/low/out/rlib"
+    shutil.rmtree(rlib)
+    tree.put(rlib / "low.rlib/text", "another build\n")
+    tree.expect_run("another library in place of one, with no change", [])
+    tree.edit("dmrgate", "over another build\n")
+    tree.does("before", "low", "sleep 0.2")
+    tree.expect_run("another library in place of one", ["low", "dmrgate"])
+    rt = tree.kit / "bin/rt"
+    rt.write_text(rt.read_text().replace("a kit that stands in", "another kit"))
+    tree.expect_run("another kit, with no change", [])
+    tree.edit("dmrgate", "by another kit\n")
+    tree.expect_run("another kit", FIRST)
+
+
+def check_links(tree):
+    """Through links the script is the same."""
+    link, second = tree.folder / "link", tree.folder / "second"
+    link.symlink_to(tree.script)
+    second.symlink_to("link")
+    tree.expect_run("through a symbolic link", FIRST, script=link)
+    tree.expect_run("through a link to a link", [], script=second)
+
+
+def check_no_kit(tree):
+    """With no kit nothing is built, and what is built runs."""
+    path = tree.folder / "path"
+    path.mkdir()
+    for it in ("sh", "cat"):
+        (path / it).symlink_to(shutil.which(it))
+    tree.run(*WORDS)
+    tree.expect_run("with no kit and no change", [], PATH=str(path))
+    tree.edit("low", "with no kit\n")
+    tree.expect_refused("with no kit", tree.run(*WORDS, PATH=str(path)), "rt of the Rattle kit")
+    tree.put(path / "rt", "#!/bin/sh\necho it is another rt >&2\nexit 3\n", is_program=True)
+    tree.expect_refused("another command rt", tree.run(*WORDS, PATH=str(path)), "status 3", "it is another rt")
+    for name, told in (("rattle", "there is no "), ("rattle-link", "rattle-link: No such file")):
+        file = tree.kit / "bin" / name
+        file.rename(tree.folder / name)
+        tree.expect_refused(f"a kit without {name}", tree.run(*WORDS), told, f"{file}")
+        (tree.folder / name).rename(file)
+    tree.expect_run("with the kit again", ["dmrgate"])
+
+
+def check_refused_files(tree):
+    """Where the system refuses a file, a line tells which."""
+    out = tree.top / "crates/low/out"
+    out.write_text("")
+    tree.expect_refused("no folder for what is made", tree.run(*WORDS), f"dmrgate: {out}")
+    out.unlink()
+    tree.run(*WORDS)
+    program = tree.top / "crates/dmrgate/out/program"
+    program.write_text("no program\n")
+    told = f"dmrgate: {program} can't be started: Exec format error\n"
+    tree.expect_refused("a program that can't be started", tree.run(*WORDS), told)
+    program.unlink()
+    tree.expect_run("a program that is gone", ["dmrgate"])
+
+
+def expect_gate(tree, name, status, last):
+    """The gate ends so, when it is run by the script check."""
+    ran = subprocess.run([tree.top / "check", "proofs"], **tree.how(), capture_output=True, text=True)
+    tree.expect(name, (ran.returncode, ran.stdout.splitlines()[-1:]) == (status, [last]), ran)
+    return ran.stdout
+
+
+def expect_both(tree, name, first, tools):
+    """These crates are built for each of the programs, which are run one after the other."""
+    tree.expect_run(f"{name}, the first", first)
+    tree.expect_run(f"{name}, the tools", tools, "show", program="dmrgate_tools")
 
 
 def check_gate(tree):
     """What the gate proved and built isn't built once more, where the sources are still the same."""
-    (tree.low / "lib.rt").write_text("fourth\n")
-    tree.expect_gate("the gate", 0, "3 passed, 0 failed")
-    tree.expect("behind the gate", 0)
-    (tree.top / "edit").write_text("fifth\n")
-    tree.expect_gate("the gate, with an edit meanwhile", 0, "3 passed, 0 failed")
-    tree.expect("behind an edit during the gate", 1)
-    (tree.low / "lib.rt").write_text("sixth\n")
-    (tree.top / "fail").write_text("")
-    tree.expect_gate("a gate that fails", 1, "0 passed, 1 failed")
-    (tree.top / "fail").unlink()
-    tree.expect("behind a gate that failed", 1)
+    told = expect_gate(tree, "the gate", 0, "3 passed, 0 failed")
+    tree.expect("the gate tells its time", re.search(r"^ +\d+\.\d s proofs: ok; nothing was done$", told, re.MULTILINE), told)
+    expect_both(tree, "behind the gate", [], [])
+    tree.does("after", "ci", "echo more >>crates/side/src/lib.rt")
+    expect_gate(tree, "the gate, with an edit meanwhile", 0, "3 passed, 0 failed")
+    tree.expect_run("behind an edit during the gate, the first", [])
+    tree.run("--build")
+    begun = sorted(tree.begun())
+    tree.expect("behind an edit during the gate, nothing is built for the first", begun == sorted(["low", *TOOLS]), begun)
+
+
+def check_gate_refused(tree):
+    """What the gate built isn't taken where it may be of another text, or where the gate failed."""
+    tree.does("before", "ci", "cp crates/low/src/lib.rt kept; echo another >crates/low/src/lib.rt")
+    tree.does("after", "ci", "cp kept crates/low/src/lib.rt")
+    expect_gate(tree, "the gate, with an edit that is taken back", 0, "3 passed, 0 failed")
+    expect_both(tree, "behind an edit that was taken back", FIRST, TOOLS)
+    tree.does("after", "ci", "echo '1 passed, 1 failed'; exit 1")
+    expect_gate(tree, "a gate that fails", 1, "1 passed, 2 failed")
+    expect_both(tree, "behind a gate that failed", FIRST, TOOLS)
 
 
 def check(report):
-    with tempfile.TemporaryDirectory(prefix="dmrgate-script-") as folder:
-        tree = Tree(report, folder)
-        said = tree.expect("the first time", 1).stderr
-        report.expect("each crate is named", "crate 1 of 2, low" in said and "crate 2 of 2, dmr_program" in said, said)
-        tree.expect("with no change", 0)
-        (tree.low / "lib.rt").write_text("lower\n")
-        tree.expect("an edit", 1)
-        (tree.low / "more.rt").write_text("more\n")
-        tree.expect("a new file", 1)
-        (tree.low / "more.rt").unlink()
-        tree.expect("a file less", 1)
-        older = tree.low / "older"
-        older.write_text("older\n")
-        os.utime(older, (0, 0))
-        older.replace(tree.low / "lib.rt")
-        tree.expect("an older file in place of a source", 1)
-        (tree.top / "crates.txt").write_text("low: kit\nunused:\ndmr_program: low\n")
-        tree.expect("a change of crates.txt", 1)
-        (tree.low / "lib.rt").write_text("first\n")
-        (tree.top / "edit").write_text("second\n")
-        tree.expect("an edit during a build", 2)
-        link, second = pathlib.Path(folder) / "link", pathlib.Path(folder) / "second"
-        link.symlink_to(tree.script)
-        second.symlink_to("link")
-        tree.expect("through a symbolic link", 0, link)
-        tree.expect("through a link to a link", 0, second)
-        (tree.top / "crates/dmr_program/out/dmr_program").write_text("#!/bin/sh\necho another build\n")
-        tree.expect("another build beside it", 0)
-        (tree.low / "lib.rt").write_text("third\n")
-        (tree.top / "fail").write_text("")
-        ran = tree.run()
-        is_told = ran.returncode == 1 and ran.stdout == "" and "a function is not proved" in ran.stderr
-        report.expect("a build that fails", is_told, ran)
-        (tree.top / "fail").unlink()
-        tree.expect("after a build that failed", 1)
-        check_two_at_once(tree)
-        check_gate(tree)
-        (tree.low / "lib.rt").write_text("last\n")
-        ran = tree.run(path="/usr/bin:/bin")
-        is_told = ran.returncode == 1 and ran.stdout == "" and "Rattle kit" in ran.stderr
-        report.expect("with no toolchain", is_told or shutil.which("rt", path="/usr/bin:/bin"), ran)
+    in_trees(
+        report,
+        [check_sources],
+        [check_files, check_editors],
+        [check_programs, check_signals],
+        [check_other_builds],
+        [check_links, check_no_kit],
+        [check_refused_files],
+        [check_gate, check_gate_refused],
+    )

@@ -316,11 +316,17 @@ def check_json(report):
     report.expect("a strip in JSON is refused", (ran.status, ran.out) == (2, b"") and b"cannot be used with" in ran.err, ran)
 
 
+def with_little_memory(report, given, *more):
+    """Lists what comes through a pipe, in a process that has 64 MiB."""
+    words = ["show", "-", *map(str, more)]
+    command = ["sh", "-c", 'ulimit -v 65536; exec "$@"', "sh", report.started_for(words), *words]
+    return subprocess.run(command, input=given, capture_output=True)
+
+
 def check_most_bursts(report):
-    """The recording with most bursts through a pipe, in a process that has less memory than it has octets."""
+    """The recording with most bursts, in a process that has less memory than it has octets."""
     given = it.UPLINK_HEAD + (b"\1" + it.CSBK) * (2 * it.LIMIT)
-    command = f"ulimit -v 65536; exec {report.built} show - --from {it.LIMIT - 1}"
-    ran = subprocess.run(["sh", "-c", command], input=given, capture_output=True)
+    ran = with_little_memory(report, given, "--from", it.LIMIT - 1)
     seconds = f"{it.LIMIT * 6 // 100}.{it.LIMIT * 6 % 100:02}"
     last = f"frames {it.LIMIT} seconds {seconds} slot-1 {it.LIMIT} slot-2 {it.LIMIT} unreadable 0"
     lines = ran.stdout.decode().splitlines()
@@ -329,17 +335,16 @@ def check_most_bursts(report):
 
 
 def check_longest(report):
-    """The longest recording through a pipe, with a burst every hundred frames, in a process with little memory."""
+    """The longest recording, with a burst every hundred frames, in a process with little memory."""
     block = b"\1" + it.CSBK + bytes(199)
     given = it.UPLINK_HEAD + block * (it.LIMIT // 100) + bytes(2 * (it.LIMIT % 100))
-    command = f"ulimit -v 65536; exec {report.built} show -"
-    ran = subprocess.run(["sh", "-c", command], input=given, capture_output=True)
+    ran = with_little_memory(report, given)
     count = it.LIMIT // 100
     last = f"frames {it.LIMIT} seconds {it.LIMIT * 6 // 100}.{it.LIMIT * 6 % 100:02} slot-1 {count} slot-2 0 unreadable 0"
     lines = ran.stdout.decode().splitlines()
     is_so = ran.returncode == 0 and len(lines) == count + 2 and lines[-1] == last
     report.expect("the longest recording", is_so, (ran.returncode, lines[-1:], ran.stderr))
-    ran = subprocess.run(["sh", "-c", f"{command} --strip"], input=given, capture_output=True)
+    ran = with_little_memory(report, given, "--strip")
     last = "".join("c" if frame % 100 == 0 else "." for frame in range(it.LIMIT // 50 * 50, it.LIMIT))
     lines = ran.stdout.decode().splitlines()
     is_so = ran.returncode == 0 and len(lines) == 2 * -(-it.LIMIT // 50) and lines[-2][11:] == last

@@ -48,8 +48,24 @@ def help_of(report, *words):
     return ran.out.decode()
 
 
+def check_alike(report):
+    """What isn't asked of one command, all programs tell alike."""
+    report.expect("there are several programs", len(report.programs) > 1, report.programs)
+    asked = [], ["--help"], ["-h"], ["help"], ["help", "help"], ["--version"], ["-V"], ["walk"], ["help", "walk"], ["--walk"]
+    for words in asked:
+        ended = [report.call(*words, program=name) for name in report.programs]
+        told = {(ran.status, ran.out, ran.err) for ran in ended}
+        report.expect(f"all programs tell the same of {words}", len(told) == 1, ended)
+    for name, program in report.programs.items():
+        with tempfile.TemporaryDirectory() as folder:
+            other = pathlib.Path(folder, "other")
+            other.symlink_to(program)
+            ran = subprocess.run([other, "--help"], capture_output=True, text=True)
+            report.expect(f"{name}: usage under another name", "\nUsage: dmrgate <COMMAND>" in ran.stdout, ran)
+
+
 def check_help(report):
-    """The options of the program, of run, of slot and of show."""
+    """The options of the programs, of run, of slot and of show."""
     top, run, slot, show = (help_of(report, *words) for words in ([], ["run"], ["slot"], ["show"]))
     report.expect("help of slot to the octet", slot == HELP_OF_SLOT, slot)
     usages = "dmrgate <COMMAND>", "dmrgate run [OPTIONS] --uplink <FILE>", "dmrgate slot <HEX>", "dmrgate show [OPTIONS] <FILE>"
@@ -62,14 +78,9 @@ def check_help(report):
     for words in ("60 ms", "1 to 16777215", "0 to 15", "1 to 64", "0 to 65535", "Status 0", "Example", "docs/protocol.md"):
         report.expect(f"help of run has {words!r}", words in run, run)
     report.expect("--color is hidden", "--color " not in run, run)
-    with tempfile.TemporaryDirectory() as folder:
-        other = pathlib.Path(folder, "other")
-        other.symlink_to(report.program)
-        ran = subprocess.run([other, "--help"], capture_output=True, text=True)
-        report.expect("usage under another name", "\nUsage: dmrgate <COMMAND>" in ran.stdout, ran)
-    for words in (["help"], ["help", "run"], ["help", "slot"], ["help", "show"]):
+    for words, text in ((["help"], top), (["help", "run"], run), (["help", "slot"], slot), (["help", "show"], show)):
         ran = report.call(*words)
-        report.expect(f"{words} is --help", ran.status == 0 and ran.out.decode() in (top, run, slot, show), ran)
+        report.expect(f"{words} is --help", (ran.status, ran.out.decode(), ran.err) == (0, text, b""), ran)
     options = re.compile(r"^Options:\n((?: .*\n)+)", re.MULTILINE)
     return [options_in(options.search(text)[1]) for text in (top, run, slot, show)]
 
@@ -177,6 +188,7 @@ def check_readme(report):
 
 
 def check(report):
+    check_alike(report)
     top, run, slot, show = check_help(report)
     ran = report.call("--version")
     version = ran.out.decode().strip()
