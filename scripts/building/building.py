@@ -63,6 +63,10 @@ class Built:
     def is_there(self):
         return self.made.exists() and self.built_of.is_file() and self.built_of.read_text() == self.sum
 
+    def was_there(self):
+        """Whether it was built here before, of other sources."""
+        return self.built_of.is_file() or (self.crate.out / "incremental").is_dir()
+
     def clear(self):
         self.built_of.unlink(missing_ok=True)
         if not self.crate.is_program:
@@ -111,6 +115,8 @@ class Work:
         self.crate, self.begun = built.crate, time.monotonic()
         self.log = self.crate.out / "build.log"
         self.fault = self.command = None
+        # Who builds a crate again works on it: then its proofs are kept, which takes room, and the next change proves less.
+        self.keeps = built.was_there()
         built.clear()
         self.log.write_text("")
         self.steps = list(self.commands())
@@ -119,9 +125,9 @@ class Work:
     def commands(self):
         made = self.built.new.relative_to(self.crate.folder)
         if not self.crate.is_program:
-            yield self.kit.build(self.crate, self.below, self.jobs, made)
+            yield self.kit.build(self.crate, self.below, self.jobs, made, self.keeps)
             return
-        yield self.kit.build(self.crate, self.below, self.jobs, "out/program.o")
+        yield self.kit.build(self.crate, self.below, self.jobs, "out/program.o", self.keeps)
         yield self.kit.link("out/program.o", made)
 
     def begin(self):

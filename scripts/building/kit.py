@@ -44,15 +44,20 @@ class Kit:
         for library in below.values():
             yield from ("-L", f"dependency={library.parent}")
 
-    def build(self, crate, below, jobs, made):
-        """The words that prove a crate and build it, with what an earlier build kept of it at hand."""
+    def build(self, crate, below, jobs, made, keeps):
+        """The words that prove a crate and build it: over what an earlier build kept of its proofs, so that the next one has less to
+        do, or at once, where crates above load what a library states and none of its proofs."""
         yield from (self.compiler, "build", "--crate-name", crate.name, crate.root)
         yield from self.libraries(crate, below)
         yield from ("--antt-project", f"{self.folder}/rattle/logic/antt-project.json")
-        yield from ("--logic-built", f"{self.folder}/logic_built", "--incremental", "out/incremental")
+        yield from ("--logic-built", f"{self.folder}/logic_built")
         yield from ("--links", f"{crate.name}=", "--jobs", str(jobs))
         if crate.is_program:
             yield from ("--toolchain", f"{self.folder}/toolchain", "--backend", "llvm")
+        if keeps:
+            yield from ("--incremental", "out/incremental")
+        elif not crate.is_program:
+            yield "--statements"
         yield from ("-o", made)
 
     def link(self, compiled, made):
