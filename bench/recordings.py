@@ -3,6 +3,11 @@ import pathlib
 import random
 
 TOP = pathlib.Path(__file__).resolve().parent.parent
+
+# What builds the program, and the program that it builds, which is measured by itself.
+SCRIPT = TOP / "dmrgate"
+PROGRAM = TOP / "crates/dmrgate/out/program"
+
 UPLINK_HEAD = (TOP / "samples/one_csbk/uplink.dmru").read_bytes()[:8]
 OUTGOING_HEAD = (TOP / "samples/one_csbk/outgoing.dmro").read_bytes()[:8]
 SILENCE = b"\x00"

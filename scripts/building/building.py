@@ -12,8 +12,15 @@ from building.crates import all_crates, has_changed, sum_of, with_all_below
 # What a check takes at most, as far as was seen; so many run at once as the memory has room for.
 MEMORY = 2_000_000_000
 
-# More jobs for one crate gain little.
-MOST_JOBS = 4
+# How much faster a crate is with so many jobs than with one, as was measured: more than four gain nothing.
+GAIN = {1: 1.0, 2: 1.5, 3: 1.8, 4: 2.1}
+MOST_JOBS = max(GAIN)
+
+# The seconds that a crate takes of which an earlier build kept what it proved.
+AGAIN = 20
+
+# The seconds of a crate of which nothing is known.
+UNKNOWN = 60
 
 # How often it is looked at what has ended, in seconds.
 EVERY = 0.05
@@ -136,6 +143,10 @@ class Work:
             self.built.keep()
         return True
 
+    def seconds(self):
+        """How long it has taken so far."""
+        return time.monotonic() - self.begun
+
     def end(self):
         """Ends the command that runs, if one does, and answers its status."""
         command, self.command = self.command, None
@@ -146,19 +157,22 @@ class Building:
     """All that is to be built for some programs."""
 
     def __init__(self, kit, programs, costs, held):
-        self.kit, self.costs, self.held, self.lanes = kit, costs, held, processors()
+        self.kit, self.held, self.lanes = kit, held, processors()
         names = dict.fromkeys(it for program in programs for it in with_all_below(program))
         self.built = {it: Built(all_crates()[it], kit) for it in names}
         self.left = [it for it in names if not self.built[it].is_there()]
         self.total, self.running, self.spent, self.expected = len(names), {}, 0.0, 0.0
+        self.costs = {it: self.cost_of(it, costs.get(it, UNKNOWN)) for it in names}
         self.chains = {}
         for name in reversed([*names]):
             above = [self.chains[it] for it in names if name in all_crates()[it].below]
-            self.chains[name] = self.cost(name) + max(above, default=0)
+            self.chains[name] = self.costs[name] + max(above, default=0)
 
-    def cost(self, name):
-        """The seconds that one processor is expected to take for a crate."""
-        return self.costs.get(name, 60)
+    @staticmethod
+    def cost_of(name, from_nothing):
+        """The seconds that a crate is expected to take with one job."""
+        is_kept = (all_crates()[name].out / "incremental").is_dir()
+        return min(from_nothing, AGAIN) if is_kept else from_nothing
 
     def waits(self, name):
         """Whether a crate has to wait for another below it. All of those are at hand when it is built, not only those it names."""
@@ -185,30 +199,29 @@ class Building:
         memory = free_memory()
         while ready and self.idle() > 0 and (not self.running or memory >= MEMORY):
             # Processors that no other crate could use help the one with the longest chain.
-            jobs = max(1, min(MOST_JOBS, self.idle() - len(ready) + 1))
+            jobs = max(1, min(MOST_JOBS, self.idle() - len(ready) + 1, memory // MEMORY))
             self.begin(ready.pop(0), jobs)
             memory -= MEMORY * jobs
 
     def take_ended(self):
-        """Takes the crates that have ended, one by one, and answers their names. Where one is at fault, the others are kept."""
+        """Takes the crates that have ended, one by one, and answers them. Where one is at fault, the others are kept."""
         ended = [work for work in self.running.values() if work.is_over()]
         for fault in [work.fault for work in ended if work.fault]:
             raise fault
         for work in ended:
             del self.running[work.crate.name]
-            self.spent += (time.monotonic() - work.begun) * work.jobs
-            self.expected += self.cost(work.crate.name)
-            yield work.crate.name
+            self.spent += work.seconds() * GAIN[work.jobs]
+            self.expected += self.costs[work.crate.name]
+            yield work
 
     def seconds_left(self):
         """How long it will take still: by what is expected, and by how fast this machine was so far."""
-        pace = (self.spent + 60) / (self.expected + 60)
-        now = time.monotonic()
-        rest = {it: self.cost(it) for it in self.left}
+        pace = (self.spent + UNKNOWN) / (self.expected + UNKNOWN)
+        rest = {it: self.costs[it] for it in self.left}
         for name, work in self.running.items():
-            rest[name] = max(self.cost(name) - (now - work.begun) * work.jobs / pace, 0)
-        chain = max((self.chains[it] - self.cost(it) + seconds for it, seconds in rest.items()), default=0)
-        return pace * max(chain, sum(rest.values()) / self.lanes)
+            rest[name] = max(self.costs[name] - work.seconds() * GAIN[work.jobs] / pace, 0)
+        chain = max((self.chains[it] - self.costs[it] + seconds for it, seconds in rest.items()), default=0)
+        return pace * max(chain / GAIN[min(self.lanes, MOST_JOBS)], sum(rest.values()) / self.lanes)
 
     def end(self):
         for work in self.running.values():
@@ -219,8 +232,8 @@ class Building:
         try:
             while self.left or self.running:
                 ending.look()
-                for name in self.take_ended():
-                    progress.ended(self, name)
+                for work in self.take_ended():
+                    progress.ended(self, work)
                 self.begin_more()
                 progress.show(self)
                 time.sleep(EVERY)

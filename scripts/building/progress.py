@@ -30,7 +30,7 @@ class OnTerminal:
     def __init__(self, stream):
         self.stream, self.shown_at = stream, None
 
-    def ended(self, building, name):
+    def ended(self, building, work):
         self.shown_at = None
 
     def show(self, building):
@@ -54,8 +54,9 @@ class OnTerminal:
 class InLines:
     """A line for each crate that is there."""
 
-    def ended(self, building, name):
-        say(f"{name} is proved and built: {how_far(building)}")
+    def ended(self, building, work):
+        jobs = f" with {work.jobs} jobs" if work.jobs > 1 else ""
+        say(f"{work.crate.name} is proved and built, in {work.seconds():.0f} s{jobs}: {how_far(building)}")
 
     def show(self, building):
         pass

@@ -2,7 +2,10 @@
 
 import re
 
-DOCUMENTS = "README.md", "docs/architecture.md", "docs/protocol.md", "docs/promises.md", "docs/DECISIONS.md", "samples/README.md"
+DOCUMENTS = (
+    "README.md", "docs/architecture.md", "docs/protocol.md", "docs/promises.md", "docs/DECISIONS.md", "docs/speed.md",
+    "samples/README.md",
+)
 WIDTH = 132
 
 LINK = re.compile(r"\[[^\]]+\]\(([^)\s]+)\)")
@@ -175,14 +178,20 @@ def check_types(report):
 
 
 def check_crates(report):
-    """README and docs/architecture.md name each crate, and no other."""
+    """The README lists each crate, lowest first, docs/architecture.md has each in a layer, and no document names any other."""
     listed = re.findall(r"^(\w+):", (report.top / "crates.txt").read_text(), re.MULTILINE)
     there = {it.name for it in (report.top / "crates").iterdir() if (it / "src").is_dir()}
     report.expect("crates.txt lists each crate", set(listed) == there, set(listed) ^ there)
-    for name in ("README.md", "docs/architecture.md"):
-        told = set(re.findall(r"\bdmr_\w+", (report.top / name).read_text()))
-        libraries = {it for it in listed if not it.startswith("dmr_test_") and not it.endswith("_tests")}
-        report.expect(f"{name} names each crate", libraries <= told, libraries - told)
+    wanted = [it for it in listed if not it.startswith("dmr_test_") and not it.endswith("_tests")]
+    in_readme = re.findall(r"^- \*\*(\w+)\*\*: ", (report.top / "README.md").read_text(), re.MULTILINE)
+    report.expect("README.md lists each crate, lowest first", [it for it in in_readme if it in there] == wanted, in_readme)
+    layers = tables_of((report.top / "docs/architecture.md").read_text(), "| Layer | Crates |")
+    in_layers = [it for _, crates in layers for it in re.findall(r"\bdmr\w+", crates)]
+    is_so = sorted(in_layers) == sorted(wanted)
+    report.expect("docs/architecture.md has each crate in a layer", is_so, set(in_layers) ^ set(wanted))
+    for name in DOCUMENTS:
+        told = set(re.findall(r"\bdmr(?:_|gate_)\w+", (report.top / name).read_text()))
+        report.expect(f"{name} names no crate that isn't there", told <= there, told - there)
 
 
 def is_prose(line):

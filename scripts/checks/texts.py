@@ -148,12 +148,16 @@ def check_readme(report):
     text = (report.top / "README.md").read_text()
     command = re.search(r"^    (\./dmrgate run .*)$", text, re.MULTILINE)[1]
     line = re.search(r"It prints `(frames .*?)`", text)[1]
+    named = re.search(r" --uplink (samples/\w+)/uplink\.dmru --outgoing \1/outgoing\.dmro --downlink downlink\.dmrd ", command)[1]
+    sample = report.top / named
+    wanted = (sample / "downlink.dmrd").read_bytes()
+    is_told = f"`downlink.dmrd` is `{named}/downlink.dmrd`, octet for octet" in " ".join(text.split())
+    report.expect("the README tells which downlink it is", is_told, named)
     with Room(report, b"", b"") as room:
         (room.path / "dmrgate").symlink_to(report.top / "dmrgate")
         (room.path / "samples").symlink_to(report.top / "samples")
         ran = shell(command, room.path)
         report.expect("the command of the README", (ran.returncode, ran.stdout) == (0, line + "\n"), ran)
-        wanted = (report.top / "samples/one_csbk/downlink.dmrd").read_bytes()
         report.expect("its downlink", room.downlink.name == "downlink.dmrd" and room.downlink.read_bytes() == wanted)
 
         shell(re.search(r"^    (printf .* > none\.dmro)$", text, re.MULTILINE)[1], room.path)
@@ -164,14 +168,17 @@ def check_readme(report):
             ran = shell(re.search(r"^    (\{ printf .* > mine\.dmru)$", text, re.MULTILINE)[1], room.path)
             mine = (room.path / "mine.dmru").read_bytes()
             report.expect("a recording by hand", mine == recordings.ONE_CSBK, mine)
-        for command, shown in re.findall(r"^    \$ (\./dmrgate show .*)\n((?:    .*\n)+)", text, re.MULTILINE):
+        blocks = re.findall(r"^    \$ (\./dmrgate show .*)\n((?:    .*\n)+)", text, re.MULTILINE)
+        is_shown = any(command.startswith("./dmrgate show downlink.dmrd") for command, _ in blocks)
+        report.expect("the README shows the downlink of its run", is_shown)
+        for command, shown in blocks:
             if "| jq" in command and not shutil.which("jq"):
                 continue
             ran = shell(command, room.path)
             lines = re.sub(r"^    ", "", shown, flags=re.MULTILINE)
             report.expect(f"the README's {command}", (ran.returncode, ran.stdout) == (0, lines), ran)
         for name in ("one.dmru", "two.dmru"):
-            (room.path / name).write_bytes(recordings.ONE_CSBK)
+            shutil.copy(sample / "uplink.dmru", room.path / name)
         room.uplink.unlink()
         shell("rm -f mine.dmru", room.path)
         ran = shell(re.search(r"^    (ls .* xargs .*)$", text, re.MULTILINE)[1], room.path)

@@ -8,7 +8,7 @@ use Rattle.dmr_gateway.specs.Config.{setting_fault}
 use Rattle.dmr_gateway.specs.declared.config.Config.{Config}
 use Rattle.dmr_gateway.specs.declared.config.ConfigFault.{ConfigFault}
 use Rattle.dmr_options.specs.Found.{IsNumberOf, text_of}
-use Rattle.dmr_program.specs.declared.places.Places.{Places}
+use Rattle.dmr_command.specs.declared.places.Places.{Places}
 use Rattle.dmr_command.specs.declared.request.Request.{Request}
 use Rattle.dmr_command.specs.declared.request.Request.TheVariants.{Slot, Run, Elsewhere}
 

@@ -1,15 +1,12 @@
-//! The command line of the program that repeats: what its words ask for, and doing that.
+//! The command line of the program that repeats: what its words ask for.
 //!
-//! `request_of` reads the words, by a command line parser whose texts are its own, and `fulfil` does what they ask for, on a system
-//! (`dmr_files`), and prints to two sinks (`dmr_record`): what was asked for to the first, errors to the second. `obey` is both,
-//! and `program` is that on the system that it runs on. `specs/Request.antt` says which option each place and each setting comes
-//! from.
+//! `request_of` reads the words, by a command line parser whose texts are its own, and answers a `Request`: to run with settings
+//! over files at their `Places`, to say what a burst is, or a command that another program has. `specs/Request.antt` says from
+//! which option each place and each setting comes. Doing what a request asks for is left to `dmr_program`.
 #![tactic(auto)]
 
-mod obeying;
-mod process;
+mod places;
 mod request;
 
-pub use obeying::{fulfil, obey};
-pub use process::program;
+pub use places::Places;
 pub use request::{Request, request_of};

@@ -4,11 +4,11 @@ ghost use Rattle.clap.specs.Words.{found_of};
 ghost use Rattle.dmr_command.specs.Request.{ArePlacesOf, AreSettingsOf, IsAskedBy, IsPlaceOf};
 ghost use Rattle.dmr_options.specs.Found.{IsNumberOf};
 
+use crate::places::Places;
 use clap::{ArgMatches, Error};
 use dmr_files::Place;
 use dmr_gateway::{Config, ConfigFault};
 use dmr_options::{repeating_commands, text_of};
-use dmr_program::Places;
 use std::alloc::Global;
 use std::convert::AsStr;
 
@@ -22,7 +22,7 @@ pub enum Request<'a> {
         config: Result<Config, ConfigFault>,
         places: Places<'a>,
     },
-    /// What another program does, by the name of the command.
+    /// A command that another program has, by its name.
     Elsewhere(&'a str),
 }
 

@@ -55,8 +55,8 @@ impl Write for HostOutput {
     }
 }
 
-/// Files in the places of the standard streams that are closed. Without them the files of a run would take these places, and what
-/// is printed would get into an output.
+/// Files in the places of the standard streams that are closed. Without them the first files that are opened would take these
+/// places, and what is printed would get into one of them.
 #[derive(Drop)]
 pub struct StandIns {
     input: Option<File>,
@@ -84,7 +84,7 @@ fn stand_in(rt: &HostRuntime, path: &str) -> Option<File> {
     }
 }
 
-/// What a type of file is to a run.
+/// What a type of file is, as far as it matters here.
 fn kind_of(kind: FileType) -> FileKind {
     if kind.is_file() {
         FileKind::Regular

@@ -29,14 +29,14 @@ impl Identity {
         self.device == other.device && self.number == other.number
     }
 
-    /// Whether an output that is this file would get into another file of the run. Any number may write to a device.
+    /// Whether what is written to this file would get into the other. Any number may write to a device.
     pub fn clashes(&self, other: &Identity) -> bool
         ensures clash { result ≡ clashes self.now other.now }
     {
         self.kind != FileKind::Device && self.is_one_file(other)
     }
 
-    /// Whether an output that is this file would get into what a standard stream reads or prints. A pipe takes both, one after
+    /// Whether what is written to this file would get into what a standard stream reads or prints. A pipe takes both, one after
     /// the other; a regular file would be written over.
     pub fn is_behind(&self, stream: &Option<Identity>) -> bool
         ensures behind { result ≡ is_behind self.now stream.now }

@@ -1,8 +1,9 @@
 //! Files of the system that a program runs on: where they are, how they are opened, and which of them are one.
 //!
-//! What is needed of the system is the trait `System`, so that tests can stand in for it. Files are told apart by what the system
-//! says of them once they are open, since names may lie: `specs/Identity.antt` says when an output would get into another file,
-//! and `specs/Place.antt` what a name stands for. `open_source` opens one file alone, to be read. What a file of the system holds
+//! What a program needs of the system is the trait `System`, so that tests can stand in for it. `Place` is where a file is, and
+//! `specs/Place.antt` says which place a name means. `Identity` is which file an open file is, by what the system says of it, since
+//! names may lie; `specs/Identity.antt` says when what is written to one file would get into another. `open_source` opens a file
+//! that is only read. `StandIns` keep files out of the places of standard streams that are closed. What a file of the system holds
 //! is beyond any contract.
 #![tactic(auto)]
 

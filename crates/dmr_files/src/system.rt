@@ -1,4 +1,4 @@
-//! What a run needs of the system that it runs on.
+//! What a program needs of the system that it runs on.
 use crate::identity::Identity;
 use crate::place::Place;
 use std::io::{self, Read, Write};
@@ -18,7 +18,7 @@ pub struct StandardFiles {
     pub error: Option<Identity>,
 }
 
-/// What a run needs of the system that it runs on.
+/// What a program needs of the system that it runs on.
 pub trait System {
     type Input: Read + Drop;
 

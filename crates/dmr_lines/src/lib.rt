@@ -1,8 +1,9 @@
 //! Lines of text that a program prints, and the statuses that it ends with.
 //!
-//! Lines go to sinks (`dmr_record`). A line that tells an error begins with `error: `. Each call that prints answers the exit
-//! status that it was given, and `FAILURE` where the sink fails. Contracts cite `specs/Line.antt` for the octets of a line, and
-//! `specs/Status.antt` for the statuses. What a text says is its caller's; `line_of` makes one line of it.
+//! Lines go to sinks (`dmr_record`). `print_line` prints one, `print_error` one that tells an error and begins with `error: `, and
+//! `print_text` a text that has its own ends of lines. Each of them answers the exit status that it was given, or `FAILURE` where
+//! the sink fails. What a text says is up to the caller; `line_of` cuts it to its first line, so that it is printed as one.
+//! Contracts cite `specs/Line.antt` for the octets of a line, and `specs/Status.antt` for the statuses.
 #![tactic(auto)]
 
 mod line;

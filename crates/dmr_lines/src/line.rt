@@ -1,10 +1,11 @@
-//! Lines of text.
-ghost use Rattle.std.specs.Prelude.{◌≡◌, false, true, OnOk, OnErr};
+//! Lines of text, printed to a sink.
+ghost use Rattle.std.specs.Prelude.{◌≡◌, ◌++◌, false, true, IfSome, OnOk, OnErr};
 ghost use Rattle.std.specs.Io.KnownBytes.{Appends};
 ghost use Rattle.dmr_lines.specs.Line.{IsOneLine, error_octets, first_line, line_octets};
 ghost use Rattle.dmr_lines.specs.Status.{failure};
 
 use crate::status::FAILURE;
+use arrayvec::ArrayString;
 use dmr_record::{RecordFault, Sink, put};
 
 /// A text up to its first line feed, so that it has one line whatever it prints: all of it, where it has none.
@@ -19,26 +20,30 @@ pub fn line_of(text: &str) -> &str
     }
 }
 
-/// Puts a text and the end of its line.
-fn put_line<K: Sink>(sink: &mut K, text: &str) -> Result<(), RecordFault>
-    requires well { K.has_failed sink.old ≡ false }
-    ensures octets { OnOk result (Appends (K.held sink.old) (K.held sink.new) (line_octets text.now)) }
-    ensures well { OnOk result (K.has_failed sink.new ≡ false) }
-    ensures failed { OnErr result (K.has_failed sink.new ≡ true) }
+/// A line of a text behind a head, with its end, where there is room for it.
+fn whole_line(head: &str, text: &str) -> Option<ArrayString<512>>
+    ensures value { IfSome result (λ line. line.bytes ≡ head.now ++ line_octets text.now) }
 {
-    put(sink, text.as_bytes())?;
-    put(sink, b"\n")
+    let mut line = ArrayString::from(head).ok()?;
+    line.try_push_str(text).ok()?;
+    line.try_push_str("\n").ok()?;
+    Some(line)
 }
 
-/// Puts a line that tells an error.
-fn put_error<K: Sink>(sink: &mut K, message: &str) -> Result<(), RecordFault>
+/// Puts a text behind a head, and the end of its line: at once where it isn't long, so that the lines of several programs that
+/// print to one place don't mix.
+fn put_line<K: Sink>(sink: &mut K, head: &str, text: &str) -> Result<(), RecordFault>
     requires well { K.has_failed sink.old ≡ false }
-    ensures octets { OnOk result (Appends (K.held sink.old) (K.held sink.new) (error_octets message.now)) }
+    ensures octets { OnOk result (Appends (K.held sink.old) (K.held sink.new) (head.now ++ line_octets text.now)) }
     ensures well { OnOk result (K.has_failed sink.new ≡ false) }
     ensures failed { OnErr result (K.has_failed sink.new ≡ true) }
 {
-    put(sink, b"error: ")?;
-    put_line(sink, message)
+    if let Some(line) = whole_line(head, text) {
+        return put(sink, line.as_str().as_bytes());
+    }
+    put(sink, head.as_bytes())?;
+    put(sink, text.as_bytes())?;
+    put(sink, b"\n")
 }
 
 /// The status, where what was to be printed was.
@@ -59,7 +64,7 @@ pub fn print_line<K: Sink>(sink: &mut K, text: &str, status: u8) -> u8
     ensures status { K.has_failed sink.new ≡ false → result ≡ status }
     ensures failed { K.has_failed sink.new ≡ true → result ≡ failure }
 {
-    status_after(put_line(sink, text), status)
+    status_after(put_line(sink, "", text), status)
 }
 
 /// Prints a line that tells an error, and answers the status that is to follow it.
@@ -69,7 +74,7 @@ pub fn print_error<K: Sink>(sink: &mut K, message: &str, status: u8) -> u8
     ensures status { K.has_failed sink.new ≡ false → result ≡ status }
     ensures failed { K.has_failed sink.new ≡ true → result ≡ failure }
 {
-    status_after(put_error(sink, message), status)
+    status_after(put_line(sink, "error: ", message), status)
 }
 
 /// Prints a text that has its own ends of lines, and answers the status that is to follow it.

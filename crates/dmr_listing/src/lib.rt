@@ -1,12 +1,12 @@
 //! What a listing shows of a file: a line for each burst or record.
 //!
 //! `SlotView` makes the lines of one slot of a recording, frame by frame. A `BurstLine` has all that the line of a burst shows, and
-//! prints it: what the burst is read as (`dmr_reading::Reading`), in which place of a superframe it stands (`VoicePlaces`), what its
-//! information holds (`Contents`), the link control that four voice bursts carry, what its CACH announces (`AccessType`), and how
-//! many of its bits are wrong (`Wrong`). `read_tact` reads all fields of a CACH (`Tact`). `OutgoingLine` and `ReceivedLine` print
-//! the records of the two lists. All of it comes from the readers that a run stands on. Octets that came over the air are printed
-//! as digits, never as text. `RecordingSummary` is the last line of a listing, of what `BurstCounts` counts line by line, and
-//! `FaultLine` tells where a file is at fault.
+//! prints it: what the burst is read as (`Reading` of `dmr_reading`), in which place of a superframe it stands (`VoicePlaces`),
+//! what its information holds (`Contents`), the link control that four voice bursts carry, what its CACH announces (`AccessType`),
+//! and how many of its bits are wrong (`Wrong`). `read_tact` reads all fields of a CACH (`Tact`). `OutgoingLine` and `ReceivedLine`
+//! print the records of the two lists. All of it comes from the readers that a run stands on. Octets that came over the air are
+//! printed as digits, never as text. `RecordingSummary` is the last line of a listing, of what `BurstCounts` counts line by line,
+//! and `FaultLine` tells where a file is at fault.
 //!
 //! `list_recording`, `list_outgoing` and `list_received` go through a whole file behind its head, and give the lines one by one to
 //! whoever takes them (`BurstLines`, `OutgoingLines`, `ReceivedLines`), in constant memory.

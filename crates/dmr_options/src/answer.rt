@@ -1,6 +1,7 @@
-//! What the parser answers in place of matches.
-ghost use Rattle.std.specs.Prelude.{◌≡◌, ◌≤◌, ◌⊎◌, false, true};
-ghost use Rattle.dmr_lines.specs.Line.{PutsError};
+//! What is printed where nothing is to be done: what the parser answers in place of matches, and that another program does it.
+ghost use Rattle.std.specs.Prelude.{◌≡◌, ◌≤◌, ◌⊎◌, false, true, codes};
+ghost use Rattle.std.specs.Io.KnownBytes.{Appends};
+ghost use Rattle.dmr_lines.specs.Line.{error_octets};
 ghost use Rattle.dmr_lines.specs.Status.{failure, success, usage};
 
 use clap::Error;
@@ -27,12 +28,18 @@ pub fn print_answer<K: Sink, E: Sink>(alloc: Global, answer: &Error, out: &mut K
     }
 }
 
-/// Tells that another program does what is asked for, and answers the exit status. Nobody sees it who starts the script `dmrgate`.
+/// Tells that another program does what is asked for, and answers the exit status. Whoever starts the command `dmrgate` never sees
+/// this, since that starts the program that has the command.
 pub fn print_elsewhere<E: Sink>(err: &mut E) -> u8
     requires err { E.has_failed err.old ≡ false }
-    ensures error { E.has_failed err.new ≡ false → PutsError (E.held err.old) (E.held err.new) }
+    ensures error { E.has_failed err.new ≡ false → Appends (E.held err.old) (E.held err.new)
+        (error_octets (codes "another program of dmrgate does this: start it by the command dmrgate")) }
     ensures status { E.has_failed err.new ≡ false → result ≡ usage }
     ensures failed { E.has_failed err.new ≡ true → result ≡ failure }
 {
-    print_error(err, "another program of dmrgate does this: start it by the command dmrgate", USAGE)
+    print_error(
+        err,
+        "another program of dmrgate does this: start it by the command dmrgate",
+        USAGE,
+    )
 }

@@ -3,7 +3,7 @@
 use clap::{Arg, ArgAction, value_parser};
 use std::alloc::Global;
 
-/// An option that takes the path of a file.
+/// An option that takes the path of a file, and is required.
 pub fn file<'a>(alloc: Global, name: &'a str, help: &'a str) -> Arg<'a> {
     Arg::new(alloc, name)
         .long(name)
@@ -29,7 +29,7 @@ pub fn frame<'a>(alloc: Global, name: &'a str, help: &'a str) -> Arg<'a> {
         .value_parser(value_parser!(u32))
 }
 
-/// A word that has no option in front of it.
+/// A word that has no option in front of it, and is required. The value is what help calls it.
 pub fn word<'a>(alloc: Global, name: &'a str, value: &'a str, help: &'a str) -> Arg<'a> {
     Arg::new(alloc, name)
         .value_name(value)

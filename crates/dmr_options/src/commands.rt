@@ -1,4 +1,4 @@
-//! The commands.
+//! The commands of `dmrgate`, whichever program has them.
 
 use crate::texts::VERSION;
 use clap::Command;
@@ -33,7 +33,7 @@ pub fn bare_command<'a>(alloc: Global, command: Listed) -> Command<'a> {
     Command::new(alloc, command.name).about(command.about)
 }
 
-/// The whole command line, with these commands in the order in which help has them.
+/// The whole command line of a program, with these commands in the order in which help has them.
 pub fn command<'a>(alloc: Global, commands: Vec<Command<'a>>) -> Result<Command<'a>, AllocError> {
     Command::new(alloc, "dmrgate")
         .about("A two-slot DMR repeater with an IP data gateway, run on recordings")

@@ -1,12 +1,17 @@
-//! The command line of `dmrgate`: its commands, the options of those that repeat, and what its programs share of reading words.
+//! The command line of `dmrgate`: its commands, the options of `run` and `slot`, and what its programs share of reading words.
 //!
-//! `dmrgate` is several programs behind one command, so that whoever needs one waits for none of the others. Each of them knows the
-//! commands by name, with a line of help for each, and has the options of its own; `command` puts them together. This crate has
-//! the options of `run` and `slot`, the pieces of which options are made, and what was given for an option (`specs/Found.antt`). Of
-//! the texts of help nothing is promised, and tests compare them.
+//! `dmrgate` is several programs behind one command, so that whoever needs one waits for none of the others. Each program knows
+//! every command by name, with a line of help (`Listed`, `bare_command`), and has the options of its own commands alone. `command`
+//! makes a command line of these, for the command line parser. `repeating_commands` is that of the program that repeats; those of
+//! other programs are made of the same pieces (`file`, `number`, `frame`, `word`).
 //!
-//! Arguments are gathered in lists and handed over at once: each one that is held while another may want for memory has to be
-//! dropped where there is none, and a proof goes through each such way.
+//! `words_of` gives the words that a program was started with. `text_of` and `flag_of` tell what was given for an option, by
+//! `specs/Found.antt`. Where nothing is to be done, three calls print why, and answer the exit status: `print_answer` prints help,
+//! the version or a mistake, `print_elsewhere` that another program has the command, and `print_no_words` that there are no words.
+//! Of the texts of help nothing is promised, and tests compare them.
+//!
+//! Arguments are gathered in lists and handed to the parser at once. One that is held while the next wants memory has to be dropped
+//! where there is none, and a proof goes through each such way.
 #![tactic(auto)]
 
 mod answer;

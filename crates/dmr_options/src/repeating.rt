@@ -106,7 +106,7 @@ fn slot_command<'a>(alloc: Global) -> Result<Command<'a>, AllocError> {
         .arg(burst(alloc))
 }
 
-/// The command line of the program that repeats.
+/// The command line of the program that repeats, with every other command by its name alone.
 pub fn repeating_commands<'a>(alloc: Global) -> Result<Command<'a>, AllocError> {
     let run = run_command(alloc)?;
     let slot = slot_command(alloc)?;

@@ -1,6 +1,6 @@
-//! The version, and what help says behind the options of each command.
+//! The version, and what help says behind the options of `run` and of `slot`.
 
-/// The version that the program prints.
+/// The version that each program prints.
 pub(crate) const VERSION: &str = "0.2.0";
 
 /// What help says behind the options of `run`.

@@ -1,19 +1,28 @@
-//! A run over the files of a system, and what the program prints of it; and what it prints of one burst.
+//! The program that repeats: a run over the files of a system, a line about one burst, and doing what a command line asks for.
 //!
-//! `run_places` opens the two inputs and then the outputs. No output is emptied before each is known to be no other file of the
-//! run and none behind a standard stream: `specs/Apart.antt` has these words, and `empty_outputs` asks for them. `RunEnd` is how a
-//! run ended, by `specs/Ending.antt` and, for its status, `specs/RunEnd.antt`. `print_end` and `print_slot` print one line, a line
-//! that begins with `error: ` to the second sink and every other to the first, and touch no other sink than that of their line.
+//! `run_places` opens the files of a run at their places: the two inputs, and then the two outputs. No output is emptied before
+//! each is known to be no other file of the run and none behind a standard stream (`specs/Apart.antt`). Then it runs over them
+//! (`dmr_repeater`), with buffers between. It answers a `RunEnd`, how the run ended (`specs/Ending.antt`).
+//!
+//! `print_end` prints how a run ended, and answers the exit status (`specs/RunEnd.antt`). `print_slot` prints what a burst of 66
+//! hexadecimal digits is read as (`specs/Digits.antt`, `dmr_reading`). Both print one line and touch one sink: a line that begins
+//! with `error: ` goes to the second, and every other to the first.
+//!
+//! `fulfil` does what a request asks for (`dmr_command`), on a system (`dmr_files`). `obey` does what the words of a command line
+//! ask for, and `program` does that on the system that it runs on. All three print to two sinks (`dmr_record`): what was asked for
+//! to the first, errors to the second.
 #![tactic(auto)]
 
+mod obeying;
 mod opening;
-mod places;
+mod process;
 mod run_end;
 mod running;
 mod slot;
 mod text;
 
-pub use places::Places;
+pub use obeying::{fulfil, obey};
+pub use process::program;
 pub use run_end::{RunEnd, print_end};
 pub use running::run_places;
 pub use slot::print_slot;

@@ -3,7 +3,7 @@ ghost use Rattle.std.specs.Prelude.{◌≡◌, ◌↔◌, false, IsTrue, IfOk, I
 ghost use Rattle.dmr_files.specs.Identity.{clashes};
 ghost use Rattle.dmr_program.specs.Apart.{IsApart};
 
-use crate::places::Places;
+use dmr_command::Places;
 use dmr_files::{Identity, Open, Place, StandardFiles, System};
 use dmr_repeater::Stream;
 

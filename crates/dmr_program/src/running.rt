@@ -1,12 +1,12 @@
-//! A run over files at their places.
+//! A run over files at their places, with buffers between.
 ghost use Rattle.std.specs.Prelude.{◌≡◌, ◌≤◌, ◌+◌, ◌^◌, true, false, IfOk, IfErr};
 ghost use Rattle.std.specs.Io.KnownBytes.{Keeps};
 ghost use Rattle.dmr_repeater.specs.Runs.{is_of_its_stream};
 ghost use Rattle.dmr_program.specs.Ending.{IfDone, IfFault, IsRefused};
 
 use crate::opening::{Opened, open_files};
-use crate::places::Places;
 use crate::run_end::RunEnd;
+use dmr_command::Places;
 use dmr_files::System;
 use dmr_gateway::Config;
 use dmr_record::{FromRead, RecordFault, Sink, Source, ToWrite};
@@ -17,7 +17,7 @@ use std::io::{BufReader, BufWriter, Read, Write};
 /// How many octets a buffer holds, so that there are few calls of the system.
 const BUFFER: usize = 65_536;
 
-/// Runs over the files at these places, with buffers between.
+/// Opens the files at these places, runs over them with buffers between, and answers how the run ended.
 pub fn run_places<S: System>(
     system: &S,
     alloc: Global,

@@ -1,7 +1,8 @@
-//! What one burst is read as, by itself.
+//! What one burst is read as, by itself: with no word of the bursts before it and behind it.
 //!
-//! A burst is read by its sync first, and where it has none by its embedded signalling. `Reading` says what it is, with the fields
-//! that can be read, and prints it as words. Contracts cite `specs/Reading.antt`.
+//! `read_burst` reads a burst by its sync, and where it has none by its embedded signalling (EMB). `Reading` is what it is read as,
+//! with the fields that can be read, and prints them as words. `Information` is what a data burst holds. Contracts cite
+//! `specs/Reading.antt`.
 #![tactic(auto)]
 
 mod reading;

@@ -16,7 +16,7 @@ use std::fmt;
 pub enum Information {
     /// A word of the block product turbo code: the 96 bits that it holds, or none where it is too damaged.
     Coded(Option<Bits<96>>),
-    /// In another code, or in none.
+    /// Bits that are in another code or in none (rate 3/4 and rate 1 data), and are not read here.
     AsReceived,
 }
 
@@ -29,14 +29,14 @@ pub enum Reading {
     Untyped(Side),
     /// The voice burst that begins a superframe.
     VoiceSync(Side),
-    /// Another voice burst.
+    /// Any other voice burst, which has an EMB in place of a sync.
     Voice(Emb),
     /// None of these, or one that is too damaged.
     Unreadable,
 }
 
 impl Reading {
-    /// The colour code, which a slot type and an EMB name.
+    /// The colour code that the slot type or the EMB names, where one of them was read.
     pub fn colour_code(&self) -> Option<u8>
         ensures value { result ≡ named_colour self.now }
     {

@@ -1,4 +1,5 @@
-//! Tests of `dmr_show`: what is printed of small files, cut and whole, sinks that fail, and the command line of `show`.
+//! Tests of `dmr_show`: what is printed of small files, cut and whole, and sinks that fail; and of the command line of `show`
+//! (dmr_tools, dmr_tool_options).
 #![tactic(auto)]
 
 #[cfg(test)]

@@ -1,7 +1,8 @@
-//! The command line of the tools, the program that does whatever isn't repeating: their options, with the texts of help.
+//! The options of the tools, with the texts of help. The tools are the program that has every command of `dmrgate` but those that
+//! repeat; so far that is `show`.
 //!
-//! `tool_commands` builds it for the command line parser, with every other command by its name. Of the texts nothing is promised, and
-//! tests compare them.
+//! `tool_commands` makes their command line for the command line parser, with every other command by its name (`dmr_options`). Of
+//! the texts nothing is promised, and tests compare them.
 #![tactic(auto)]
 
 mod showing;

@@ -5,7 +5,7 @@ use clap::Command;
 use dmr_options::{Listed, bare_command, command};
 use std::alloc::{AllocError, Global};
 
-/// The command line of the tools, with the other commands by their names.
+/// The command line of the tools, with every other command by its name alone.
 pub fn tool_commands<'a>(alloc: Global) -> Result<Command<'a>, AllocError> {
     let show = show_command(alloc)?;
     let run = bare_command(alloc, Listed::RUN);

@@ -30,13 +30,13 @@ pub record IsFormOf (found : Found) (form : Form) : Type 0 where
   pub value : form ≡ form_by strip json
 
 -- What a command with these options asks for: `show` for a listing, and any other what isn't done here.
-abbrev pub IsAskedBy : Option (Text × Found) → Request → Type 0
-IsAskedBy None (Show name form filter) = ⊥
-IsAskedBy None (Elsewhere name) = name.now ≡ []
-IsAskedBy (Some command) (Show name form filter) =
+abbrev pub IsAskedOfTools : Option (Text × Found) → Request → Type 0
+IsAskedOfTools None (Show name form filter) = ⊥
+IsAskedOfTools None (Elsewhere name) = name.now ≡ []
+IsAskedOfTools (Some command) (Show name form filter) =
     (command.0 ≡ codes "show") × (name.now ≡ text_of command.1 (codes "file")) × IsFormOf command.1 form
     × IsFilterOf command.1 filter
-IsAskedBy (Some command) (Elsewhere name) = (command.0 ≡ codes "show" → ⊥) × (name.now ≡ command.0)
+IsAskedOfTools (Some command) (Elsewhere name) = (command.0 ≡ codes "show" → ⊥) × (name.now ≡ command.0)
 
 -- a file is to be listed
 abbrev pub IsShow : Request → Type 0

@@ -1,9 +1,10 @@
 //! The command line of the tools: what its words ask for, and doing that.
 //!
-//! The tools are what `dmrgate` does beside repeating; they are a program of their own, so that nobody who repeats waits for their
-//! proofs. `request_of` reads the words, by a command line parser whose texts are its own, and `fulfil` does what they ask for, on
-//! a system (`dmr_files`), and prints to two sinks (`dmr_record`): what was asked for to the first, errors to the second. `obey` is
-//! both, and `program` is that on the system that it runs on. `specs/Request.antt` says which option each part comes from.
+//! The tools are what `dmrgate` does beside repeating; so far that is `show`. They are a program of their own, so that nobody who
+//! repeats waits for their proofs. `request_of` reads the words, by a command line parser whose texts are its own, and answers a
+//! `Request`. `fulfil` does what that asks for, on a system (`dmr_files`), and prints to two sinks (`dmr_record`): what was asked
+//! for to the first, errors to the second. `obey` is both, and `program` is that on the system that it runs on.
+//! `specs/Request.antt` says from which option each part of a request comes. What a file shows is `dmr_show`'s.
 #![tactic(auto)]
 
 mod obeying;

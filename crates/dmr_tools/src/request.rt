@@ -1,7 +1,7 @@
 //! What the words of a command line ask for.
 ghost use Rattle.std.specs.Prelude.{◌≡◌, option_map};
 ghost use Rattle.clap.specs.Words.{found_of};
-ghost use Rattle.dmr_tools.specs.Request.{IsAskedBy, IsFilterOf, IsFormOf, form_by};
+ghost use Rattle.dmr_tools.specs.Request.{IsAskedOfTools, IsFilterOf, IsFormOf, form_by};
 
 use clap::{ArgMatches, Error};
 use dmr_options::{flag_of, text_of};
@@ -19,7 +19,7 @@ pub enum Request<'a> {
         form: Form,
         filter: Filter,
     },
-    /// What another program does, by the name of the command.
+    /// A command that another program has, by its name.
     Elsewhere(&'a str),
 }
 
@@ -54,7 +54,7 @@ fn form_of(show: &ArgMatches<'_>) -> Form
 
 /// What a command with its options asks for.
 pub(crate) fn request_by<'a>(command: Option<(&'a str, &ArgMatches<'a>)>) -> Request<'a>
-    ensures asked { IsAskedBy (option_map (λ c. (c.0.now, found_of c.1.now)) command.entry) result }
+    ensures asked { IsAskedOfTools (option_map (λ c. (c.0.now, found_of c.1.now)) command.entry) result }
 {
     match command {
         Some(("show", show)) => Request::Show {

@@ -1,8 +1,9 @@
 //! Which word goes where, the ends of ranges, and what is printed where, with which status.
 use crate::tests::stand_in::StandIn;
-use dmr_command::{Request, obey, request_of};
+use dmr_command::{Request, request_of};
 use dmr_files::Place;
 use dmr_gateway::{Config, ConfigFault};
+use dmr_program::obey;
 use dmr_record::ToWrite;
 use std::alloc::Global;
 use std::test::Fail;

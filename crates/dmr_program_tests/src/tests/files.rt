@@ -1,8 +1,9 @@
 //! Which place each file is taken from, which files are no others, and whose fault is told.
 use crate::tests::stand_in::StandIn;
+use dmr_command::Places;
 use dmr_files::Place;
 use dmr_gateway::Config;
-use dmr_program::{Places, RunEnd, run_places};
+use dmr_program::{RunEnd, run_places};
 use dmr_repeater::{Stream, Summary};
 use std::process::Abort;
 

@@ -2,10 +2,12 @@
 ghost use Rattle.std.specs.Prelude.{◌≡◌, ◌≤◌, ◌⊎◌, false, true};
 ghost use Rattle.dmr_lines.specs.Status.{failure, success, usage};
 
-use crate::request::{Request, request_of};
+use crate::run_end::{RunEnd, print_end};
+use crate::running::run_places;
+use crate::slot::print_slot;
+use dmr_command::{Request, request_of};
 use dmr_files::System;
 use dmr_options::{print_answer, print_elsewhere};
-use dmr_program::{RunEnd, print_end, print_slot, run_places};
 use dmr_record::Sink;
 use std::alloc::Global;
 use std::convert::AsStr;
