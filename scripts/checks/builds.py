@@ -41,7 +41,8 @@ def check_lines(tree):
     lines = tree.run(*WORDS).stderr.splitlines()
     begins = lines[0].startswith("dmrgate: proving and building 4 of 4 crates, ")
     tree.expect("what begins is told", begins and "--unproved" in lines[1], lines)
-    told = [re.fullmatch(r"dmrgate: (\w+) is proved and built: (\d) of 4 crates, .* left", it) for it in lines[2:]]
+    line = re.compile(r"dmrgate: (\w+) is proved and built, in \d+ s(?: with \d jobs)?: (\d) of 4 crates, .* left")
+    told = [line.fullmatch(it) for it in lines[2:]]
     is_so = all(told) and sorted(it[1] for it in told) == sorted(FIRST) and [it[2] for it in told] == list("1234")
     tree.expect("a line for each crate", is_so, lines)
 

@@ -193,7 +193,8 @@ class Tree:
     def run(self, *words, script=None, **environment):
         """Runs the script. That of the repository is run by Python at once, which is faster."""
         command = [script] if script else [sys.executable, self.script]
-        return subprocess.run([*command, *words], **self.how(**environment), capture_output=True, text=True)
+        how = {**self.how(**environment), "capture_output": True, "text": True, "timeout": 3 * PATIENCE}
+        return subprocess.run([*command, *words], **how)
 
     def said(self):
         """What the kit said of crates since that was last asked."""
