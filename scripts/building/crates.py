@@ -83,7 +83,7 @@ def mark_of(place):
 
 def marks_of(crate):
     """The marks of all sources of a crate and of their folders. They also tell of a change that was taken back."""
-    return [mark_of(it) for it in [*sorted(at for at, _ in crate.folders()), *crate.files()]]
+    return [mark_of(os.path.join(at, name)) for at, names in sorted(crate.folders()) for name in ["", *sorted(names)]]
 
 
 @functools.lru_cache(maxsize=None)

@@ -16,7 +16,8 @@ def found_rt():
 
 def answer_of(*words):
     """What a command prints, in one line."""
-    ran = subprocess.run(words, capture_output=True, text=True, errors="replace")
+    # In a session of its own a signal from the terminal doesn't end it, which would be taken for its failure.
+    ran = subprocess.run(words, capture_output=True, text=True, errors="replace", start_new_session=True)
     if ran.returncode:
         fail(f"{' '.join(words)} ended with status {ran.returncode}: {ran.stderr.strip()}")
     return ran.stdout.strip()

@@ -1,6 +1,7 @@
 """The programs behind the one command: which does what, and how they are made ready."""
 
 import contextlib
+import shutil
 import signal
 
 from building.building import Building, Built, Changed, Failed
@@ -15,6 +16,9 @@ FIRST = "dmrgate"
 
 # How much a build that failed says at its end.
 LAST_LINES = 40
+
+# With less room on the disk, in octets, that is told where a build fails.
+LITTLE_ROOM = 100_000_000
 
 
 def tools():
@@ -50,6 +54,8 @@ def tell_failed(fault):
     write("".join(f"{line}\n" for line in log.read_text(errors="replace").splitlines()[-LAST_LINES:]))
     if fault.status == -signal.SIGKILL:
         say("it was killed, most likely for want of memory")
+    if shutil.disk_usage(fault.crate.out).free < LITTLE_ROOM:
+        say("the disk has hardly any room left")
     fail(f"{fault.crate.name} is not proved or not built; all that was said stands in {log.relative_to(TOP)}")
 
 

@@ -9,8 +9,8 @@ import termios
 
 from checks.standin import ALL, FIRST, LIBRARIES, WAITS, WORDS, in_trees
 
-# Waits until the kit was asked for a crate.
-UNTIL = 'until grep -q "begin {}" "$top/said"; do sleep 0.01; done\n'
+# Waits until this was said of a crate, or the test is over.
+UNTIL = 'until grep -q "{}" "$top/said" || [ ! -e "$top" ]; do sleep 0.001; done\n'
 
 # A command that begins another one, neither of which ends by itself.
 FOR_EVER = "sleep 60 & sleep 60"
@@ -21,8 +21,8 @@ CLOSED, ALL_CLOSED, IGNORED = "exec 2>&-", "exec 0<&- 2>&-", "trap '' HUP"
 
 def check_side_by_side(tree):
     """Two crates that have nothing common but the lowest are built at once, and each behind what it stands on."""
-    tree.does("before", "left", UNTIL.format("right"))
-    tree.does("before", "right", UNTIL.format("left"))
+    tree.does("before", "left", UNTIL.format("begin right"))
+    tree.does("before", "right", UNTIL.format("begin left"))
     ran = tree.run("--build")
     said = tree.said()
     wanted = sorted(f"{it} {crate}" for it in ("begin", "end") for crate in ALL)
@@ -41,7 +41,8 @@ def check_lines(tree):
     lines = tree.run(*WORDS).stderr.splitlines()
     begins = lines[0].startswith("dmrgate: proving and building 4 of 4 crates, ")
     tree.expect("what begins is told", begins and "--unproved" in lines[1], lines)
-    told = [re.fullmatch(r"dmrgate: (\w+) is proved and built: (\d) of 4 crates, .* left", it) for it in lines[2:]]
+    line = re.compile(r"dmrgate: (\w+) is proved and built, in \d+ s(?: with \d jobs)?: (\d) of 4 crates, .* left")
+    told = [line.fullmatch(it) for it in lines[2:]]
     is_so = all(told) and sorted(it[1] for it in told) == sorted(FIRST) and [it[2] for it in told] == list("1234")
     tree.expect("a line for each crate", is_so, lines)
 
@@ -104,7 +105,7 @@ def check_failure(tree):
     """A crate that fails ends what is built beside it, and is told; what was built before isn't built again."""
     log = "crates/left/out/build.log"
     tree.does("before", "right", FOR_EVER)
-    tree.does("before", "left", UNTIL.format("right") + "seq 100; echo a function is not proved; exit 1")
+    tree.does("before", "left", UNTIL.format("begin right") + "seq 100; echo a function is not proved; exit 1")
     ran = tree.run(*WORDS)
     told = f"dmrgate: left is not proved or not built; all that was said stands in {log}\n"
     tree.expect_refused("a build that fails", ran, "\na function is not proved\n", told)
@@ -125,10 +126,20 @@ def check_failures(tree):
     tree.expect_refused("a build that is killed", tree.run(*WORDS), "it was killed", "left is not proved")
     tree.expect_run("after a build that was killed", ["left", "dmrgate"])
     tree.edit("low", "two that end at once\n")
-    tree.does("before", "left", 'until grep -q "end right" "$top/said"; do sleep 0.001; done; exit 1')
+    tree.does("before", "left", UNTIL.format("end right") + "exit 1")
     tree.begun()
     tree.expect_refused("a failure beside a good end", tree.run(*WORDS), "left is not proved")
     tree.expect_run("after a failure beside a good end", ["left", "dmrgate"])
+
+
+def check_full_disk(tree):
+    """Where a build fails and the disk is full, that is told."""
+    tree.does("before", "low", "exit 1")
+    tree.expect("there is room on the disk", "room left" not in tree.run(*WORDS).stderr)
+    programs = tree.top / "scripts/building/programs.py"
+    programs.write_text(programs.read_text().replace("LITTLE_ROOM = 100_000_000", "LITTLE_ROOM = 10**30"))
+    tree.does("before", "low", "exit 1")
+    tree.expect_refused("a full disk", tree.run(*WORDS), "the disk has hardly any room left", "low is not proved")
 
 
 def check_left_behind(tree):
@@ -137,6 +148,15 @@ def check_left_behind(tree):
     tree.does("before", "left", "sleep 60 & exit 1")
     tree.expect_refused("a command that leaves another behind", tree.run(*WORDS), "left is not proved")
     tree.expect("what was left behind is ended", tree.wait_for(lambda: not tree.processes()), tree.processes())
+
+
+def check_no_linker(tree):
+    """Where a crate can't go on with its next command, what is built beside it is ended all the same."""
+    linker = tree.kit / "bin/rattle-link"
+    tree.does("before", "side", FOR_EVER)
+    tree.does("after", "dmrgate", UNTIL.format("begin side") + f"rm '{linker}'")
+    tree.expect_refused("a linker that is gone", tree.run("--build"), f"dmrgate: {linker}: No such file")
+    tree.expect("a linker that is gone: the others are ended", tree.wait_for(lambda: not tree.processes()), tree.processes())
 
 
 def check_signals(tree):
@@ -231,7 +251,7 @@ def check_changes(tree):
     ran = tree.expect_run("an edit of a crate while it is built", ["low", *FIRST])
     tree.expect("that the sources changed is told", "the sources changed meanwhile" in ran.stderr, ran.stderr)
     tree.edit("low", "third\n")
-    tree.does("before", "left", f"echo fourth >{LOW}")
+    tree.does("before", "left", UNTIL.format("begin right") + f"echo fourth >{LOW}")
     tree.expect_run("an edit of a crate below", ["low", "left", "right", *FIRST])
     tree.edit("low", "fifth\n")
     tree.does("after", "low", "echo sixth >../left/src/lib.rt")
@@ -251,9 +271,9 @@ def check_changes_taken_back(tree):
     tree.does("after", "low", "rm src/more.rt")
     tree.expect_run("a file that comes and goes", ["low", *FIRST])
     tree.edit("low", "third\n")
-    tree.does("before", "low", "mv src/lib.rt kept; echo other >src/lib.rt; touch -r kept src/lib.rt")
-    tree.does("after", "low", "mv kept src/lib.rt")
-    tree.expect_run("a file in place of another, and that again", ["low", *FIRST])
+    tree.does("before", "low", f"cp -p {LOW} kept; echo other >{LOW}")
+    tree.does("after", "low", f"cat kept >{LOW}; touch -r kept {LOW}")
+    tree.expect_run("an edit that is taken back with its time", ["low", *FIRST])
     tree.edit("low", "fourth\n")
     tree.does("after", "low", "cp ../left/src/lib.rt ../kept; echo other >../left/src/lib.rt")
     tree.does("after", "left", "cp ../kept src/lib.rt")
@@ -269,7 +289,9 @@ def check(report):
         [check_lines, check_streams],
         [check_failure],
         [check_failures],
+        [check_full_disk],
         [check_left_behind],
+        [check_no_linker],
         [check_signals],
         [check_two_at_once],
         [check_waiting],

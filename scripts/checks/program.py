@@ -47,7 +47,8 @@ class Report:
             self.passed += 1
         else:
             self.failed += 1
-            print(f"FAILED {name}: {why}", flush=True)
+            # In one piece, where others are told beside it.
+            print(f"FAILED {name}: {why}\n", end="", flush=True)
 
     def call(self, *words, program=None, given=b"", cwd=None, env=None, **streams):
         """Runs what does these words, or the program of this name, with this on its standard input."""

@@ -115,8 +115,11 @@ def free_memory():
     return 100 * MEMORY
 """
 
-# Done before a crate is built, it waits until the test lets it go on.
-WAITS = 'until [ -e "$top/go" ]; do sleep 0.01; done; rm "$top/go"'
+# Waits until the test lets it go on, or is over itself.
+WAITS = 'until [ -e "$top/go" ] || [ ! -e "$top" ]; do sleep 0.01; done; rm "$top/go"'
+
+# How long a test waits for what should come at once, in seconds.
+PATIENCE = 20
 
 # What tests start the script with, where that doesn't matter.
 WORDS = ("a", "b c")
@@ -190,7 +193,8 @@ class Tree:
     def run(self, *words, script=None, **environment):
         """Runs the script. That of the repository is run by Python at once, which is faster."""
         command = [script] if script else [sys.executable, self.script]
-        return subprocess.run([*command, *words], **self.how(**environment), capture_output=True, text=True)
+        how = {**self.how(**environment), "capture_output": True, "text": True, "timeout": 3 * PATIENCE}
+        return subprocess.run([*command, *words], **how)
 
     def said(self):
         """What the kit said of crates since that was last asked."""
@@ -216,8 +220,8 @@ class Tree:
         return found
 
     def wait_for(self, is_so):
-        """Waits until something is so, for some seconds, and answers whether it is."""
-        end = time.monotonic() + 10
+        """Waits until something is so, and answers whether it is."""
+        end = time.monotonic() + PATIENCE
         while not is_so() and time.monotonic() < end:
             time.sleep(0.01)
         return is_so()
@@ -244,8 +248,12 @@ class Tree:
         self.expect(name, (ran.returncode, ran.stdout) == (1, "") and is_last and "Traceback" not in ran.stderr, ran)
 
     def ended(self, process):
-        """How a process ended that was started."""
-        out, err = process.communicate()
+        """How a process ended that was started. One that goes on for long is killed."""
+        try:
+            out, err = process.communicate(timeout=PATIENCE)
+        except subprocess.TimeoutExpired:
+            process.kill()
+            out, err = process.communicate()
         return process.returncode, (out or b"").decode(), (err or b"").decode()
 
 
