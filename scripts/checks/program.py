@@ -26,6 +26,8 @@ class Report:
 
     def __init__(self, top):
         self.top, self.passed, self.failed = top, 0, 0
+        # What the gate took most time for, line by line.
+        self.longest = []
         self.script, self.programs = top / "dmrgate", {}
         self.by_script = False
 

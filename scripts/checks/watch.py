@@ -91,5 +91,5 @@ class Watch:
         for what, rows in (("crates", self.sums(False)), ("wrong bodies", self.sums(True))):
             if rows:
                 total = sum(seconds for _, seconds in rows)
-                yield f"{what}: {total / 60:.0f} processor minutes, of which the longest took, in seconds:"
-                yield from (f"  {seconds:6.0f} {name}" for name, seconds in rows[:10])
+                yield f"{what}: {total / 60:.0f} processor minutes, of which these took longest:"
+                yield from (f"{seconds:7.1f} s {name}" for name, seconds in rows[:10])
