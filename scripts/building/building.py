@@ -1,5 +1,7 @@
 """Crates that are proved and built side by side, each as soon as what it stands on is there."""
 
+import functools
+import hashlib
 import os
 import pathlib
 import shutil
@@ -50,34 +52,54 @@ def free_memory():
 
 
 class Built:
-    """What was built of a crate, a library or a program, and the sum of what it was built from. A library serves one kit alone."""
+    """What was built of a crate, a library or a program, and the sum of what it was built from. A library serves one kit alone, and
+    only beside those builds of the libraries below that it was built over; a program stands by itself."""
 
-    def __init__(self, crate, kit=None):
-        self.crate = crate
+    def __init__(self, crate, kit=None, below=()):
+        self.crate, self.below = crate, [] if crate.is_program else below
         self.sum = sum_of(crate.name) + ("" if crate.is_program else f" {kit.identity}")
         self.made = crate.out / "program" if crate.is_program else crate.out / f"rlib/{crate.name}.rlib"
         self.built_of = crate.out / ("program.sources" if crate.is_program else "rlib/sources")
+        # The file of a library that has the sum of all its others.
+        self.whole = self.made if crate.is_program else self.made / "format"
         # A program is made beside its place, so that one that runs goes on with its own.
         self.new = crate.out / "program.new" if crate.is_program else self.made
 
+    def said(self):
+        """What was kept of the last build: its sum, and the libraries that it was built over."""
+        return self.built_of.read_text().splitlines() if self.built_of.is_file() else []
+
+    @functools.cached_property
+    def identity(self):
+        """What tells this build of a library from another. It is asked for when the library is built for good."""
+        return hashlib.sha256(self.whole.read_bytes()).hexdigest()
+
     def is_there(self):
-        return self.made.exists() and self.built_of.is_file() and self.built_of.read_text() == self.sum
+        """Whether it was built of the sources as they stand."""
+        return self.whole.exists() and self.said()[:1] == [self.sum]
+
+    def fits(self):
+        """Whether it was built over the libraries below as they are now, all of which are there."""
+        return self.said()[1:] == [it.identity for it in self.below]
 
     def was_there(self):
         """Whether it was built here before, of other sources."""
         return self.built_of.is_file() or (self.crate.out / "incremental").is_dir()
 
     def clear(self):
-        self.built_of.unlink(missing_ok=True)
+        """Makes room for what is built anew. A program stays until another takes its place."""
         if not self.crate.is_program:
+            self.built_of.unlink(missing_ok=True)
             shutil.rmtree(self.made.parent, ignore_errors=True)
         self.made.parent.mkdir(parents=True, exist_ok=True)
 
     def keep(self):
         """Puts in its place what was made."""
         if self.crate.is_program:
+            # A program never stands beside the sum of another's sources.
+            self.built_of.unlink(missing_ok=True)
             self.new.replace(self.made)
-        self.built_of.write_text(self.sum)
+        self.built_of.write_text("".join(f"{line}\n" for line in [self.sum, *(it.identity for it in self.below)]))
 
     def take_over(self):
         """Takes over the program that the gate built of these sources, which it leaves under the crate's name."""
@@ -165,9 +187,12 @@ class Building:
     def __init__(self, kit, programs, costs, held):
         self.kit, self.held, self.lanes = kit, held, processors()
         names = dict.fromkeys(it for program in programs for it in with_all_below(program))
-        self.built = {it: Built(all_crates()[it], kit) for it in names}
-        self.left = [it for it in names if not self.built[it].is_there()]
+        self.built = {}
+        for it in names:
+            self.built[it] = Built(all_crates()[it], kit, self.built_below(it))
         self.total, self.running, self.spent, self.expected = len(names), {}, 0.0, 0.0
+        self.left = [it for it in names if not self.built[it].is_there()]
+        self.doubt()
         self.costs = {it: self.cost_of(it, costs.get(it, UNKNOWN)) for it in names}
         self.chains = {}
         for name in reversed([*names]):
@@ -185,8 +210,14 @@ class Building:
         unfinished = {*self.left, *self.running}
         return not unfinished.isdisjoint(with_all_below(name)[:-1])
 
-    def rlibs_below(self, name):
-        return {it: self.built[it].made for it in with_all_below(name)[:-1]}
+    def built_below(self, name):
+        return [self.built[it] for it in with_all_below(name)[:-1]]
+
+    def doubt(self):
+        """Has libraries built anew that no longer fit those below, one of which is another build. One that waits is looked at later."""
+        for name, built in self.built.items():
+            if name not in self.left and name not in self.running and not self.waits(name) and not built.fits():
+                self.left.append(name)
 
     def idle(self):
         return self.lanes - sum(it.jobs for it in self.running.values())
@@ -197,7 +228,8 @@ class Building:
         if changed:
             raise Changed(*changed)
         self.left.remove(name)
-        self.running[name] = Work(self.kit, self.built[name], self.rlibs_below(name), jobs, self.held)
+        below = {it.crate.name: it.made for it in self.built_below(name)}
+        self.running[name] = Work(self.kit, self.built[name], below, jobs, self.held)
 
     def begin_more(self):
         """Begins as many crates as processors and memory allow, those with the longest chain above them first."""
@@ -218,6 +250,7 @@ class Building:
             del self.running[work.crate.name]
             self.spent += work.seconds() * GAIN[work.jobs]
             self.expected += self.costs[work.crate.name]
+            self.doubt()
             yield work
 
     def seconds_left(self):

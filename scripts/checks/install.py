@@ -78,6 +78,8 @@ def check_again(tree):
     gone = before - files_below(prefix)
     tree.expect("what the newer one hasn't is gone", gone == {"share/fish/vendor_completions.d/dmrgate.fish"}, gone)
     tree.expect("and so is its folder", not (prefix / "share/fish").exists())
+    told = set((prefix / "libexec/dmrgate/installed").read_text().splitlines())
+    tree.expect("what is told to be there", told == files_below(prefix) - {"libexec/dmrgate/installed"}, told)
     manual = (prefix / "share/man/man1/dmrgate.1").read_text()
     tree.expect("the newer manual", manual == "a newer manual\n", manual)
 

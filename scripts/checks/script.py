@@ -88,18 +88,35 @@ def check_signals(tree):
     tree.expect("a program that writes to a broken pipe", ended == (-signal.SIGPIPE, "", ""), ended)
 
 
+def replace_library(tree, crate):
+    """Puts another build in place of a library, as the kit's rt does."""
+    rlib = tree.top / f"crates/{crate}/out/rlib"
+    shutil.rmtree(rlib)
+    for name in ("text", "format"):
+        tree.put(rlib / f"{crate}.rlib" / name, "another build\n")
+
+
 def check_other_builds(tree):
     """What else is built in the folders of crates isn't taken for what the script built."""
     tree.run(*WORDS)
     tree.put("crates/dmrgate/out/dmrgate", "#!/bin/sh\necho another build\n", is_program=True)
     tree.expect_run("another build beside it", [])
-    rlib = tree.top / "crates/low/out/rlib"
-    shutil.rmtree(rlib)
-    tree.put(rlib / "low.rlib/text", "another build\n")
+    replace_library(tree, "low")
     tree.expect_run("another library in place of one, with no change", [])
     tree.edit("dmrgate", "over another build\n")
     tree.does("before", "low", "sleep 0.2")
     tree.expect_run("another library in place of one", ["low", "dmrgate"])
+    replace_library(tree, "low")
+    replace_library(tree, "right")
+    tree.edit("dmrgate", "over a build that differs\n")
+    tree.expect_run("a library that differs when it is built again", FIRST, FORMAT="another")
+    tree.edit("dmrgate", "over the same builds\n")
+    tree.expect_run("libraries that are as they were", ["dmrgate"])
+
+
+def check_another_kit(tree):
+    """A library serves the kit alone that built it, and a program stands by itself."""
+    tree.run(*WORDS)
     rt = tree.kit / "bin/rt"
     rt.write_text(rt.read_text().replace("a kit that stands in", "another kit"))
     tree.expect_run("another kit, with no change", [])
@@ -195,6 +212,7 @@ def check(report):
         [check_files, check_editors],
         [check_programs, check_signals],
         [check_other_builds],
+        [check_another_kit],
         [check_links, check_no_kit],
         [check_refused_files],
         [check_gate, check_gate_refused],

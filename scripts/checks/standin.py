@@ -53,7 +53,8 @@ case $1 in
 esac
 """
 
-# A library is a folder with its sources; a program prints those of all its libraries, and then its own.
+# A library is a folder with its sources, and a format that a test may have differ; a program prints those of all its libraries, and
+# then its own.
 RATTLE = COMMON + r"""
 name=$3
 top=${PWD%/crates/*}
@@ -74,7 +75,7 @@ done
 if [ -e src/main.rt ]; then
     program out/text* src/main.rt >"$made"
 else
-    mkdir "$made" && cat src/* >"$made/text" || exit 5
+    mkdir "$made" && cat src/* >"$made/text" && echo "$FORMAT" >"$made/format" || exit 5
 fi
 doing after "$name"
 echo "end $name" >>"$top/said"
