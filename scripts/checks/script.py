@@ -46,6 +46,19 @@ def check_files(tree):
     tree.expect_run("files that nothing is built of", [])
 
 
+def check_kept(tree):
+    """A first build keeps what libraries state, and whoever builds again keeps the proofs."""
+    tree.run(*WORDS)
+    first = ["dmrgate", "left states", "low states", "right states"]
+    kept = tree.top / "kept"
+    tree.expect("a first build keeps no proofs", sorted(kept.read_text().splitlines()) == first, kept.read_text())
+    kept.unlink()
+    tree.edit("left", "left again\n")
+    tree.run(*WORDS)
+    again = ["dmrgate keeps", "left keeps"]
+    tree.expect("a second build keeps them", sorted(kept.read_text().splitlines()) == again, kept.read_text())
+
+
 def check_editors(tree):
     """What editors keep beside the files that they have open is no source."""
     folder = tree.source("left").parent
@@ -210,6 +223,7 @@ def check(report):
         report,
         [check_sources],
         [check_files, check_editors],
+        [check_kept],
         [check_programs, check_signals],
         [check_other_builds],
         [check_another_kit],

@@ -29,7 +29,8 @@ program() {
 }
 """
 
-# It tells where it is and which. Its gate leaves two programs, and no library.
+# It tells where it is and which. Its gate leaves two programs, and no library. Its try writes the words into the file that is named
+# behind --downlink, prints them, and says how that ended.
 RT = COMMON + r"""
 leave() {
     name=$1
@@ -40,6 +41,21 @@ leave() {
 case $1 in
     doc) echo "KIT/START-HERE.md" ;;
     version) echo a kit that stands in ;;
+    try)
+        top=${PWD%/crates/*}
+        echo "try ${PWD##*/}" >>"$top/said"
+        shift 2
+        previous=
+        for word; do
+            [ "$previous" != --downlink ] || echo downlink >"$word"
+            previous=$word
+        done
+        echo "$@"
+        ended="ended status=0"
+        doing before try
+        echo "checked: $ended" >&2
+        echo "run=$ended runners=1 proved=no" >&2
+        ;;
     ci)
         top=$PWD
         rm -rf crates/*/out
@@ -59,6 +75,11 @@ RATTLE = COMMON + r"""
 name=$3
 top=${PWD%/crates/*}
 echo "begin $name" >>"$top/said"
+case " $* " in
+    *" --statements "*) echo "$name states" >>"$top/kept" ;;
+    *" --incremental "*) echo "$name keeps" >>"$top/kept" ;;
+    *) echo "$name" >>"$top/kept" ;;
+esac
 doing before "$name"
 [ "$1 $2 $4" = "build --crate-name src/$([ -e src/main.rt ] && echo main || echo lib).rt" ] || exit 2
 rm -f out/text*
