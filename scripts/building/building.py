@@ -214,7 +214,7 @@ class Building:
         return [self.built[it] for it in with_all_below(name)[:-1]]
 
     def doubt(self):
-        """Has libraries built anew that no longer fit those below, one of which is another build. One that waits is looked at later."""
+        """Has libraries built anew that no longer fit those below, one of which is another build. One that waits comes later."""
         for name, built in self.built.items():
             if name not in self.left and name not in self.running and not self.waits(name) and not built.fits():
                 self.left.append(name)

@@ -46,8 +46,8 @@ class Kit:
             yield from ("-L", f"dependency={library.parent}")
 
     def build(self, crate, below, jobs, made, keeps):
-        """The words that prove a crate and build it, over what an earlier build kept of its proofs, or at once. Of a library that was
-        built at once the crates above load what it states, and none of its proofs."""
+        """The words that prove a crate and build it, over what an earlier build kept of its proofs, or at once. Of a library that
+        was built at once the crates above load what it states, and none of its proofs."""
         yield from (self.compiler, "build", "--crate-name", crate.name, crate.root)
         yield from self.libraries(crate, below)
         yield from ("--antt-project", f"{self.folder}/rattle/logic/antt-project.json")
