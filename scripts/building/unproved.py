@@ -11,6 +11,7 @@ import tempfile
 from building.crates import all_crates
 from building.kit import found_rt
 from building.programs import program_of
+from building.saying import say, write
 
 OUTPUTS = ("--downlink", "--received")
 FILES = ("--uplink", "--outgoing", *OUTPUTS)
@@ -51,10 +52,6 @@ class Look:
                 sys.stdout.buffer.write(file.read_bytes())
 
 
-def say(text):
-    print(f"dmrgate: {text}", file=sys.stderr, flush=True)
-
-
 def look(words):
     """Compiles the program that does these words and runs it once; answers its status."""
     if not words:
@@ -77,12 +74,12 @@ def look(words):
         text = err.decode(errors="replace")
         ended = ENDED.search(text)
         if not ended or ended[2] != "ended":
-            sys.stderr.write(text)
+            write(text)
             say("there is no answer: this is too long for a quick look, or isn't compiled;"
                 " without --unproved it is proved and built")
             return 1
         it.write_out()
         sys.stdout.buffer.write(out)
         sys.stdout.buffer.flush()
-        sys.stderr.write(text[: ended.start()])
+        write(text[: ended.start()])
         return int(ended[3])
