@@ -7,8 +7,8 @@ use dmr_listing::{
     OutgoingLine, Place, ReceivedLine, RecordedBurst, Recording, RecordingSummary, SlotView, Strip,
     StripLine, StripLines, VoicePlace, VoicePlaces, list_recording, strip_recording,
 };
-use dmr_record::{DeviceFault, FromRead, Received, ReceivedKind, RecordFault, read_outgoing};
 use dmr_reading::Reading;
+use dmr_record::{DeviceFault, FromRead, Received, ReceivedKind, RecordFault, read_outgoing};
 use hex::FromHex;
 use std::alloc::AllocError;
 use std::fmt::Write;

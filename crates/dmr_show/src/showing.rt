@@ -9,9 +9,9 @@ use crate::file_listing::{Shown, show_all};
 use crate::filter::Filter;
 use crate::form::Form;
 use crate::lines::Lines;
+use dmr_lines::{FAILURE, SUCCESS, line_of, print_error};
 use dmr_listing::{FaultLine, ListingEnd};
 use dmr_record::{OCTET_LIMIT, Sink, Source};
-use dmr_lines::{FAILURE, SUCCESS, line_of, print_error};
 use std::alloc::{AllocError, Global};
 
 /// How many octets the longest line has at most: a received record that is no datagram, in digits, behind its other columns.
