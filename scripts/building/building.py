@@ -231,23 +231,14 @@ class Building:
         below = {it.crate.name: it.made for it in self.built_below(name)}
         self.running[name] = Work(self.kit, self.built[name], below, jobs, self.held)
 
-    def least_jobs(self, name):
-        """One job costs least. Two go to the longest chain of all, where it takes longer than all the work that there is."""
-        unfinished = [*self.left, *self.running]
-        work = sum(self.costs[it] for it in unfinished) / self.lanes
-        is_longest = self.chains[name] == max(self.chains[it] for it in unfinished)
-        return 2 if is_longest and self.chains[name] / GAIN[2] > work else 1
-
     def begin_more(self):
         """Begins as many crates as processors and memory allow, those with the longest chain above them first."""
         ready = sorted((it for it in self.left if not self.waits(it)), key=lambda it: -self.chains[it])
         memory = free_memory()
         while ready and self.idle() > 0 and (not self.running or memory >= MEMORY):
-            name = ready.pop(0)
             # Processors that no other crate could use help the one with the longest chain.
-            jobs = min(MOST_JOBS, self.idle(), max(self.idle() - len(ready), self.least_jobs(name)))
-            jobs = max(1, min(jobs, memory // MEMORY))
-            self.begin(name, jobs)
+            jobs = max(1, min(MOST_JOBS, self.idle() - len(ready) + 1, memory // MEMORY))
+            self.begin(ready.pop(0), jobs)
             memory -= MEMORY * jobs
 
     def take_ended(self):
