@@ -14,7 +14,7 @@ from building.crates import all_crates, has_changed, sum_of, with_all_below
 # What a check takes at most, as far as was seen; so many run at once as the memory has room for.
 MEMORY = 2_000_000_000
 
-# How much faster a crate is with so many jobs than with one, as was measured: more than four gain nothing.
+# About how much faster a crate is with so many jobs than with one: a guess from a few crates, for estimates of the time left.
 GAIN = {1: 1.0, 2: 1.5, 3: 1.8, 4: 2.1}
 MOST_JOBS = max(GAIN)
 
