@@ -12,7 +12,7 @@ use Rattle.dmr_data.specs.declared.header.Header.TheVariants as header
 use Rattle.dmr_data.specs.declared.packet.Packet.{Packet}
 use Rattle.dmr_data.specs.declared.rate.Rate.{Rate}
 use Rattle.dmr_data.specs.declared.rate.Rate.TheVariants.{Half, Full}
-use Rattle.dmr_arq.specs.Fit.{IsFitRoute, IsFitTryBurst, IsOfferedPacket, IsFitHeld, IsFitSender}
+use Rattle.dmr_arq.specs.Fit.{IsFitRoute, IsFitGateBurst, IsOfferedPacket, IsFitHeld, IsFitSender}
 use Rattle.dmr_arq.specs.SenderRules as sender
 use Rattle.std.specs.Option.{option_map_or}
 use Rattle.dmr_arq.specs.declared.answer.Answer.{Answer}
@@ -227,17 +227,17 @@ block_fits packet place b fit found =
     ]
 
 found_fits : (rate : Rate) (found : Option Block) → ((b : Block) → found ≡ Some b → FitsBlock rate b.serial b.octets) →
-    IfSome (option_map (sender.block_burst rate) found) IsFitTryBurst
+    IfSome (option_map (sender.block_burst rate) found) IsFitGateBurst
 found_fits rate None fits = tt
 found_fits rate (Some b) fits = fits b refl
 
 place_fits : (packet : Packet) (serial : Option ℕ) → IsOfferedPacket packet →
-    IfSome (option_map (sender.block_burst packet.rate) (sender.block_in packet serial)) IsFitTryBurst
+    IfSome (option_map (sender.block_burst packet.rate) (sender.block_in packet serial)) IsFitGateBurst
 place_fits packet None fit = tt
 place_fits packet (Some serial) fit =
     found_fits packet.rate (slice_get packet.blocks serial) (λ b e. block_fits packet serial b fit e)
 
-number_fits : (llid : ℕ) (h : Held) (out : ℕ) → llid < 2 ^ 24 → IsFitHeld h → IfSome (sender.burst_number llid h out) IsFitTryBurst
+number_fits : (llid : ℕ) (h : Held) (out : ℕ) → llid < 2 ^ 24 → IsFitHeld h → IfSome (sender.burst_number llid h out) IsFitGateBurst
 number_fits llid h zero own fit =
     let few : length h.selection.serials ≤ 127 = fit.serials in
     let k : length h.selection.serials + 2 < 2 ^ 8 = omega arith in (k, fit.route)
@@ -247,14 +247,14 @@ number_fits llid h (suc zero) own fit =
 number_fits llid h (suc (suc zero)) own fit = header_fits llid h own fit
 number_fits llid h (suc (suc (suc place))) own fit = place_fits h.packet (slice_get h.selection.serials place) fit.packet
 
-burst_at_fits : (p : Phase) (llid : ℕ) (h : Held) → llid < 2 ^ 24 → IsFitHeld h → IfSome (sender.burst_at p llid h) IsFitTryBurst
+burst_at_fits : (p : Phase) (llid : ℕ) (h : Held) → llid < 2 ^ 24 → IsFitHeld h → IfSome (sender.burst_at p llid h) IsFitGateBurst
 burst_at_fits phase.Due llid h own fit = number_fits llid h 0 own fit
 burst_at_fits (phase.Sending out) llid h own fit = number_fits llid h out own fit
 burst_at_fits (phase.Waiting left) llid h own fit = tt
 
-burst_in_fits : (o : Option Held) (llid : ℕ) → llid < 2 ^ 24 → IfSome o IsFitHeld → IfSome (sender.burst_in o llid) IsFitTryBurst
+burst_in_fits : (o : Option Held) (llid : ℕ) → llid < 2 ^ 24 → IfSome o IsFitHeld → IfSome (sender.burst_in o llid) IsFitGateBurst
 burst_in_fits None llid own fit = tt
 burst_in_fits (Some h) llid own fit = burst_at_fits h.phase llid h own fit
 
-pub burst_fits : (s : SenderState) → IsFitSender s → IfSome (sender.burst_of s) IsFitTryBurst
+pub burst_fits : (s : SenderState) → IsFitSender s → IfSome (sender.burst_of s) IsFitGateBurst
 burst_fits s own = burst_in_fits s.held s.llid own.llid own.held

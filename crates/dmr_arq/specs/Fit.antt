@@ -1,8 +1,9 @@
 -- What fits its fields: all that goes out, and all that is kept for it.
-use Rattle.std.specs.Prelude.{ℕ, ◌^◌, ◌<◌, ◌≤◌, List, length, IfSome}
-use Rattle.dmr_data.specs.Block.{FitsBlock}
+use Rattle.std.specs.Prelude.{ℕ, ◌^◌, ◌<◌, ◌≤◌, List, length, Option, Some, None, IfSome}
+use Rattle.dmr_data.specs.Block.{FitsBlock, IsCounted}
 use Rattle.dmr_data.specs.Header.{IsFitHeader}
 use Rattle.dmr_data.specs.Packet.{IsWrittenPacket}
+use Rattle.dmr_data.specs.declared.block.Block.{Block}
 use Rattle.dmr_data.specs.declared.header.Header.TheVariants as header
 use Rattle.dmr_data.specs.declared.packet.Packet.{Packet}
 use Rattle.dmr_arq.specs.declared.answer.Answer.{Answer}
@@ -10,8 +11,8 @@ use Rattle.dmr_arq.specs.declared.received.ReceiverOut.{ReceiverOut}
 use Rattle.dmr_arq.specs.declared.receiver_state.Kind.{Kind}
 use Rattle.dmr_arq.specs.declared.receiver_state.Kind.TheVariants.{Single, InProgress, Repeat}
 use Rattle.dmr_arq.specs.declared.receiver_state.ReceiverState.{ReceiverState}
-use Rattle.dmr_arq.specs.declared.sender.TryBurst.{TryBurst}
-use Rattle.dmr_arq.specs.declared.sender.TryBurst.TheVariants as burst
+use Rattle.dmr_arq.specs.declared.sender.GateBurst.{GateBurst}
+use Rattle.dmr_arq.specs.declared.sender.GateBurst.TheVariants as burst
 use Rattle.dmr_arq.specs.declared.sender_state.Held.{Held}
 use Rattle.dmr_arq.specs.declared.sender_state.Route.{Route}
 use Rattle.dmr_arq.specs.SenderRules.{SenderState}
@@ -36,12 +37,18 @@ pub record IsFitReceiverOut (out : ReceiverOut) : Type 0 where
   pub answer : IfSome out.answer IsFitAnswer
 
 -- a burst of a try: a preamble counts in eight bits, and a block fits its rate
-abbrev pub IsFitTryBurst : TryBurst → Type 0
-IsFitTryBurst (burst.Preamble left route) = (left < 2 ^ 8) × IsFitRoute route
-IsFitTryBurst (burst.Header h) = IsFitHeader h
-IsFitTryBurst (burst.Block block rate) = FitsBlock rate block.serial block.octets
+abbrev pub IsFitGateBurst : GateBurst → Type 0
+IsFitGateBurst (burst.Preamble left route) = (left < 2 ^ 8) × IsFitRoute route
+IsFitGateBurst (burst.Header h) = IsFitHeader h
+IsFitGateBurst (burst.Block block rate) = FitsBlock rate block.serial block.octets
 
--- 2. What is offered, and what is kept.
+-- 2. What comes in, what is offered, and what is kept.
+
+-- A block fits a place of a try: it has a serial exactly where the try is of a confirmed packet, below the number of its blocks.
+abbrev pub FitsPlace : Option (Option ℕ) → Option Block → Type 0
+FitsPlace None block = Unit {0}
+FitsPlace (Some total) None = Unit {0}
+FitsPlace (Some total) (Some block) = IsCounted total block.serial
 
 -- A packet is the one that is sent for some body.
 abbrev pub IsOfferedPacket : Packet → Type 0

@@ -2,8 +2,8 @@
 ghost use Rattle.std.specs.Prelude.{◌<◌, ◌^◌};
 ghost use Rattle.dmr_data.specs.Header.{IsFitHeader};
 
-use crate::tests::one_block;
-use dmr_arq::{Answer, Joined, Receiver, Verdict};
+use crate::tests::{one_block, placed};
+use dmr_arq::{Answer, Joined, Receiver, ReceiverOut, Verdict};
 use dmr_data::{
     Block, Confirmed, Header, Octets, Packet, Rate, ShortData, Unconfirmed, split_packet,
 };
@@ -64,11 +64,18 @@ fn header_of(full: bool, blocks: u8) -> Header
     })
 }
 
+/// Whether a place that fits its try gives nothing.
+fn gives_nothing(out: Option<ReceiverOut>) -> bool {
+    match out {
+        Some(out) => out.delivered.is_none() && out.answer.is_none(),
+        None => false,
+    }
+}
+
 /// A place of a try that isn't its last, and gives nothing.
 fn middle(rt: &impl Abort, receiver: &mut Receiver, block: Option<&Block>) {
     assert!(rt; receiver.open() == Some(Some(64)));
-    let out = receiver.place(block);
-    assert!(rt; out.delivered.is_none() && out.answer.is_none());
+    assert!(rt; gives_nothing(placed(receiver, block)));
 }
 
 /// Whether this is the packet that the header of its first try opened.
@@ -98,10 +105,12 @@ fn answer(verdict: Verdict, flags: u128) -> Option<Answer> {
 
 /// The last place of a try: its answer, and whether the packet was delivered.
 fn last(rt: &impl Abort, receiver: &mut Receiver, block: Option<&Block>) -> (Option<Answer>, bool) {
-    assert!(rt; receiver.open().is_some());
-    let out = receiver.place(block);
-    assert!(rt; receiver.open().is_none());
-    (out.answer, is_whole(&out.delivered))
+    let out = placed(receiver, block);
+    assert!(rt; out.is_some() && receiver.open().is_none());
+    match out {
+        Some(out) => (out.answer, is_whole(&out.delivered)),
+        None => (None, false),
+    }
 }
 
 /// A confirmed packet of 64 blocks.
@@ -155,8 +164,7 @@ fn repeated_retry(rt: HostRuntime) {
     retry(&rt, &mut receiver, &packet);
     receiver.header(&header_of(false, 2));
     assert!(rt; receiver.open() == Some(Some(2)));
-    let out = receiver.place(packet.blocks.get(0));
-    assert!(rt; out.delivered.is_none() && out.answer.is_none());
+    assert!(rt; gives_nothing(placed(&mut receiver, packet.blocks.get(0))));
     let answered = last(&rt, &mut receiver, packet.blocks.get(63));
     assert!(rt; answered == (answer(Verdict::Ack, 0), false));
 }
@@ -227,12 +235,14 @@ fn expect_received(rt: &impl Abort, receiver: &mut Receiver, header: &Header)
 {
     receiver.header(header);
     assert!(rt; receiver.open() == Some(None));
-    let out = receiver.place(Some(&datagram_block()));
-    let received = Joined {
-        header: *header,
-        body: Octets::from_slice(&DATAGRAM_BLOCK[..7]),
+    let received = ReceiverOut {
+        delivered: Some(Joined {
+            header: *header,
+            body: Octets::from_slice(&DATAGRAM_BLOCK[..7]),
+        }),
+        answer: None,
     };
-    assert!(rt; out.delivered == Some(received) && out.answer.is_none());
+    assert!(rt; placed(receiver, Some(&datagram_block())) == Some(received));
 }
 
 // Fifteen bits of padding are one octet and a part of the body.

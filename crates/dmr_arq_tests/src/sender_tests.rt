@@ -5,7 +5,7 @@ ghost use Rattle.dmr_arq.specs.Fit.{IsOfferedPacket};
 use crate::tests::{
     ACK, ROUTE, expect_burst, expect_outcome, expect_preambles, one_block, sender_of,
 };
-use dmr_arq::{Answer, Busy, Outcome, Route, Sender, TryBurst, Verdict};
+use dmr_arq::{Answer, Busy, Outcome, Route, Sender, GateBurst, Verdict};
 use dmr_data::{Block, Confirmed, Header, Octets, Packet, Rate, Unconfirmed, split_packet};
 use dmr_test_values::DATAGRAM_BLOCK;
 use std::process::Abort;
@@ -36,14 +36,14 @@ const FIRST: Confirmed = Confirmed {
 };
 
 /// The first burst of a try of two blocks.
-fn begins(burst: &Option<TryBurst>) -> bool {
-    matches!(burst, Some(TryBurst::Preamble { left: 4, .. }))
+fn begins(burst: &Option<GateBurst>) -> bool {
+    matches!(burst, Some(GateBurst::Preamble { left: 4, .. }))
 }
 
 /// The sender's next burst is a block that begins with this octet.
 fn expect_block(rt: &impl Abort, sender: &mut Sender, octet: u8) {
     let begins = match sender.next_burst() {
-        Some(TryBurst::Block { block, .. }) => block.octets.as_slice().first() == Some(&octet),
+        Some(GateBurst::Block { block, .. }) => block.octets.as_slice().first() == Some(&octet),
         _ => false,
     };
     assert!(rt; begins);
@@ -54,8 +54,8 @@ fn busy_sender(rt: HostRuntime) {
     assert!(rt; Sender::new(1).is_idle());
     let mut sender = sender_of(&rt, &one_block(7));
     assert!(rt; !sender.is_idle());
-    let refused = sender.offer(&one_block(8), ROUTE);
-    assert!(rt; refused == Err(Busy));
+    let refused = sender.offer(one_block(8), ROUTE);
+    assert!(rt; refused == Err(Busy(one_block(8), ROUTE)));
     assert!(rt; !sender.is_begun());
     expect_preambles(&rt, &mut sender, ROUTE, 1);
     assert!(rt; sender.is_begun());
@@ -65,11 +65,11 @@ fn busy_sender(rt: HostRuntime) {
 }
 
 /// Whether this is what is sent in a frame of the first try of two blocks, which begins in frame 5.
-fn is_of_first_try(frame: u32, burst: &Option<TryBurst>) -> bool {
+fn is_of_first_try(frame: u32, burst: &Option<GateBurst>) -> bool {
     match burst {
-        Some(TryBurst::Preamble { left, .. }) => matches!((frame, *left), (5, 4) | (6, 3)),
-        Some(TryBurst::Header(header)) => frame == 7 && *header == Header::Confirmed(FIRST),
-        Some(TryBurst::Block { block, .. }) => matches!(
+        Some(GateBurst::Preamble { left, .. }) => matches!((frame, *left), (5, 4) | (6, 3)),
+        Some(GateBurst::Header(header)) => frame == 7 && *header == Header::Confirmed(FIRST),
+        Some(GateBurst::Block { block, .. }) => matches!(
             (frame, block.serial),
             (8, Some(0)) | (9, Some(1))
         ),
@@ -145,7 +145,7 @@ fn late_answer(rt: HostRuntime) {
 fn header_sent(sender: &mut Sender, bursts: u8) -> Option<Confirmed> {
     let mut sent = None;
     for _ in 0..bursts {
-        if let Some(TryBurst::Header(Header::Confirmed(header))) = sender.next_burst() {
+        if let Some(GateBurst::Header(Header::Confirmed(header))) = sender.next_burst() {
             sent = Some(header);
         }
     }
@@ -215,8 +215,8 @@ const GROUP_HEADER: Unconfirmed = Unconfirmed {
 };
 
 /// The one block of the compressed datagram at rate 1/2.
-fn datagram_block() -> TryBurst {
-    TryBurst::Block {
+fn datagram_block() -> GateBurst {
+    GateBurst::Block {
         block: Block {
             serial: None,
             octets: Octets::from_slice(&DATAGRAM_BLOCK),
@@ -229,11 +229,11 @@ fn datagram_block() -> TryBurst {
 fn unconfirmed_send(rt: HostRuntime) {
     let mut sender = Sender::new(1);
     let packet = split_packet(&DATAGRAM, Rate::Half, false);
-    assert!(rt; sender.offer(&packet, TO_A_GROUP).is_ok());
+    assert!(rt; sender.take(&packet, TO_A_GROUP));
     assert!(rt; sender.blocks() == 1);
     expect_preambles(&rt, &mut sender, TO_A_GROUP, 1);
     let header = Header::Unconfirmed(GROUP_HEADER);
-    expect_burst(&rt, &mut sender, TryBurst::Header(header));
+    expect_burst(&rt, &mut sender, GateBurst::Header(header));
     assert!(rt; sender.outcome().is_none());
     expect_burst(&rt, &mut sender, datagram_block());
     expect_outcome(&rt, &mut sender, Outcome::Sent);
@@ -249,7 +249,7 @@ fn number_of_next(rt: &impl Abort, sender: &mut Sender, destination: u32) -> u8
         destination,
         ..ROUTE
     };
-    assert!(rt; sender.offer(&one_block(7), route).is_ok());
+    assert!(rt; sender.take(&one_block(7), route));
     let number = match header_sent(sender, 4) {
         Some(header) => header.number,
         None => 8,

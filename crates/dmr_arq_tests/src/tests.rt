@@ -1,7 +1,8 @@
 //! Worked histories of a sender and a receiver together.
-ghost use Rattle.dmr_arq.specs.Fit.{IsOfferedPacket};
+ghost use Rattle.std.specs.Prelude.{Some, IsTrue, option_copied};
+ghost use Rattle.dmr_arq.specs.Fit.{FitsPlace, IsOfferedPacket};
 
-use dmr_arq::{Answer, Outcome, Receiver, ReceiverOut, Route, Sender, TryBurst, Verdict};
+use dmr_arq::{Answer, Outcome, Receiver, ReceiverOut, Route, Sender, GateBurst, Verdict};
 use dmr_data::{Block, Confirmed, Header, Packet, Rate, split_packet};
 use std::process::Abort;
 
@@ -42,12 +43,11 @@ pub(crate) fn sender_of(rt: &impl Abort, packet: &Packet) -> Sender
 pub(crate) fn offer(rt: &impl Abort, sender: &mut Sender, packet: &Packet)
     requires offered { IsOfferedPacket packet.now }
 {
-    let offered = sender.offer(packet, ROUTE);
-    assert!(rt; offered.is_ok());
+    assert!(rt; sender.take(packet, ROUTE));
 }
 
 /// This is the sender's next burst.
-pub(crate) fn expect_burst(rt: &impl Abort, sender: &mut Sender, burst: TryBurst) {
+pub(crate) fn expect_burst(rt: &impl Abort, sender: &mut Sender, burst: GateBurst) {
     let sent = sender.next_burst();
     assert!(rt; sent == Some(burst));
 }
@@ -56,7 +56,7 @@ pub(crate) fn expect_burst(rt: &impl Abort, sender: &mut Sender, burst: TryBurst
 pub(crate) fn expect_preambles(rt: &impl Abort, sender: &mut Sender, route: Route, blocks: u8) {
     let next = blocks.saturating_add(1);
     for left in [next.saturating_add(1), next] {
-        expect_burst(rt, sender, TryBurst::Preamble { left, route });
+        expect_burst(rt, sender, GateBurst::Preamble { left, route });
     }
 }
 
@@ -65,12 +65,31 @@ pub(crate) fn expect_outcome(rt: &impl Abort, sender: &mut Sender, outcome: Outc
     assert!(rt; sender.outcome() == Some(outcome));
 }
 
-/// What a receiver gives in a place, where a try is open: the number of delivered packets goes up with a packet.
-fn place(receiver: &mut Receiver, block: Option<&Block>, delivered: &mut u32) -> Option<Answer> {
-    if receiver.open().is_none() {
-        return None;
+/// Whether a block has a serial exactly in a try of so many blocks, below their number.
+fn fits(total: Option<u8>, block: Option<&Block>) -> bool
+    ensures fits { IsTrue result → FitsPlace (Some total) (option_copied block.entry) }
+{
+    match block {
+        None => true,
+        Some(block) => match (total, block.serial) {
+            (None, None) => true,
+            (Some(total), Some(serial)) => serial < total,
+            (None, Some(_)) | (Some(_), None) => false,
+        },
     }
-    let out = receiver.place(block);
+}
+
+/// What a receiver gives in a place, where a try is open in which the block fits.
+pub(crate) fn placed(receiver: &mut Receiver, block: Option<&Block>) -> Option<ReceiverOut> {
+    match receiver.open() {
+        Some(total) if fits(total, block) => Some(receiver.place(block)),
+        _ => None,
+    }
+}
+
+/// What a receiver answers in a place, where a try is open: the number of delivered packets goes up with a packet.
+fn place(receiver: &mut Receiver, block: Option<&Block>, delivered: &mut u32) -> Option<Answer> {
+    let out = placed(receiver, block)?;
     if out.delivered.is_some() {
         *delivered = delivered.saturating_add(1);
     }
@@ -85,11 +104,11 @@ fn burst(
     delivered: &mut u32,
 ) -> Option<Answer> {
     match sender.next_burst() {
-        Some(TryBurst::Header(header)) if arrives => {
+        Some(GateBurst::Header(header)) if arrives => {
             receiver.header(&header);
             None
         }
-        Some(TryBurst::Block { block, .. }) if arrives => place(receiver, Some(&block), delivered),
+        Some(GateBurst::Block { block, .. }) if arrives => place(receiver, Some(&block), delivered),
         _ => place(receiver, None, delivered),
     }
 }
@@ -242,7 +261,7 @@ fn expect_block(
 ) -> ReceiverOut {
     assert!(rt; receiver.open() == Some(Some(127)));
     match sender.next_burst() {
-        Some(TryBurst::Block { block, rate }) => {
+        Some(GateBurst::Block { block, rate }) => {
             assert!(rt; block.serial == Some(serial) && rate == Rate::Half);
             receiver.place(Some(&block))
         }
@@ -268,7 +287,7 @@ fn is_whole(out: &ReceiverOut) -> bool {
 fn partial_try_of_127(rt: &impl Abort, sender: &mut Sender, receiver: &mut Receiver) {
     expect_preambles(rt, sender, ROUTE, 3);
     let header = Header::Confirmed(THREE_OF_127);
-    expect_burst(rt, sender, TryBurst::Header(header));
+    expect_burst(rt, sender, GateBurst::Header(header));
     receiver.header(&header);
     for serial in [0, 64] {
         let out = expect_block(rt, sender, receiver, serial);

@@ -1,5 +1,5 @@
 -- A block and its bits decide each other.
-use Rattle.std.proofs.Common.{◌≡◌, ℕ, ◌≤◌, ◌<◌, List, Bool, ◌∷◌, ◌++◌, length, take, sym, ap, ◌∙◌, subst, arith}
+use Rattle.std.proofs.Common.{◌≡◌, ℕ, ◌≤◌, ◌<◌, List, Bool, Some, ◌∷◌, ◌++◌, length, take, sym, ap, ◌∙◌, subst, arith}
 use Rattle.std.specs.List.{All}
 use Rattle.std.proofs.lemmas.List.{take_at, length-take-le, length-append, append_assoc}
 use Rattle.std.proofs.lemmas.List.Elements.{All-take}
@@ -7,11 +7,13 @@ use Rattle.dmr_bits.specs.Bits.{bits_of, bits_of_octets, octets_of}
 use Rattle.dmr_bits.proofs.Spelled.{same_number, same_octets}
 use Rattle.dmr_bits.proofs.Octets.{octets_of-bits_of_octets, bits_of_octets-octets_of}
 use Rattle.dmr_bits.proofs.OctetFronts.{length-bits_of_octets, bits_of_octets-take, length-octets_of, octets_of-small}
+use Rattle.dmr_bptc.specs.ProductWord.{IsWritten}
+use Rattle.dmr_bptc.proofs.Decoded.{written_decoded}
 use Rattle.dmr_checks.specs.Sealed.{IsSealed}
 use Rattle.dmr_checks.proofs.Blocks.{sealed_alike}
 use Rattle.dmr_checks.specs.declared.sealing.Mask.TheVariants as mask
 use Rattle.dmr_csbk.specs.declared.block.Csbk.{Csbk}
-use Rattle.dmr_csbk.specs.Block.{csbk_bits, FitsCsbk, IsCsbk}
+use Rattle.dmr_csbk.specs.Block.{csbk_bits, FitsCsbk, IsCsbk, IsReadCsbk}
 
 -- the fields are decided by their bits
 pub same_fields : (a b : Csbk) → FitsCsbk a → FitsCsbk b → csbk_bits a ≡ csbk_bits b → a ≡ b
@@ -61,6 +63,16 @@ same_message c a b p q =
 -- a message is of one block
 pub same_block : (a b : Csbk) (message : List Bool) → IsCsbk a message → IsCsbk b message → a ≡ b
 same_block a b message p q = same_fields a b p.fit q.fit (sym p.fields ∙ q.fields)
+
+-- what is read of a written form is what was written
+pub read_back : (c read : Csbk) (message bits : List Bool) → IsCsbk c message → IsWritten message bits → IsReadCsbk bits read
+    → read ≡ c
+read_back c read message bits is written found =
+    let same : found.0 ≡ message = same_some found.0 message (written_decoded message bits (Some found.0) written found.1) in
+    same_block read c message (subst (IsCsbk read) same found.2) is
+  where
+    same_some : (a b : List Bool) → Some a ≡ Some b → a ≡ b
+    same_some a b e = cc
 
 -- ---- reading
 -- the fields stand in front of what is left

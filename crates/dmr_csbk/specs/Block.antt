@@ -30,6 +30,10 @@ pub record IsCsbk (c : Csbk) (message : List Bool) : Type 0 where
   pub fields : take 80 message ≡ csbk_bits c
   pub sealed : IsSealedCsbk message
 
+-- what bits are read as: the block that the product code's bits say
+abbrev pub IsReadCsbk : List Bool → Csbk → Type 0
+IsReadCsbk bits c = (message : List Bool) × IsDecoded bits (Some message) × IsCsbk c message
+
 -- what the bits show where no block is read: no product word, or a message that isn't sealed
 abbrev pub ShowsCsbkFault : CsbkFault → List Bool → Type 0
 ShowsCsbkFault Bptc bits = IsDecoded bits None

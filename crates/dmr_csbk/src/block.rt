@@ -1,8 +1,8 @@
 //! The fields of a block, written and read.
 ghost use Rattle.std.specs.Prelude.{◌≡◌, ◌<◌, List, Bool, IfOk, IfErr, IsOkAnd, take};
-ghost use Rattle.dmr_bptc.specs.Decoding.{IsDecoded, IsDamaged};
+ghost use Rattle.dmr_bptc.specs.Decoding.{IsDamaged};
 ghost use Rattle.dmr_bptc.specs.ProductWord.{IsProductWord, information};
-ghost use Rattle.dmr_csbk.specs.Block.{csbk_bits, FitsCsbk, IsSealedCsbk, IsCsbk, ShowsCsbkFault};
+ghost use Rattle.dmr_csbk.specs.Block.{csbk_bits, FitsCsbk, IsSealedCsbk, IsCsbk, IsReadCsbk, ShowsCsbkFault};
 
 use crate::fault::CsbkFault;
 use dmr_bits::{Bits, Reader, Writer, read_fields, write_fields};
@@ -66,7 +66,7 @@ fn fields_of(message: &Bits<96>) -> Csbk
 /// The block that the information of a data burst of type 3 holds. ETSI TS 102 361-1, clause 7.2.
 pub fn csbk_read(bits: &Bits<196>) -> Result<Csbk, CsbkFault>
     // A block is what the product code's bits say, and they are sealed.
-    ensures block { IfOk result (λ csbk. (message : List Bool) × IsDecoded bits.now (Some message) × IsCsbk csbk message) }
+    ensures block { IfOk result (IsReadCsbk bits.now) }
     ensures fault { IfErr result (λ e. ShowsCsbkFault e bits.now) }
     // Damage within the product code's reach is undone.
     ensures undone { (word : List Bool) → IsProductWord word → IsDamaged word bits.now → IsSealedCsbk (information word)

@@ -1,6 +1,7 @@
 //! Laws of the definition of a block, as the contracts of functions that do nothing.
 ghost use Rattle.std.specs.Prelude.{◌≡◌, List, Bool};
-ghost use Rattle.dmr_csbk.specs.Block.{IsCsbk};
+ghost use Rattle.dmr_bptc.specs.ProductWord.{IsWritten};
+ghost use Rattle.dmr_csbk.specs.Block.{IsCsbk, IsReadCsbk};
 ghost use Rattle.dmr_csbk.specs.declared.block.Csbk.{Csbk};
 
 /// A block has one written form.
@@ -11,4 +12,10 @@ pub fn one_written_form()
 /// Bits are of one block.
 pub fn one_reading()
     ensures law { (a b : Csbk) (message : List Bool) → IsCsbk a message → IsCsbk b message → a ≡ b }
+{}
+
+/// What is read of the written form of a block is that block.
+pub fn what_is_written_is_read_back()
+    ensures law { (csbk read : Csbk) (message bits : List Bool) → IsCsbk csbk message → IsWritten message bits
+        → IsReadCsbk bits read → read ≡ csbk }
 {}

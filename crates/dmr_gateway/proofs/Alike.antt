@@ -13,8 +13,8 @@ use Rattle.dmr_data.specs.declared.header.Header.{Header}
 use Rattle.dmr_data.specs.declared.packet.Packet.{Packet}
 use Rattle.dmr_data.specs.declared.rate.Rate.{Rate}
 use Rattle.dmr_data.specs.declared.rate.Rate.TheVariants.{Half}
-use Rattle.dmr_arq.specs.declared.sender.TryBurst.{TryBurst}
-use Rattle.dmr_arq.specs.declared.sender.TryBurst.TheVariants as of_try
+use Rattle.dmr_arq.specs.declared.sender.GateBurst.{GateBurst}
+use Rattle.dmr_arq.specs.declared.sender.GateBurst.TheVariants as of_try
 use Rattle.dmr_arq.specs.declared.sender_state.Route.{Route}
 use Rattle.dmr_gateway.specs.Bursts.{IsWordBurst, IsHeaderBurst, IsBlockBurst, IsTryBurst, IsFlagBurst, IsAnswerBurst}
 use Rattle.dmr_gateway.specs.Bursts.{IsGatewayBurst, IsGatewayOut, preamble, answer_header, flag_octets}
@@ -66,7 +66,7 @@ block_alike : (colour : ℕ) (rate : Rate) (block : Block) (a b : Burst) → IsB
 block_alike colour rate block a b u v =
     u.2 ∙ ap (λ information. Data colour (kind_of_rate rate) information) (one_block_form rate block u.0 v.0 u.1 v.1) ∙ sym v.2
 
-try_alike : (colour llid : ℕ) (sending : TryBurst) (a b : Burst) → IsTryBurst colour llid sending a
+try_alike : (colour llid : ℕ) (sending : GateBurst) (a b : Burst) → IsTryBurst colour llid sending a
     → IsTryBurst colour llid sending b → a ≡ b
 try_alike colour llid (of_try.Preamble left route) a b u v =
     let same : u.0 ≡ v.0 = same_message (preamble llid left route) u.0 v.0 u.1 v.1 in

@@ -51,7 +51,7 @@ pub fn word(kind: u8, message: &Bits<96>) -> Burst {
     Burst::Data {
         colour: 1,
         kind,
-        information: bptc_encode(message),
+        info: bptc_encode(message),
     }
 }
 
@@ -80,15 +80,9 @@ pub fn headed(header: &Header) -> Burst
 pub fn letter(burst: &Option<Burst>) -> u8 {
     match burst {
         None => b'.',
-        Some(
-            Burst::Data {
-                kind,
-                information,
-                ..
-            },
-        ) => match *kind {
+        Some(Burst::Data { kind, info, .. }) => match *kind {
             data_type::CSBK => b'P',
-            data_type::DATA_HEADER => match header_read(information) {
+            data_type::DATA_HEADER => match header_read(info) {
                 Ok(Header::Response(_)) => b'A',
                 Ok(_) => b'H',
                 Err(_) => b'?',
@@ -109,8 +103,8 @@ pub fn frame(gateway: &mut Gateway, repeated: Option<Burst>) -> Option<Burst> {
 /// The first ten octets of what a burst carries.
 pub fn octets_of(burst: &Option<Burst>) -> [u8; 10] {
     let mut first = [0; 10];
-    if let Some(Burst::Data { information, .. }) = burst
-        && let Some(message) = bptc_decode(information)
+    if let Some(Burst::Data { info, .. }) = burst
+        && let Some(message) = bptc_decode(info)
     {
         let octets: [u8; 12] = message.octets();
         first.copy_from_slice(&octets[..10]);
@@ -200,7 +194,7 @@ fn block_burst(block: &Block) -> Option<Burst> {
         Some(Burst::Data {
             colour: 1,
             kind: data_type::RATE_HALF_DATA,
-            information: block_info(block, Rate::Half),
+            info: block_info(block, Rate::Half),
         })
     } else {
         None
@@ -218,7 +212,7 @@ pub fn block(packet: &Packet, serial: usize) -> Option<Burst> {
 /// The octets of a block of flags.
 pub fn flag_octets(burst: &Option<Burst>) -> Octets<24> {
     match burst {
-        Some(Burst::Data { information, .. }) => match block_read(information, Rate::Half, None) {
+        Some(Burst::Data { info, .. }) => match block_read(info, Rate::Half, None) {
             Ok(block) => block.octets,
             Err(_) => Octets::new(),
         },

@@ -1,5 +1,5 @@
 //! What a slot of the uplink is heard as.
-ghost use Rattle.std.specs.Prelude.{◌≡◌, ◌≢◌, ℕ, List, Bool, true, false, Option, Some, None, IfSome};
+ghost use Rattle.std.specs.Prelude.{◌≡◌, ◌≢◌, ℕ, List, Bool, true, false, Option, Some, None, IfSome, option_copied};
 ghost use Rattle.dmr_bits.specs.Bits.{bits_of_octets};
 ghost use Rattle.dmr_burst.specs.Layout.{information_field};
 ghost use Rattle.dmr_burst.specs.SlotType.{HasSlotType};
@@ -18,17 +18,17 @@ use crate::heard::{DataBurst, Heard};
 use crate::information::read_data_burst;
 use dmr_bits::Bits;
 use dmr_burst::{
-    Side, read_emb, read_embedded, read_information, read_slot_type, read_sync, read_vocoder,
+    Side, read_emb, read_embedded, read_info, read_slot_type, read_sync, read_vocoder,
 };
 
 /// What a slot of the uplink is heard as by a repeater of a colour code below 16: silence as nothing, and a burst by its
 /// fields, what is wrong within the reach of a code or a sync word undone. Only the sync words of mobile stations count
 /// (this project's own). A data burst of another colour code is no data burst; an EMB is heard of any colour code.
-pub fn hear(slot: &Option<[u8; 33]>, colour: u8) -> Heard
+pub fn hear(slot: Option<&[u8; 33]>, colour: u8) -> Heard
     // Each part is heard exactly where the burst has it,
-    ensures heard { Hears colour slot.now result }
+    ensures heard { Hears colour (option_copied slot.entry) result }
     // and what was sent is heard where the damage is within the limits.
-    ensures damaged { (sent : SentSlot) → IsRecordedAs colour sent slot.now → IsHeardAs sent result }
+    ensures damaged { (sent : SentSlot) → IsRecordedAs colour sent (option_copied slot.entry) → IsHeardAs sent result }
     // What is read fits its fields.
     ensures fit { IsFitHeard result }
 {
@@ -110,7 +110,7 @@ fn own_data_burst(burst: &[u8; 33], colour: u8) -> Option<DataBurst>
     if slot_type.colour != colour {
         return None;
     }
-    read_data_burst(slot_type.kind, &read_information(burst))
+    read_data_burst(slot_type.kind, &read_info(burst))
 }
 
 /// The sync of a mobile station: whether it is voice.

@@ -1,3 +1,4 @@
 pub mod FullLc
+pub mod Options
 pub mod Sealed
 pub mod Voice

@@ -4,6 +4,9 @@ ghost use Rattle.dmr_bptc.specs.ProductWord.{IsWritten};
 ghost use Rattle.dmr_link.specs.Sealed.{IsLc, IsReadLc};
 ghost use Rattle.dmr_link.specs.declared.full_lc.FullLc.{FullLc};
 ghost use Rattle.dmr_link.specs.declared.sealing.LcUse.{LcUse};
+ghost use Rattle.dmr_link.specs.Options as numbers;
+
+use crate::ServiceOptions;
 
 /// A link control has one sealed form for a use.
 pub fn one_written_form()
@@ -19,4 +22,12 @@ pub fn one_reading()
 pub fn what_is_written_is_read_back()
     ensures law { (lc_use : LcUse) (lc read : FullLc) (message bits : List Bool) → IsLc lc_use lc message
         → IsWritten message bits → IsReadLc lc_use bits read → read ≡ lc }
+{}
+
+/// The named service options have the standard's bits.
+pub fn service_options_are_numbered()
+    ensures emergency { ServiceOptions.EMERGENCY.0 ≡ numbers.emergency }
+    ensures privacy { ServiceOptions.PRIVACY.0 ≡ numbers.privacy }
+    ensures broadcast { ServiceOptions.BROADCAST.0 ≡ numbers.broadcast }
+    ensures open_voice_call_mode { ServiceOptions.OVCM.0 ≡ numbers.open_voice_call_mode }
 {}

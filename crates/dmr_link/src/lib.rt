@@ -4,7 +4,8 @@
 //! of fields serves `octets` and `from_octets`, and `specs/FullLc.antt` spells the 72 bits a second time. `lc_info`
 //! seals a link control for its use, in a header or in a terminator, and `lc_read` reads it back, one wrong octet
 //! corrected: `specs/Sealed.antt` says what is sealed, and which bits are near it. `voice` sees the body of voice
-//! calls (`specs/Voice.antt`). The laws of the definitions are the contracts of the functions in `laws`.
+//! calls (`specs/Voice.antt`), with its service options (`specs/Options.antt`). The laws of the definitions are the
+//! contracts of the functions in `laws`.
 #![tactic(auto)]
 
 mod fault;

@@ -11,7 +11,7 @@ use crate::data_header::DataHeader;
 use crate::digits::Digits;
 use crate::link_control::LinkControl;
 use dmr_bits::Bits;
-use dmr_burst::{data_type, read_information};
+use dmr_burst::{data_type, read_info};
 use dmr_csbk::{Csbk, CsbkFault, csbk_read};
 use dmr_data::{Header, HeaderFault, header_read};
 use dmr_link::{FullLc, LcFault, LcUse, lc_read};
@@ -99,7 +99,7 @@ pub(crate) fn contents_of(kind: u8, burst: &[u8; 33], information: Information) 
     requires read { IsInformation kind (bits_of_octets burst.now) information }
     ensures holds { HoldsContents kind (information_field (bits_of_octets burst.now)) result }
 {
-    let received = read_information(burst);
+    let received = read_info(burst);
     match information {
         Information::Coded(Some(message)) => coded_contents(kind, &received, &message),
         Information::Coded(None) => Contents::Unreadable,

@@ -11,7 +11,7 @@ ghost use Rattle.dmr_listing.specs.Wrong.{data_sync, wrong_of_sync};
 
 use dmr_bits::Bits;
 use dmr_bptc::bptc_encode;
-use dmr_burst::{Burst, Emb, Side, SlotType, Sync, encode_burst, read_information};
+use dmr_burst::{Burst, Emb, Side, SlotType, Sync, encode_burst, read_info};
 use dmr_codes::{BlockCode, Golay20, Residue16};
 use dmr_reading::{Information, Reading};
 use std::fmt;
@@ -78,7 +78,7 @@ fn bare_burst(sync: Sync) -> [u8; 33]
         false => Burst::Data {
             colour: 0,
             kind: 0,
-            information: Bits::zero(),
+            info: Bits::zero(),
         },
     };
     encode_burst(&burst, sync.side)
@@ -120,7 +120,7 @@ fn wrong_of_message(message: &Bits<96>, burst: &[u8; 33]) -> usize
     ensures wrong { IsWrongOfInformation message.now (bits_of_octets burst.now) result }
 {
     let written: Bits<195> = bptc_encode(message).part(1, 196);
-    written.distance(&read_information(burst).part(1, 196))
+    written.distance(&read_info(burst).part(1, 196))
 }
 
 /// How far the information of a burst is from the written form of what it was read as, where it was.

@@ -7,7 +7,7 @@ ghost use Rattle.dmr_reading.specs.Reading.{IsInformation, IsReadAs, named_colou
 use dmr_bits::Bits;
 use dmr_bptc::bptc_decode;
 use dmr_burst::{
-    Emb, Side, SlotType, data_type, read_emb, read_information, read_slot_type, read_sync,
+    Emb, Side, SlotType, data_type, read_emb, read_info, read_slot_type, read_sync,
 };
 use std::fmt;
 
@@ -54,7 +54,7 @@ fn information_of(kind: u8, burst: &[u8; 33]) -> Information
 {
     match kind {
         data_type::RATE_THREE_QUARTERS_DATA | data_type::RATE_ONE_DATA => Information::AsReceived,
-        _ => Information::Coded(bptc_decode(&read_information(burst))),
+        _ => Information::Coded(bptc_decode(&read_info(burst))),
     }
 }
 

@@ -125,6 +125,7 @@ pub fn write_received<K: Sink>(
     octets: &[u8],
 ) -> Result<(), RecordFault>
     requires well { K.has_failed sink.old ≡ false }
+    requires slot { IsSlot slot }
     requires fits { source < 2 ^ 24 }
     requires short { length octets.now < 2 ^ 16 }
     ensures receipt { OnOk result (Appends (K.held sink.old) (K.held sink.new)

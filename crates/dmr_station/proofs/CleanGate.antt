@@ -11,8 +11,8 @@ use Rattle.dmr_data.specs.declared.block.Block.{Block}
 use Rattle.dmr_data.specs.declared.header.Header.{Header}
 use Rattle.dmr_data.specs.declared.rate.Rate.{Rate}
 use Rattle.dmr_data.specs.declared.rate.Rate.TheVariants.{Half, Full}
-use Rattle.dmr_arq.specs.declared.sender.TryBurst.{TryBurst}
-use Rattle.dmr_arq.specs.declared.sender.TryBurst.TheVariants as of_try
+use Rattle.dmr_arq.specs.declared.sender.GateBurst.{GateBurst}
+use Rattle.dmr_arq.specs.declared.sender.GateBurst.TheVariants as of_try
 use Rattle.dmr_slot.proofs.Cleaning.{ArePairs, firsts, seconds}
 use Rattle.dmr_slot.specs.Clean.{IsCleanMessage, IsCleanInformation, IsCleanGate}
 use Rattle.dmr_slot.specs.declared.line.SlotOut.{SlotOut}
@@ -77,7 +77,7 @@ clean_block colour Half block b u =
     clean_data colour 7 u.0 b u.2 (omega arith) (inr (inr (u.1.content, u.1.sent, block_message u.1.content)))
 clean_block colour Full block b u = clean_data colour 10 u.0 b u.2 (omega arith) (inr (inl refl))
 
-clean_try : (colour llid : ℕ) (sending : TryBurst) (b : Burst) → IsTryBurst colour llid sending b → IsCleanGate colour (Some b)
+clean_try : (colour llid : ℕ) (sending : GateBurst) (b : Burst) → IsTryBurst colour llid sending b → IsCleanGate colour (Some b)
 clean_try colour llid (of_try.Preamble left route) b u =
     clean_word colour 3 u.0 b (omega arith) (control_message u.0 u.1.sealed) u.2
 clean_try colour llid (of_try.Header h) b u = clean_header colour h b u

@@ -96,12 +96,15 @@ impl Lines {
             × AreSentAs place sending result.0 × (result.1 ≡ repeated_count sending) }
         ensures bound { result.1 ≤ 2 }
     {
-        let outs = [self.first.push(&frame[0]), self.second.push(&frame[1])];
+        let outs = [
+            self.first.push(frame[0].as_ref()),
+            self.second.push(frame[1].as_ref()),
+        ];
         let gate = [
             next_burst(&mut self.gateway, 1, &outs[0]),
             next_burst(&mut self.gateway, 2, &outs[1]),
         ];
-        let bursts = self.channel.frame(&outs, &gate);
+        let bursts = self.channel.bursts(&outs, &gate);
         let message = self.announcer.next(&outs);
         let records = encode_frame(place, message, &outs, &bursts, fragments);
         let repeated = count_repeated(&outs, &bursts);

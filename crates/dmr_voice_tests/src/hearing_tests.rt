@@ -79,10 +79,10 @@ fn voice_lc_header(rt: HostRuntime) {
         information: information(&CALL_HEADER),
         link_control: Some(GROUP_CALL),
     });
-    let heard = hear(&Some(CALL_HEADER), 1);
+    let heard = hear(Some(&CALL_HEADER), 1);
     assert!(rt; heard.data_burst == data_burst);
     assert!(rt; !heard.voice);
-    let heard = hear(&Some(damaged(&CALL_HEADER)), 1);
+    let heard = hear(Some(&damaged(&CALL_HEADER)), 1);
     assert!(rt; heard.data_burst == data_burst);
     assert!(rt; !heard.voice);
 }
@@ -94,8 +94,8 @@ fn terminator_with_lc(rt: HostRuntime) {
         information: information(&CALL_TERMINATOR),
         link_control: Some(GROUP_CALL),
     });
-    assert!(rt; hear(&Some(CALL_TERMINATOR), 1).data_burst == data_burst);
-    assert!(rt; hear(&Some(damaged(&CALL_TERMINATOR)), 1).data_burst == data_burst);
+    assert!(rt; hear(Some(&CALL_TERMINATOR), 1).data_burst == data_burst);
+    assert!(rt; hear(Some(&damaged(&CALL_TERMINATOR)), 1).data_burst == data_burst);
 }
 
 #[test]
@@ -105,8 +105,8 @@ fn one_csbk(rt: HostRuntime) {
         information: information(&ONE_CSBK),
         link_control: None,
     });
-    assert!(rt; hear(&Some(ONE_CSBK), 1).data_burst == data_burst);
-    assert!(rt; hear(&Some(damaged(&ONE_CSBK)), 1).data_burst == data_burst);
+    assert!(rt; hear(Some(&ONE_CSBK), 1).data_burst == data_burst);
+    assert!(rt; hear(Some(&damaged(&ONE_CSBK)), 1).data_burst == data_burst);
 }
 
 #[test]
@@ -116,20 +116,20 @@ fn data_header_by_its_check(rt: HostRuntime) {
         information: information(&DATA_HEADER),
         link_control: None,
     });
-    assert!(rt; hear(&Some(DATA_HEADER), 1).data_burst == data_burst);
-    assert!(rt; hear(&Some(UNSEALED_DATA_HEADER), 1).data_burst == None);
+    assert!(rt; hear(Some(&DATA_HEADER), 1).data_burst == data_burst);
+    assert!(rt; hear(Some(&UNSEALED_DATA_HEADER), 1).data_burst == None);
 }
 
 #[test]
 fn bursts_that_are_no_data(rt: HostRuntime) {
     // Of another colour code, idle, and from a base station.
-    assert!(rt; hear(&Some(CALL_HEADER), 2).data_burst == None);
-    assert!(rt; hear(&Some(ONE_CSBK), 2).data_burst == None);
-    assert!(rt; hear(&Some(IDLE_BURST), 1).data_burst == None);
-    assert!(rt; hear(&Some(REPEATED_CSBK), 1).data_burst == None);
+    assert!(rt; hear(Some(&CALL_HEADER), 2).data_burst == None);
+    assert!(rt; hear(Some(&ONE_CSBK), 2).data_burst == None);
+    assert!(rt; hear(Some(&IDLE_BURST), 1).data_burst == None);
+    assert!(rt; hear(Some(&REPEATED_CSBK), 1).data_burst == None);
     // A fourth wrong bit in the sync, and one in the slot type.
-    assert!(rt; hear(&Some(turned(&ONE_CSBK, &[108, 109, 110, 111])), 1).data_burst == None);
-    assert!(rt; hear(&Some(turned(&ONE_CSBK, &[98, 99, 100, 101])), 1).data_burst == None);
+    assert!(rt; hear(Some(&turned(&ONE_CSBK, &[108, 109, 110, 111])), 1).data_burst == None);
+    assert!(rt; hear(Some(&turned(&ONE_CSBK, &[98, 99, 100, 101])), 1).data_burst == None);
 }
 
 #[test]
@@ -141,7 +141,7 @@ fn silence(rt: HostRuntime) {
         embedded: 0,
         vocoder: Bits::<216>::zero(),
     };
-    assert!(rt; hear(&None, 1) == nothing);
+    assert!(rt; hear(None, 1) == nothing);
     assert!(rt; dmr_hearing::silence() == nothing);
 }
 
@@ -158,15 +158,15 @@ fn printed_voice_burst(rt: HostRuntime) {
         embedded: 0,
         vocoder: Bits::<216>::zero(),
     };
-    assert!(rt; hear(&Some(PRINTED_VOICE_BURST), 1) == frame);
-    assert!(rt; hear(&Some(PRINTED_VOICE_BURST), 2) == frame);
-    assert!(rt; hear(&Some(turned(&PRINTED_VOICE_BURST, &[108, 155])), 1) == frame);
-    assert!(rt; hear(&Some(turned(&PRINTED_VOICE_BURST, &[108, 109, 155])), 1).emb == None);
+    assert!(rt; hear(Some(&PRINTED_VOICE_BURST), 1) == frame);
+    assert!(rt; hear(Some(&PRINTED_VOICE_BURST), 2) == frame);
+    assert!(rt; hear(Some(&turned(&PRINTED_VOICE_BURST, &[108, 155])), 1) == frame);
+    assert!(rt; hear(Some(&turned(&PRINTED_VOICE_BURST, &[108, 109, 155])), 1).emb == None);
 }
 
 #[test]
 fn parts_of_a_voice_burst(rt: HostRuntime) {
-    let heard = hear(&Some(PRINTED_VOICE_BURST), 1);
+    let heard = hear(Some(&PRINTED_VOICE_BURST), 1);
     assert!(rt; heard.is_own(1));
     assert!(rt; !heard.is_own(2));
     assert!(rt; heard.has_lcss(1, 1));
@@ -180,12 +180,12 @@ fn voice_sync(rt: HostRuntime) {
     let burst: [u8; 33] = Bits::<264>::zero()
         .with_field(108, 48, 0x7F7D_5DD5_7DFD)
         .octets();
-    let heard = hear(&Some(burst), 1);
+    let heard = hear(Some(&burst), 1);
     assert!(rt; heard.voice);
     assert!(rt; heard.data_burst == None);
     assert!(rt; heard.embedded == 0x7D5D_D57D);
-    assert!(rt; hear(&Some(turned(&burst, &[108, 120, 155])), 1).voice);
-    assert!(rt; !hear(&Some(turned(&burst, &[108, 120, 130, 155])), 1).voice);
+    assert!(rt; hear(Some(&turned(&burst, &[108, 120, 155])), 1).voice);
+    assert!(rt; !hear(Some(&turned(&burst, &[108, 120, 130, 155])), 1).voice);
 }
 
 #[test]

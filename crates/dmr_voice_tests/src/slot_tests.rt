@@ -29,7 +29,7 @@ fn data(colour: u8, kind: u8, message: &Bits<96>) -> Burst
     Burst::Data {
         colour,
         kind,
-        information: bptc_encode(message),
+        info: bptc_encode(message),
     }
 }
 
@@ -141,13 +141,11 @@ impl Repeater {
     /// What goes out in both slots of a frame, in letters, when these letters were sent in the frame before it, in the second
     /// slot by another colour code.
     fn frame(&mut self, first: u8, second: u8) -> (u8, u8) {
-        let first = self.first.push(&sent(first, 1));
-        let second = self.second.push(&sent(second, 2));
+        let first = self.first.push(sent(first, 1).as_ref());
+        let second = self.second.push(sent(second, 2).as_ref());
         let (slots, gate) = ([first, second], [None, None]);
         let frame = self.channel.frame(&slots, &gate);
-        let letters = (letter_of(frame[0]), letter_of(frame[1]));
-        self.channel.go_on(&slots, &gate);
-        letters
+        (letter_of(frame[0].as_ref()), letter_of(frame[1].as_ref()))
     }
 }
 
@@ -211,7 +209,7 @@ fn damaged_call(rt: HostRuntime) -> Result<(), Fail> {
             Some(burst) => Some(damaged(*letter, &burst)),
             None => None,
         };
-        let slot = line.push(&burst);
+        let slot = line.push(burst.as_ref());
         out.push(letter_of(slot.repeated.or(slot.hang).as_ref()))?;
     }
     assert_eq!(rt; out.as_slice(), b"......HABCDEFTTT....".as_slice());
@@ -268,7 +266,7 @@ fn hang_of_a_call(rt: HostRuntime) -> Result<(), Fail> {
     let mut line = SlotLine::new(rt.alloc(), 1, 3)?;
     let mut known = Vec::new(rt.alloc());
     for letter in b".HABCDEF............" {
-        known.push(line.push(&sent(*letter, 1)).lc == Some(CALL))?;
+        known.push(line.push(sent(*letter, 1).as_ref()).lc == Some(CALL))?;
     }
     // From the header in frame 6 to the last terminator in frame 15.
     for (frame, lc) in known.iter().enumerate() {

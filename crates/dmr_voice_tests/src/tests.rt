@@ -145,7 +145,7 @@ fn data_burst(kind: u8, message: &Bits<96>) -> Burst
     Burst::Data {
         colour: COLOUR,
         kind,
-        information: bptc_encode(message),
+        info: bptc_encode(message),
     }
 }
 
@@ -312,7 +312,7 @@ fn heard_at(slots: &[Sent], number: usize) -> Heard
         Some(sent) => recorded_as(*sent),
         None => None,
     };
-    hear(&recorded, COLOUR)
+    hear(recorded.as_ref(), COLOUR)
 }
 
 /// What is repeated for the first of these slots.
@@ -396,7 +396,7 @@ fn recorded_late_call(carried: &[u32; 4], number: usize) -> Recorded {
 fn heard_of_late_call(carried: &[u32; 4], number: usize) -> Heard
     ensures fit { IsFitHeard result }
 {
-    hear(&recorded_late_call(carried, number), COLOUR)
+    hear(recorded_late_call(carried, number).as_ref(), COLOUR)
 }
 
 /// The embedded field that goes out for one of its slots.

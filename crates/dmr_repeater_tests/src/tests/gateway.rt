@@ -8,7 +8,7 @@ use super::{
 };
 use dmr_bits::Bits;
 use dmr_bptc::{bptc_decode, bptc_encode};
-use dmr_burst::{Burst, Side, data_type, encode_burst, read_information};
+use dmr_burst::{Burst, Side, data_type, encode_burst, read_info};
 use dmr_checks::{Mask, seal};
 use dmr_data::{Block, Octets, Packet, Rate, block_info, split_packet};
 use dmr_repeater::Summary;
@@ -27,12 +27,12 @@ const CONFIRMED: [&[u8]; 3] = [&OUTGOING, &[2, 0, 0, 0, 5, 1, 1, 0, 28], &EMPTY_
 
 /// The burst of a data header that begins with these octets, as a mobile station of colour code 1 sends it.
 fn header_burst(octets: &[u8; 10]) -> [u8; 33] {
-    let information = bptc_encode(&Bits::<96>::from_octets(&seal(octets, Mask::Header)));
+    let info = bptc_encode(&Bits::<96>::from_octets(&seal(octets, Mask::Header)));
     encode_burst(
         &Burst::Data {
             colour: 1,
             kind: data_type::DATA_HEADER,
-            information,
+            info,
         },
         Side::Ms,
     )
@@ -71,7 +71,7 @@ fn block_burst(rt: &impl Abort, packet: &Packet, serial: u8) -> [u8; 33]
         &Burst::Data {
             colour: 1,
             kind: data_type::RATE_HALF_DATA,
-            information: block_info(&sent, Rate::Half),
+            info: block_info(&sent, Rate::Half),
         },
         Side::Ms,
     )
@@ -93,7 +93,7 @@ fn said_in(rt: &impl Abort, alloc: Global, ran: &Ran, frame: u16) -> [u8; 12] {
     let slots = slots_of(rt, alloc, &ran.downlink);
     let sent = slots.get(2 * usize::from(frame)).copied().flatten();
     let burst = sent.expect(rt, "the slot isn't silent");
-    let bits = bptc_decode(&read_information(&burst)).expect(rt, "the burst is read");
+    let bits = bptc_decode(&read_info(&burst)).expect(rt, "the burst is read");
     bits.octets()
 }
 

@@ -3,7 +3,7 @@
 use super::{new_station, next_frame};
 use dmr_bits::Bits;
 use dmr_bptc::{bptc_decode, bptc_encode};
-use dmr_burst::{Burst, Side, data_type, encode_burst, read_information};
+use dmr_burst::{Burst, Side, data_type, encode_burst, read_info};
 use dmr_checks::{Mask, seal};
 use dmr_record::{Octets, Outgoing, ReceivedKind};
 use dmr_station::{Counts, SILENCE, Station, UplinkFrame};
@@ -13,12 +13,12 @@ use std::process::Abort;
 /// A status of radio 3 for radio 1, of ports 1 and 2, and 5, as a mobile station of colour code 1 sends it.
 fn status_burst() -> [u8; 33] {
     let octets = [0x0E, 0xA0, 0, 0, 1, 0, 0, 3, 0x28, 5];
-    let information = bptc_encode(&Bits::<96>::from_octets(&seal(&octets, Mask::Header)));
+    let info = bptc_encode(&Bits::<96>::from_octets(&seal(&octets, Mask::Header)));
     encode_burst(
         &Burst::Data {
             colour: 1,
             kind: data_type::DATA_HEADER,
-            information,
+            info,
         },
         Side::Ms,
     )
@@ -80,7 +80,7 @@ fn datagrams_offered(rt: HostRuntime) {
         let [first, second] = next_frame(&rt, &mut station, &SILENCE);
         assert!(rt; first.is_some());
         let (_, burst) = second.expect(&rt, "slot 2 sends");
-        let message = bptc_decode(&read_information(&burst)).expect(&rt, "it is read");
+        let message = bptc_decode(&read_info(&burst)).expect(&rt, "it is read");
         let octets: [u8; 12] = message.octets();
         assert!(rt; octets.starts_with(*want));
     }

@@ -6,7 +6,7 @@ use super::{new_station, next_frame};
 use dmr_bits::Bits;
 use dmr_bptc::{bptc_decode, bptc_encode};
 use dmr_burst::{
-    Burst, Emb, Side, data_type, encode_burst, lcss, read_emb, read_embedded, read_information,
+    Burst, Emb, Side, data_type, encode_burst, lcss, read_emb, read_embedded, read_info,
     read_slot_type, read_sync,
 };
 use dmr_checks::{Mask, opens, seal};
@@ -59,7 +59,7 @@ impl Numbers {
     fn data(&mut self) -> [u8; 33] {
         let colour = if self.next() % 8 == 0 { 2 } else { 1 };
         let kind = (self.next() % 16) as u8;
-        let information = if self.next() % 2 == 1 {
+        let info = if self.next() % 2 == 1 {
             bptc_encode(&self.bits::<96>())
         } else {
             self.bits::<196>()
@@ -68,7 +68,7 @@ impl Numbers {
             &Burst::Data {
                 colour,
                 kind,
-                information,
+                info,
             },
             Side::Ms,
         )
@@ -104,7 +104,7 @@ impl Numbers {
             &Burst::Data {
                 colour: 1,
                 kind: data_type::DATA_HEADER,
-                information: bptc_encode(&Bits::<96>::from_octets(&seal(&octets, Mask::Header))),
+                info: bptc_encode(&Bits::<96>::from_octets(&seal(&octets, Mask::Header))),
             },
             Side::Ms,
         )
@@ -211,7 +211,7 @@ fn is_clean(superframe: &mut Superframe, slot: &Sent) -> bool {
             match read_slot_type(burst) {
                 Some(slot_type) => {
                     slot_type.colour == 1
-                        && is_clean_information(slot_type.kind, &read_information(burst))
+                        && is_clean_information(slot_type.kind, &read_info(burst))
                 }
                 None => false,
             }

@@ -27,16 +27,16 @@ returns-then-slot_type-colour-clause-undone c = λ kind information lc has sends
 pub returns-clause-only : goal.returns-clause-only
 returns-clause-only c = λ kind information lc has.
     let bits = bits_of_octets c.args.burst.now in
-    (reading_of c.in-Some.slot_type c.args.colour kind bits c.read_information.result (information_field bits)
+    (reading_of c.in-Some.slot_type c.args.colour kind bits c.read_info.result (information_field bits)
     c.read_data_burst.result c.in-Some.ensures.only has
-    c.read_information.ensures.value c.read_data_burst.ensures.reading).only information lc
+    c.read_info.ensures.value c.read_data_burst.ensures.reading).only information lc
 
 pub returns-clause-undone : goal.returns-clause-undone
 returns-clause-undone c = λ kind information lc has.
     let bits = bits_of_octets c.args.burst.now in
-    (reading_of c.in-Some.slot_type c.args.colour kind bits c.read_information.result (information_field bits)
+    (reading_of c.in-Some.slot_type c.args.colour kind bits c.read_info.result (information_field bits)
     c.read_data_burst.result c.in-Some.ensures.only has
-    c.read_information.ensures.value c.read_data_burst.ensures.reading).undone information lc
+    c.read_info.ensures.value c.read_data_burst.ensures.reading).undone information lc
 
 pub returns-clause-foreign : goal.returns-clause-foreign
 returns-clause-foreign c = λ other kind foreign has.

@@ -1,9 +1,9 @@
 use Rattle.std.proofs.Common.{sym, subst}
 use Rattle.dmr_arq.specs.Fit.{IsFitSender}
 use Rattle.dmr_arq.proofs.Leaving.{offered_fit}
-use Rattle.dmr_arq.proofs.sender.Sender.offer.Goals as goal
+use Rattle.dmr_arq.proofs.sender.Sender.take.Goals as goal
 
 pub invariant_of-self : goal.invariant_of-self
 invariant_of-self c =
-    subst IsFitSender (sym c.offer.ensures.state)
+    subst IsFitSender (sym c.take.ensures.state)
     (offered_fit c.args.packet.now c.args.route c.self.inside.state c.requires.packet c.requires.route c.self.invariant)
