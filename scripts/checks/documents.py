@@ -1,4 +1,5 @@
-"""The documents are true of the sources: links lead somewhere, definitions stand in their files, words in their crates."""
+"""The documents are true of the sources: links lead somewhere, definitions stand in their files, words in their crates, and the
+public calls in their table."""
 
 import re
 
@@ -27,6 +28,21 @@ DEFINED = re.compile(r"^(?:abbrev pub|unfoldable pub|pub record|pub data) (\w+)"
 TYPE = re.compile(r"^(?:pub(?:\([a-z]+\))? )?(?:struct|enum|record|data) (\w+)", re.MULTILINE)
 # What the tables of a product word and of an embedded link control both have.
 CELLS = {"cell", "place", "row", "column"}
+# What a file passes on of other files or crates, the modules that it shows, and what it shows itself.
+PASSED_ON = re.compile(r"^pub use (?:\w+::)+(?:(\w+(?: as \w+)?)|\{([^}]*)\});", re.MULTILINE)
+USED_NAME = re.compile(r"(?:\w+ as )?(\w+)")
+MODULE = re.compile(r"^pub mod (\w+);", re.MULTILINE)
+SHOWN = re.compile(r"^pub (?:const )?(?:fn|struct|enum|trait|const|type) (\w+)", re.MULTILINE)
+MACRO = re.compile(r"^#\[macro_export\]\nmacro_rules! (\w+)", re.MULTILINE)
+# The calls and constants of a type, and those of a trait.
+BLOCK = re.compile(r"^(impl|pub trait)(?:<[^>]*>)? (\w+)[^\n{]* \{\n(.*?)^\}", re.MULTILINE | re.DOTALL)
+OF_BLOCK = {
+    "impl": re.compile(r"^    pub (?:const )?(?:fn|const) (\w+)", re.MULTILINE),
+    "pub trait": re.compile(r"^    (?:fn|const) (\w+)", re.MULTILINE),
+}
+# In the table of public calls a name, and behind a type, a trait or a module what it has.
+TOLD_CALL = re.compile(r"`(\w+!?)`(?: \(((?:`\w+`(?:, )?)+)\))?")
+PUBLIC_CALLS = "| Crate | Functions | Types and traits, with their calls | Constants |"
 
 
 def sources_of(crate):
@@ -194,6 +210,47 @@ def check_crates(report):
         report.expect(f"{name} names no crate that isn't there", told <= there, told - there)
 
 
+def of_each(name, of_name):
+    """A name, and what it has."""
+    return {name} | {f"{name}::{it}" for it in of_name}
+
+
+def public_calls_of(crate):
+    """What a user of a crate can name: what its `lib.rt` shows, with the calls of types and traits, its modules and macros."""
+    library = (crate / "src/lib.rt").read_text()
+    names = {it for one, several in PASSED_ON.findall(library) for it in USED_NAME.findall(one or several)}
+    names |= set(SHOWN.findall(library))
+    calls = set(names)
+    for text in (it.read_text() for it in sources_of(crate)):
+        calls |= {f"{name}!" for name in MACRO.findall(text)}
+        for kind, name, block in BLOCK.findall(text):
+            if name in names:
+                calls |= of_each(name, OF_BLOCK[kind].findall(block))
+    # Laws are stated, and not called.
+    for module in set(MODULE.findall(library)) - {"laws"}:
+        calls |= of_each(module, SHOWN.findall((crate / f"src/{module}.rt").read_text()))
+    return calls
+
+
+def calls_told(cells):
+    """The names in cells of the table of public calls."""
+    return {it for cell in cells for name, of_name in TOLD_CALL.findall(cell) for it in of_each(name, NAME.findall(of_name))}
+
+
+def check_public_calls(report):
+    """The table of public calls has a row for each library, lowest first, with what it shows and nothing else."""
+    rows = tables_of((report.top / "docs/architecture.md").read_text(), PUBLIC_CALLS)
+    told = {crate: calls_told(cells) for crate, *cells in rows}
+    there = {it.name: it for it in libraries_of(report) if (it / "src/lib.rt").exists()}
+    listed = re.findall(r"^(\w+):", (report.top / "crates.txt").read_text(), re.MULTILINE)
+    in_order = [it for it in listed if it in there]
+    report.expect("the table of public calls has each library, lowest first", [it[0] for it in rows] == in_order, list(told))
+    for crate in in_order:
+        calls, in_row = public_calls_of(there[crate]), told.get(crate, set())
+        missing, unknown = sorted(calls - in_row), sorted(in_row - calls)
+        report.expect(f"the table has the public calls of {crate}", in_row == calls, f"missing {missing}, unknown {unknown}")
+
+
 def is_prose(line):
     """A line of a document that is neither a row of a table, a command nor what a link means: those can't be broken."""
     return not line.startswith(("|", "    ", "["))
@@ -220,4 +277,5 @@ def check(report):
     check_names(report)
     check_types(report)
     check_crates(report)
+    check_public_calls(report)
     check_width(report)
