@@ -1,5 +1,6 @@
 //! What a receiver of packets keeps: the open try, the packet in progress, and the sources that it heard last.
-use crate::{Cells, Table};
+use crate::cells::Cells;
+use crate::table::Table;
 use dmr_data::{BLOCK_LIMIT, Block, Confirmed, Header, Octets};
 use std::marker::Model;
 

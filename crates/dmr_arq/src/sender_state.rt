@@ -1,6 +1,7 @@
 //! What a sender of packets keeps: the packet in hand with how far its try is, what became of the last one, and the numbers of
 //! its destinations.
-use crate::{Selection, Serials, Table};
+use crate::serials::{Selection, Serials};
+use crate::table::Table;
 use dmr_data::{Blocks, Packet, Rate};
 use std::marker::Model;
 

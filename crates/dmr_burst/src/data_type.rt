@@ -1,6 +1,7 @@
 //! The data types of data bursts, each below 16. Those from 12 on are reserved: they have no names, and keep their
 //! four bits wherever a slot type is read and sent. ETSI TS 102 361-1, clause 9.3.6.
 
+/// The privacy indicator header. The PI of an EMB is another one, the pre-emption and power control indicator.
 pub const PI_HEADER: u8 = 0;
 
 pub const VOICE_LC_HEADER: u8 = 1;

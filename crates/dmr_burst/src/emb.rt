@@ -9,12 +9,14 @@ use crate::layout::two_pieces;
 use dmr_bits::{Bits, Writer};
 use dmr_codes::{BlockCode, Residue16};
 
-/// The embedded signalling of a voice burst: the colour code, below 16, the pre-emption and power control
-/// indicator, and the link control start and stop, below 4. ETSI TS 102 361-1, clause 9.1.2.
+/// The embedded signalling of a voice burst. ETSI TS 102 361-1, clause 9.1.2.
 #[derive(Clone, Copy, Debug, PartialEq, Eq, Drop)]
 pub struct Emb {
+    /// The colour code, below 16.
     pub colour: u8,
+    /// The pre-emption and power control indicator (PI). A PI header has another one, the privacy indicator.
     pub pi: bool,
+    /// The link control start and stop, below 4.
     pub lcss: u8,
 }
 
