@@ -54,7 +54,8 @@ class Failing:
             outputs = self.room.outputs()
             if ran.status == 0:
                 is_whole = (ran.out, ran.err, outputs) == (self.wanted[0], b"", self.wanted[1])
-                self.report.expect(f"{call} {at}: a whole run, with that failure or past the last", is_whole, ran)
+                # Room that was refused may be found elsewhere; a call on a file that failed is never made good.
+                self.report.expect(f"{call} {at}: a whole run", is_whole and (not reached or call == "memory"), ran)
             else:
                 failed.append((ran, outputs))
                 fronts = all(has is None or whole.startswith(has) for has, whole in zip(outputs, self.wanted[1]))
