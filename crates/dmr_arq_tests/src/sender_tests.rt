@@ -5,7 +5,7 @@ ghost use Rattle.dmr_arq.specs.Fit.{IsOfferedPacket};
 use crate::tests::{
     ACK, ROUTE, expect_burst, expect_outcome, expect_preambles, one_block, sender_of,
 };
-use dmr_arq::{Answer, Busy, Outcome, Route, Sender, GateBurst, Verdict};
+use dmr_arq::{Answer, Busy, GateBurst, Outcome, Route, Sender, Verdict};
 use dmr_data::{Block, Confirmed, Header, Octets, Packet, Rate, Unconfirmed, split_packet};
 use dmr_test_values::DATAGRAM_BLOCK;
 use std::process::Abort;

@@ -2,7 +2,7 @@
 ghost use Rattle.std.specs.Prelude.{Some, IsTrue, option_copied};
 ghost use Rattle.dmr_arq.specs.Fit.{FitsPlace, IsOfferedPacket};
 
-use dmr_arq::{Answer, Outcome, Receiver, ReceiverOut, Route, Sender, GateBurst, Verdict};
+use dmr_arq::{Answer, GateBurst, Outcome, Receiver, ReceiverOut, Route, Sender, Verdict};
 use dmr_data::{Block, Confirmed, Header, Packet, Rate, split_packet};
 use std::process::Abort;
 

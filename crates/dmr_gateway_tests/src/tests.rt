@@ -1,4 +1,4 @@
-//! Settings at the ends of their ranges, and past them, and what the faults are printed as.
+//! Settings at the ends of their ranges, and past them, and the texts and the numbers of the faults.
 use dmr_gateway::{Config, ConfigFault, GatewayFault};
 use std::alloc::Global;
 use std::fmt::Display;
@@ -63,4 +63,25 @@ fn are_texts<T: Display>(alloc: Global, rows: &[(T, &str)]) -> bool {
 fn texts(rt: HostRuntime) {
     assert!(rt; are_texts(rt.alloc(), &CONFIG));
     assert!(rt; are_texts(rt.alloc(), &GATEWAY));
+}
+
+#[test]
+fn numbers(rt: HostRuntime) {
+    assert!(rt;
+        [
+            ConfigFault::Colour as u8,
+            ConfigFault::Llid as u8,
+            ConfigFault::Hang as u8,
+            ConfigFault::Queue as u8
+        ] == [1, 2, 3, 4]
+    );
+    assert!(rt;
+        [
+            GatewayFault::NoRoute as u8,
+            GatewayFault::GroupConfirmed as u8,
+            GatewayFault::TooLong as u8,
+            GatewayFault::QueueFull as u8,
+            GatewayFault::Memory as u8
+        ] == [1, 2, 3, 4, 5]
+    );
 }

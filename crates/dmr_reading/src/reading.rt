@@ -6,9 +6,7 @@ ghost use Rattle.dmr_reading.specs.Reading.{IsInformation, IsReadAs, named_colou
 
 use dmr_bits::Bits;
 use dmr_bptc::bptc_decode;
-use dmr_burst::{
-    Emb, Side, SlotType, data_type, read_emb, read_info, read_slot_type, read_sync,
-};
+use dmr_burst::{Emb, Side, SlotType, data_type, read_emb, read_info, read_slot_type, read_sync};
 use std::fmt;
 
 /// What the 196 bits of information of a data burst are.

@@ -90,3 +90,18 @@ fn service_options(rt: HostRuntime) {
     assert!(rt; !options.contains(ServiceOptions::BROADCAST | ServiceOptions::OVCM));
     assert_eq!(rt; options.priority(), 2);
 }
+
+#[test]
+fn each_service_option(rt: HostRuntime) {
+    let options = [
+        ServiceOptions::EMERGENCY,
+        ServiceOptions::PRIVACY,
+        ServiceOptions::BROADCAST,
+        ServiceOptions::OVCM,
+    ];
+    for (place, octet) in [0x80, 0x40, 0x08, 0x04].iter().enumerate() {
+        for (other, option) in options.iter().enumerate() {
+            assert!(rt; ServiceOptions(*octet).contains(*option) == (place == other));
+        }
+    }
+}

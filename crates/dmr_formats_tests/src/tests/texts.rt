@@ -1,9 +1,10 @@
-//! The texts of the faults. Those of files are tested where they are printed.
+//! The texts and the numbers of the faults. The texts of files are tested where they are printed.
 use dmr_csbk::CsbkFault;
 use dmr_data::{BlockFault, HeaderFault, JoinFault};
 use dmr_embedded::EmbedFault;
 use dmr_ip::{ExpandFault, IpFault};
 use dmr_link::LcFault;
+use dmr_record::RecordFault;
 use std::alloc::Global;
 use std::fmt::Display;
 
@@ -82,4 +83,72 @@ fn texts(rt: HostRuntime) {
     assert!(rt; are_texts(alloc, &JOIN));
     assert!(rt; are_texts(alloc, &DATAGRAM));
     assert!(rt; are_texts(alloc, &EXPAND));
+}
+
+#[test]
+fn numbers(rt: HostRuntime) {
+    assert!(rt; [CsbkFault::Bptc as u8, CsbkFault::Crc as u8] == [1, 2]);
+    assert!(rt;
+        [
+            EmbedFault::Row as u8,
+            EmbedFault::Columns as u8,
+            EmbedFault::Checksum as u8
+        ] == [1, 2, 3]
+    );
+    assert!(rt; [LcFault::Bptc as u8, LcFault::Parity as u8] == [1, 2]);
+    assert!(rt;
+        [
+            HeaderFault::Bptc as u8,
+            HeaderFault::Crc as u8,
+            HeaderFault::Format as u8
+        ] == [1, 2, 3]
+    );
+    assert!(rt;
+        [
+            BlockFault::Bptc as u8,
+            BlockFault::Crc9 as u8,
+            BlockFault::Serial as u8
+        ] == [1, 2, 3]
+    );
+    assert!(rt;
+        [
+            JoinFault::Short as u8,
+            JoinFault::Pad as u8,
+            JoinFault::Crc32 as u8
+        ] == [1, 2, 3]
+    );
+    assert!(rt;
+        [
+            IpFault::Length as u8,
+            IpFault::Version as u8,
+            IpFault::Options as u8,
+            IpFault::HeaderSum as u8,
+            IpFault::Protocol as u8,
+            IpFault::UdpLength as u8,
+            IpFault::UdpSum as u8,
+            IpFault::Fragment as u8
+        ] == [1, 2, 3, 4, 5, 6, 7, 8]
+    );
+    assert!(rt;
+        [
+            ExpandFault::Short as u8,
+            ExpandFault::Opcode as u8,
+            ExpandFault::Address as u8,
+            ExpandFault::Port as u8,
+            ExpandFault::Long as u8
+        ] == [1, 2, 3, 4, 5]
+    );
+    assert!(rt;
+        [
+            RecordFault::Magic as u8,
+            RecordFault::Version as u8,
+            RecordFault::CutRecord as u8,
+            RecordFault::BadTag as u8,
+            RecordFault::HalfFrame as u8,
+            RecordFault::FrameOrder as u8,
+            RecordFault::TooLong as u8,
+            RecordFault::Read as u8,
+            RecordFault::Write as u8
+        ] == [1, 2, 3, 4, 5, 6, 7, 8, 9]
+    );
 }

@@ -64,14 +64,7 @@ impl Numbers {
         } else {
             self.bits::<196>()
         };
-        encode_burst(
-            &Burst::Data {
-                colour,
-                kind,
-                info,
-            },
-            Side::Ms,
-        )
+        encode_burst(&Burst::Data { colour, kind, info }, Side::Ms)
     }
 
     /// Any bits, or a voice burst with any EMB, mostly of colour code 1.
@@ -210,8 +203,7 @@ fn is_clean(superframe: &mut Superframe, slot: &Sent) -> bool {
             superframe.place = 0;
             match read_slot_type(burst) {
                 Some(slot_type) => {
-                    slot_type.colour == 1
-                        && is_clean_information(slot_type.kind, &read_info(burst))
+                    slot_type.colour == 1 && is_clean_information(slot_type.kind, &read_info(burst))
                 }
                 None => false,
             }

@@ -1,4 +1,5 @@
 use Rattle.std.proofs.Common.{◌≡◌, ◌∙◌, ap, refl, subst, sym, All}
+use Rattle.std.specs.Prelude.{option_copied}
 use Rattle.dmr_hearing.specs.Fit.{IsFitHeard}
 use Rattle.dmr_voice.specs.Tracking.{Tracking}
 use Rattle.dmr_slot.proofs.Pushing.{fit_after, push_is, sound_after}
