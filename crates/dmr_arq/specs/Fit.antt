@@ -1,5 +1,5 @@
 -- What fits its fields: all that goes out, and all that is kept for it.
-use Rattle.std.specs.Prelude.{ℕ, ◌^◌, ◌<◌, ◌≤◌, List, length, Option, Some, None, IfSome}
+use Rattle.std.specs.Prelude.{ℕ, ◌^◌, ◌<◌, ◌≤◌, List, length, Option, IfSome}
 use Rattle.dmr_data.specs.Block.{FitsBlock, IsCounted}
 use Rattle.dmr_data.specs.Header.{IsFitHeader}
 use Rattle.dmr_data.specs.Packet.{IsWrittenPacket}
@@ -46,9 +46,7 @@ IsFitGateBurst (burst.Block block rate) = FitsBlock rate block.serial block.octe
 
 -- A block fits a place of a try: it has a serial exactly where the try is of a confirmed packet, below the number of its blocks.
 abbrev pub FitsPlace : Option (Option ℕ) → Option Block → Type 0
-FitsPlace None block = Unit {0}
-FitsPlace (Some total) None = Unit {0}
-FitsPlace (Some total) (Some block) = IsCounted total block.serial
+FitsPlace try block = IfSome try (λ total. IfSome block (λ b. IsCounted total b.serial))
 
 -- A packet is the one that is sent for some body.
 abbrev pub IsOfferedPacket : Packet → Type 0
