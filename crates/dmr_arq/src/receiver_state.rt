@@ -5,7 +5,7 @@ use dmr_data::{BLOCK_LIMIT, Block, Confirmed, Header, Octets};
 use std::marker::Model;
 
 /// What an open try is of.
-#[derive(Clone, Copy, Debug, PartialEq, Eq)]
+#[derive(Clone, Copy)]
 pub enum Kind {
     /// A packet without confirmation, of which it is the one try.
     Single,
@@ -16,7 +16,7 @@ pub enum Kind {
 }
 
 /// An open try.
-#[derive(Clone, Copy, Debug, PartialEq, Eq)]
+#[derive(Clone, Copy)]
 pub struct Attempt {
     /// How many of its places are to come.
     pub left: u8,

@@ -17,7 +17,7 @@ pub struct Route {
 }
 
 /// How far a try is.
-#[derive(Clone, Copy, Debug, PartialEq, Eq)]
+#[derive(Clone, Copy)]
 pub enum Phase {
     /// None of its bursts is out.
     Due,

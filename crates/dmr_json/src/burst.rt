@@ -33,7 +33,7 @@ fn side_value(reading: Reading) -> &'static str {
 }
 
 /// The key of the link control that voice E completes, null where it can't be read.
-#[derive(Clone, Copy, Drop)]
+#[derive(Drop)]
 struct CompletedKey(Option<VoicePlace>, Option<FullLc>);
 
 impl fmt::Display for CompletedKey {
@@ -47,7 +47,7 @@ impl fmt::Display for CompletedKey {
 }
 
 /// The keys that some bursts alone have.
-#[derive(Clone, Copy, Drop)]
+#[derive(Drop)]
 struct DetailKeys<'a>(&'a BurstLine);
 
 impl DetailKeys<'_> {
@@ -73,7 +73,7 @@ impl fmt::Display for DetailKeys<'_> {
 }
 
 /// Side and colour code.
-#[derive(Clone, Copy, Drop)]
+#[derive(Drop)]
 struct SideKeys(Reading);
 
 impl fmt::Display for SideKeys {
@@ -85,7 +85,7 @@ impl fmt::Display for SideKeys {
 }
 
 /// What the burst is called.
-#[derive(Clone, Copy, Drop)]
+#[derive(Drop)]
 struct NameKey<'a>(&'a BurstLine);
 
 impl fmt::Display for NameKey<'_> {
@@ -96,7 +96,7 @@ impl fmt::Display for NameKey<'_> {
 }
 
 /// How many bits are wrong.
-#[derive(Clone, Copy, Drop)]
+#[derive(Drop)]
 struct WrongKey<'a>(&'a BurstLine);
 
 impl fmt::Display for WrongKey<'_> {

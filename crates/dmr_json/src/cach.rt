@@ -3,11 +3,11 @@ use dmr_listing::{Tact, read_tact};
 use std::fmt;
 
 /// What a CACH says; on the uplink there is none.
-#[derive(Clone, Copy, Drop)]
+#[derive(Drop)]
 pub(crate) struct CachKey(pub(crate) Option<[u8; 3]>);
 
 /// AT, TC and LCSS.
-#[derive(Clone, Copy, Drop)]
+#[derive(Drop)]
 struct TactObject(Tact);
 
 impl fmt::Display for TactObject {

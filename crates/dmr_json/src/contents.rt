@@ -9,7 +9,7 @@ use std::fmt;
 /// The key for what the information holds: its own for each that is read, `octets` for twelve octets with no meaning here,
 /// `unsealed` for such as no check seals, and null octets where none can be read. Idle information has none, nor has what is in no
 /// code here.
-#[derive(Clone, Copy, Drop)]
+#[derive(Drop)]
 pub(crate) struct ContentsKey(pub(crate) Contents);
 
 impl fmt::Display for ContentsKey {

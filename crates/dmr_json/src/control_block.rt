@@ -4,11 +4,11 @@ use dmr_csbk::{BsDownAct, Csbk, Preamble};
 use std::fmt;
 
 /// A control signalling block: opcode, feature set and its eight octets, and what these mean of the blocks that a listing names.
-#[derive(Clone, Copy, Drop)]
+#[derive(Drop)]
 pub(crate) struct ControlBlock(pub(crate) Csbk);
 
 /// What a preamble means.
-#[derive(Clone, Copy, Drop)]
+#[derive(Drop)]
 struct PreambleObject(Preamble);
 
 impl fmt::Display for PreambleObject {
@@ -27,7 +27,7 @@ impl fmt::Display for PreambleObject {
 }
 
 /// What the request for a base station means.
-#[derive(Clone, Copy, Drop)]
+#[derive(Drop)]
 struct ActivationObject(BsDownAct);
 
 impl fmt::Display for ActivationObject {
@@ -38,7 +38,7 @@ impl fmt::Display for ActivationObject {
 }
 
 /// The key for what a block means, where it has a meaning here.
-#[derive(Clone, Copy, Drop)]
+#[derive(Drop)]
 struct MeaningKey(Csbk);
 
 impl fmt::Display for MeaningKey {

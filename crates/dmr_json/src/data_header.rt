@@ -3,11 +3,11 @@ use dmr_data::{Confirmed, Header, Response, ShortData, Status, Unconfirmed};
 use std::fmt;
 
 /// A data header: the number of its format, who sends to whom, and what its format has.
-#[derive(Clone, Copy, Drop)]
+#[derive(Drop)]
 pub(crate) struct DataHeader(pub(crate) Header);
 
 /// Whether the destination is a group, and the addresses.
-#[derive(Clone, Copy, Drop)]
+#[derive(Drop)]
 struct WayKeys {
     to_group: bool,
     destination: u32,

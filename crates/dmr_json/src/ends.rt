@@ -2,7 +2,7 @@
 use std::fmt;
 
 /// The last object of a recording.
-#[derive(Clone, Copy, Drop)]
+#[derive(Drop)]
 pub struct RecordingEnd {
     /// How many frames it has. Each has two records, silent ones among them.
     pub frames: u32,
@@ -17,7 +17,7 @@ impl fmt::Display for RecordingEnd {
 }
 
 /// The last object of a list.
-#[derive(Clone, Copy, Drop)]
+#[derive(Drop)]
 pub struct ListEnd {
     /// How many records it has.
     pub records: u32,

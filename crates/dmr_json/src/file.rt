@@ -3,7 +3,7 @@ use dmr_record::FileFormat;
 use std::fmt;
 
 /// The object of a file: which of the four it is.
-#[derive(Clone, Copy, Drop)]
+#[derive(Drop)]
 pub struct FileObject {
     /// Which it is.
     pub format: FileFormat,

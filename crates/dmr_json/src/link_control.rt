@@ -4,11 +4,11 @@ use dmr_link::{FullLc, VoiceLc};
 use std::fmt;
 
 /// A link control: opcode and feature set, and of a call its options and addresses, of any other its seven octets.
-#[derive(Clone, Copy, Drop)]
+#[derive(Drop)]
 pub(crate) struct LinkControl(pub(crate) FullLc);
 
 /// The keys of a call.
-#[derive(Clone, Copy, Drop)]
+#[derive(Drop)]
 struct CallKeys(VoiceLc);
 
 impl fmt::Display for CallKeys {

@@ -3,7 +3,7 @@ use dmr_listing::Place;
 use std::fmt;
 
 /// Frame, slot and milliseconds, the first keys of an object.
-#[derive(Clone, Copy, Drop)]
+#[derive(Drop)]
 pub(crate) struct PlaceKeys<'a>(pub(crate) &'a Place);
 
 impl fmt::Display for PlaceKeys<'_> {

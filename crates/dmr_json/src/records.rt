@@ -13,7 +13,7 @@ pub struct OutgoingObject<'a> {
 }
 
 /// The object of a record of a received list.
-#[derive(Clone, Copy, Drop)]
+#[derive(Drop)]
 pub struct ReceivedObject<'a> {
     /// The record.
     pub record: Received,

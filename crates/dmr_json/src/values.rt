@@ -3,7 +3,7 @@ use dmr_listing::Digits;
 use std::fmt;
 
 /// Octets, printed as a string of hexadecimal digits.
-#[derive(Clone, Copy, Drop)]
+#[derive(Drop)]
 pub(crate) struct Hex<'a>(pub(crate) &'a [u8]);
 
 impl fmt::Display for Hex<'_> {
@@ -14,7 +14,7 @@ impl fmt::Display for Hex<'_> {
 }
 
 /// A number that may not be known.
-#[derive(Clone, Copy, Drop)]
+#[derive(Drop)]
 pub(crate) struct Known(pub(crate) Option<u8>);
 
 impl fmt::Display for Known {

@@ -4,14 +4,14 @@ use dmr_reading::{Information, Reading};
 use std::fmt;
 
 /// How many bits are wrong of each part that was read; null stands for information that wasn't, and for a burst that wasn't.
-#[derive(Clone, Copy, Drop)]
+#[derive(Drop)]
 pub(crate) struct WrongObject<'a> {
     pub(crate) reading: Reading,
     pub(crate) wrong: &'a Wrong,
 }
 
 /// How many bits of the information are wrong.
-#[derive(Clone, Copy, Drop)]
+#[derive(Drop)]
 struct WrongInformation(Information, usize);
 
 impl fmt::Display for WrongInformation {

@@ -99,7 +99,7 @@ fn side_letters(reading: Reading) -> &'static str {
 }
 
 /// The details of a line.
-#[derive(Clone, Copy, Drop)]
+#[derive(Drop)]
 struct Details<'a>(&'a BurstLine);
 
 impl Details<'_> {
@@ -132,7 +132,7 @@ impl fmt::Display for Details<'_> {
 }
 
 /// Side, and what the CACH announces, in two columns and one.
-#[derive(Clone, Copy, Drop)]
+#[derive(Drop)]
 struct SideAndAccessType(Reading, Option<AccessType>);
 
 impl fmt::Display for SideAndAccessType {
@@ -146,7 +146,7 @@ impl fmt::Display for SideAndAccessType {
 }
 
 /// A colour code in two columns, or a hyphen for none.
-#[derive(Clone, Copy, Drop)]
+#[derive(Drop)]
 struct Colour(Option<u8>);
 
 impl fmt::Display for Colour {

@@ -5,7 +5,7 @@ use dmr_csbk::{BsDownAct, Csbk, Preamble};
 use std::fmt;
 
 /// A control signalling block, printed by its meaning, or as its opcode, its feature set and its octets.
-#[derive(Clone, Copy, Drop)]
+#[derive(Drop)]
 pub(crate) struct ControlBlock(pub(crate) Csbk);
 
 /// What follows a preamble: the blocks of a packet, or control signalling blocks.

@@ -2,7 +2,7 @@
 use std::fmt;
 
 /// A number and what it counts, in the singular for one.
-#[derive(Clone, Copy, Drop)]
+#[derive(Drop)]
 pub(crate) struct Counted(pub(crate) usize, pub(crate) &'static str);
 
 /// The ending of a name behind a number.

@@ -5,7 +5,7 @@ use dmr_data::{Confirmed, Header, Response, ShortData, Status, Unconfirmed};
 use std::fmt;
 
 /// A data header, printed as who sends what to whom.
-#[derive(Clone, Copy, Drop)]
+#[derive(Drop)]
 pub(crate) struct DataHeader(pub(crate) Header);
 
 /// How many blocks follow.

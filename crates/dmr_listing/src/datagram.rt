@@ -6,7 +6,7 @@ use dmr_ip::Datagram;
 use std::fmt;
 
 /// Octets, printed as the two ends of the datagram that they are, or as digits where they are none by the rules of the gateway.
-#[derive(Clone, Copy, Drop)]
+#[derive(Drop)]
 pub(crate) struct DatagramText<'a>(pub(crate) &'a [u8]);
 
 /// An end of a datagram: an address of IPv4 and a port.

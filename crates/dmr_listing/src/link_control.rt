@@ -4,7 +4,7 @@ use dmr_link::{CallKind, FullLc, ServiceOptions, VoiceLc};
 use std::fmt;
 
 /// A link control, printed as who calls whom, or as its name and its octets.
-#[derive(Clone, Copy, Drop)]
+#[derive(Drop)]
 pub(crate) struct LinkControl(pub(crate) FullLc);
 
 /// The options of a call that have names, in the order in which they are told. ETSI TS 102 361-2, clause 7.2.1.

@@ -42,7 +42,7 @@ impl Place {
 }
 
 /// Milliseconds, printed as seconds to the hundredth.
-#[derive(Clone, Copy, Drop)]
+#[derive(Drop)]
 pub(crate) struct Seconds(pub(crate) u64);
 
 impl fmt::Display for Seconds {

@@ -54,7 +54,7 @@ impl fmt::Display for OutgoingLine<'_> {
 }
 
 /// The octets of a status, printed as its ports and its number. Octets of any other length are printed in digits.
-#[derive(Clone, Copy, Drop)]
+#[derive(Drop)]
 struct StatusText<'a>(&'a [u8]);
 
 impl fmt::Display for StatusText<'_> {

@@ -77,7 +77,7 @@ fn list_behind<S: Source, K: Sink>(
 }
 
 /// How a file that has no fault was shown.
-#[derive(Clone, Copy, Debug, Drop, PartialEq, Eq)]
+#[derive(Clone, Copy, Drop)]
 pub(crate) enum Shown {
     /// To its end.
     Whole,

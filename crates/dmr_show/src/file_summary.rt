@@ -3,7 +3,7 @@ use dmr_listing::RecordingSummary;
 use std::fmt;
 
 /// What a listing ends with.
-#[derive(Clone, Copy, Debug, Drop, PartialEq, Eq)]
+#[derive(Clone, Copy, Drop)]
 pub(crate) enum FileSummary {
     /// The frames and bursts of a recording.
     OfRecording(RecordingSummary),

@@ -14,7 +14,7 @@ pub enum Form {
 }
 
 /// What a line is written in.
-#[derive(Clone, Copy, Debug, Drop, PartialEq, Eq)]
+#[derive(Clone, Copy, Drop)]
 pub(crate) enum Notation {
     /// Columns for people.
     Text,

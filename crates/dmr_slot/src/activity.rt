@@ -30,7 +30,7 @@ const NOTHING: Activity = Activity {
 };
 
 /// What is said of a slot.
-#[derive(Clone, Copy, Debug, PartialEq, Eq)]
+#[derive(Clone, Copy)]
 struct Activity {
     /// Of what kind its call is, in four bits.
     code: u8,

@@ -5,7 +5,7 @@ ghost use Rattle.dmr_station.specs.Announced.{IsAnnounced, IsFitMessage, IsMessa
 use dmr_slot::{Channel, SlotOut};
 
 /// A Short LC, which four records carry in turn.
-#[derive(Clone, Copy, Debug, PartialEq, Eq)]
+#[derive(Clone, Copy, PartialEq, Eq)]
 pub struct Message {
     /// SLCO, the opcode, in four bits.
     pub slco: u8,
@@ -14,7 +14,7 @@ pub struct Message {
 }
 
 /// The message that is announced. Two frames have the four records of one message, and the first of them decides it.
-#[derive(Clone, Copy, Debug, PartialEq, Eq)]
+#[derive(Clone, Copy)]
 pub struct Announcer {
     /// The message whose second half is to come.
     pub kept: Option<Message>,
