@@ -231,13 +231,19 @@ class Building:
         below = {it.crate.name: it.made for it in self.built_below(name)}
         self.running[name] = Work(self.kit, self.built[name], below, jobs, self.held)
 
+    def holds_up(self, name):
+        """Whether the other processors would be done with all else before a crate and the longest chain above it."""
+        rest = sum(self.costs[it] for it in [*self.left, *self.running])
+        return self.chains[name] * (self.lanes - 1) > rest
+
     def begin_more(self):
         """Begins as many crates as processors and memory allow, those with the longest chain above them first."""
         ready = sorted((it for it in self.left if not self.waits(it)), key=lambda it: -self.chains[it])
         memory = free_memory()
         while ready and self.idle() > 0 and (not self.running or memory >= MEMORY):
-            # Processors that no other crate could use help the one with the longest chain.
-            jobs = max(1, min(MOST_JOBS, self.idle() - len(ready) + 1, memory // MEMORY))
+            # Processors that no other crate could use help the one with the longest chain, and one more where it holds up all else.
+            jobs = max(self.idle() - len(ready) + 1, 2 if self.holds_up(ready[0]) else 1)
+            jobs = max(1, min(MOST_JOBS, self.idle(), jobs, memory // MEMORY))
             self.begin(ready.pop(0), jobs)
             memory -= MEMORY * jobs
 

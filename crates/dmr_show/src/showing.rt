@@ -14,8 +14,8 @@ use dmr_listing::{FaultLine, ListingEnd};
 use dmr_record::{OCTET_LIMIT, Sink, Source};
 use std::alloc::{AllocError, Global};
 
-/// How many octets the longest line has at most: a received record that is no datagram, in digits, behind its other columns.
-const LONGEST_LINE: usize = 2 * OCTET_LIMIT + 100;
+/// How many octets the longest line has at most: the JSON of a received record, whose octets stand in digits behind its other keys.
+const LONGEST_LINE: usize = 2 * OCTET_LIMIT + 200;
 
 /// Prints a file in a form to a sink, which has all that was printed once this answers.
 #[tactic(auto, using(crate::proofs::Shown::whole_begun, crate::proofs::Shown::fault_begun, crate::proofs::Shown::none_begun))]
