@@ -19,7 +19,7 @@ ends_after c =
     subst (EndsSilent c.silent_after-self-inside.result)
     (sym c.move_on.ensures.moved)
     (c.silent_after-self-inside.ensures.silent c.self.inside.recent c.hear-heard.result c.self.invariant.1
-    (heard_silent c.self.inside.colour (option_copied c.args.slot.entry) c.hear-heard.result c.hear-heard.ensures.heard))
+    (heard_silent c.self.inside.colour (option_copied c.args.slot) c.hear-heard.result c.hear-heard.ensures.heard))
 
 -- the call hang goes on from what it was
 known_is : (c : goal.After-advance)
@@ -61,7 +61,7 @@ returns-clause-pushed c =
       left = c.self.inside.hang.left;
       lc = c.self.inside.hang.link_control;
     })
-    c.self.inside.track c.step-decided.new.self (option_copied c.args.slot.entry) c.hear-heard.result c.places.result.now
+    c.self.inside.track c.step-decided.new.self (option_copied c.args.slot) c.hear-heard.result c.places.result.now
     c.step-decided.result c.slot_out-out.result c.role_of.result
     c.advance.new.self.frames c.advance.new.self.left c.move_on.new.self c.advance.new.self.link_control
     (record {
