@@ -48,8 +48,13 @@ impl fmt::Display for OutgoingLine<'_> {
         let mode = mode_name(self.record.confirmed);
         let rate = rate_name(self.record.full);
         let count = Counted(usize::from(self.record.length), "octet");
+        let octets = self.record.octets.as_slice();
         write!(f, "{place}  {mode}, rate {rate}, {count}: ")?;
-        write!(f, "{}", DatagramText(self.record.octets.as_slice()))
+        // Of one that is too long the front alone is kept, whatever that looks like.
+        if octets.len() < usize::from(self.record.length) {
+            return write!(f, "{}", Digits(octets));
+        }
+        write!(f, "{}", DatagramText(octets))
     }
 }
 

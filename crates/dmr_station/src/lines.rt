@@ -2,6 +2,8 @@
 ghost use Rattle.std.specs.Prelude.{◌≡◌, ◌+◌, ◌^◌, ◌<◌, ◌≤◌, List, Option, IfOk, IfSome};
 ghost use Rattle.dmr_burst.specs.Burst.{IsBurst};
 ghost use Rattle.dmr_gateway.specs.GatewayRules.{IsSlot};
+ghost use Rattle.dmr_slot.specs.Bursts.{IsFitSlotOut};
+ghost use Rattle.dmr_slot.specs.LineRules.{IsPush};
 ghost use Rattle.dmr_station.specs.DownlinkRules.{repeated_count};
 ghost use Rattle.dmr_station.specs.Sent.{DownlinkBurst};
 ghost use Rattle.dmr_station.specs.Sent.{AreSentAs};
@@ -97,8 +99,8 @@ impl Lines {
         ensures bound { result.1 ≤ 2 }
     {
         let outs = [
-            self.first.push(frame[0].as_ref()),
-            self.second.push(frame[1].as_ref()),
+            push(&mut self.first, &frame[0]),
+            push(&mut self.second, &frame[1]),
         ];
         let gate = [
             next_burst(&mut self.gateway, 1, &outs[0]),
@@ -137,6 +139,15 @@ impl Lines {
         let second = self.gateway.take_outcome();
         [first, second]
     }
+}
+
+/// What the line of a slot gives for what the slot was recorded as.
+#[inline(always)]
+fn push(line: &mut SlotLine, slot: &Option<[u8; 33]>) -> SlotOut
+    ensures pushed { IsPush line.old slot.now result line.new }
+    ensures fit { IsFitSlotOut result }
+{
+    line.push(slot.as_ref())
 }
 
 /// What the gateway has for a slot, 1 or 2, once it has heard what the line repeats.

@@ -296,10 +296,8 @@ fn held(letter: u8) -> SlotOut {
 fn channel_frame(channel: &mut Channel, hang: &[u8; 2], gate: &[u8; 2]) -> [u8; 2] {
     let slots = [held(hang[0]), held(hang[1])];
     let gate = [burst_of(gate[0], 1), burst_of(gate[1], 1)];
-    let frame = channel.frame(&slots, &gate);
-    let letters = [letter_of(frame[0]), letter_of(frame[1])];
-    channel.go_on(&slots, &gate);
-    letters
+    let [first, second] = channel.frame(&slots, &gate);
+    [letter_of(first.as_ref()), letter_of(second.as_ref())]
 }
 
 #[test]
