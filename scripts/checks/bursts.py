@@ -39,8 +39,8 @@ def word_of(information, code):
 
 def sealed(octets, mask):
     """Ten octets with their masked CRC-CCITT."""
-    check = remainder(int.from_bytes(octets) << 16, CCITT, 16) ^ 0xFFFF ^ mask
-    return octets + check.to_bytes(2)
+    check = remainder(int.from_bytes(octets, "big") << 16, CCITT, 16) ^ 0xFFFF ^ mask
+    return octets + check.to_bytes(2, "big")
 
 
 def times(a, b):
@@ -75,7 +75,7 @@ def information_of(octets):
 def burst_of(outer, middle, centre):
     """The octets of a burst: bits around a middle field, which stands around the centre."""
     inner = middle[: len(middle) // 2] + centre + middle[len(middle) // 2 :]
-    return number_of(outer[: len(outer) // 2] + inner + outer[len(outer) // 2 :]).to_bytes(33)
+    return number_of(outer[: len(outer) // 2] + inner + outer[len(outer) // 2 :]).to_bytes(33, "big")
 
 
 def data_burst(kind, information, colour=1, side="MS"):
