@@ -1,5 +1,6 @@
 """The four files, and what stands behind them: no output over an input, nothing lost at a refusal, pipes and hyphens."""
 
+import contextlib
 import itertools
 import os
 import pathlib
@@ -127,14 +128,16 @@ def folders_by_number(device):
     """Folders of other devices than this one, by their numbers: the system's own tree has many of small numbers."""
     found = {}
     for folder, _, _ in os.walk("/sys"):
-        known = os.stat(folder)
-        if known.st_dev != device:
-            found[known.st_ino] = folder
+        # One that was there may be gone.
+        with contextlib.suppress(OSError):
+            known = os.stat(folder)
+            if known.st_dev != device:
+                found[known.st_ino] = folder
     return found
 
 
 def twin_in(folder):
-    """A new file in a folder, and a folder of another device that has the same number; none where there is none such."""
+    """A new file in a folder, and a folder of another device that has the same number; None where there is none such."""
     others = folders_by_number(folder.stat().st_dev)
     for number in range(500):
         file = folder / str(number)
