@@ -27,7 +27,7 @@ ANSWERED = [
     ["show", "one.dmru"], ["show", "one.dmru", "--json"], ["show", "one.dmru", "--strip"], ["show", "cut.dmru"],
     ["show", "nowhere"], ["show", "long.dmri"], ["show", "long.dmri", "--json"], ["show", "long.dmri", "--strip"],
     ["show", "--help"], ["show", "-", "--slot", 3], ["slot", it.IDLE], ["--help"], ["help"], ["run", "--help"],
-    [], ["run"], ["run", "--colours", 1], ["run", "--colour", 16],
+    [], ["run", "--colours", 1], ["run", "--colour", 16],
 ]
 
 
