@@ -1,10 +1,11 @@
 """Bursts for the checks, encoded by docs/protocol.md with no word of the program."""
 
-SYNC = {"voice": 0x7F7D5DD57DFD, "data": 0xD5D7F77FD757}
+SYNC = {"BS voice": 0x755FD7DF75F7, "BS data": 0xDFF57D75DF5D, "MS voice": 0x7F7D5DD57DFD, "MS data": 0xD5D7F77FD757}
 
 # Generators, their degrees, and whether a code has one bit more that makes the ones even.
 GOLAY, RESIDUE = (0xC75, 11, True), (0x139, 8, True)
 ROW = COLUMN = (0x13, 4, False)
+EMBEDDED_ROW = (0x13, 4, True)
 
 CCITT = 0x11021
 CONTROL_BLOCK, DATA_HEADER = 0xA5A5, 0xCCCC
@@ -38,8 +39,8 @@ def word_of(information, code):
 
 def sealed(octets, mask):
     """Ten octets with their masked CRC-CCITT."""
-    check = remainder(int.from_bytes(octets) << 16, CCITT, 16) ^ 0xFFFF ^ mask
-    return octets + check.to_bytes(2)
+    check = remainder(int.from_bytes(octets, "big") << 16, CCITT, 16) ^ 0xFFFF ^ mask
+    return octets + check.to_bytes(2, "big")
 
 
 def times(a, b):
@@ -74,21 +75,31 @@ def information_of(octets):
 def burst_of(outer, middle, centre):
     """The octets of a burst: bits around a middle field, which stands around the centre."""
     inner = middle[: len(middle) // 2] + centre + middle[len(middle) // 2 :]
-    return number_of(outer[: len(outer) // 2] + inner + outer[len(outer) // 2 :]).to_bytes(33)
+    return number_of(outer[: len(outer) // 2] + inner + outer[len(outer) // 2 :]).to_bytes(33, "big")
 
 
-def data_burst(kind, information, colour=1):
+def data_burst(kind, information, colour=1, side="MS"):
     slot_type = word_of(bits_of(colour, 4) + bits_of(kind, 4), GOLAY)
-    return burst_of(information, slot_type, bits_of(SYNC["data"], 48))
+    return burst_of(information, slot_type, bits_of(SYNC[f"{side} data"], 48))
 
 
-def untyped_data_burst():
+def untyped_data_burst(side="MS"):
     """A data burst with a slot type that has four wrong bits."""
-    return burst_of([0] * 196, bits_of(0xF, 20), bits_of(SYNC["data"], 48))
+    return burst_of([0] * 196, bits_of(0xF, 20), bits_of(SYNC[f"{side} data"], 48))
 
 
-def voice_sync_burst():
-    return burst_of([0] * 216, [], bits_of(SYNC["voice"], 48))
+def voice_sync_burst(side="MS"):
+    return burst_of([0] * 216, [], bits_of(SYNC[f"{side} voice"], 48))
+
+
+def embedded_fields(octets):
+    """The four fields that carry nine octets of link control, from B to E."""
+    bits, checksum = bits_of_octets(octets), bits_of(sum(octets) % 31, 5)
+    rows = [bits[:11], bits[11:22], *(bits[22 + 10 * row : 32 + 10 * row] + [checksum[row]] for row in range(5))]
+    words = [word_of(row, EMBEDDED_ROW) for row in rows]
+    words.append([sum(column) % 2 for column in zip(*words)])
+    sent = [word[column] for column in range(16) for word in words]
+    return [number_of(sent[32 * part : 32 * part + 32]) for part in range(4)]
 
 
 def voice_burst(lcss, pi=0, embedded=0, colour=1):

@@ -1,5 +1,6 @@
 """Each call of the system that may fail fails in turn, until a run answers well: memory, reads, writes, opening, emptying."""
 
+import itertools
 import os
 import pathlib
 import shutil
@@ -7,10 +8,27 @@ import subprocess
 import tempfile
 
 from checks import recordings as it
-from checks.program import Room
+from checks.bursts import CONTROL_BLOCK, data_burst, information_of, sealed
+from checks.program import Room, summary
 
 # Calls that never fail, as far as a count goes.
 MANY = 2000
+
+OLD = b"an older file"
+NO_MEMORY = b"error: out of memory\n"
+
+# How many datagrams may wait where that is left out, and the least and the greatest of each setting.
+QUEUE = 9
+LEAST = ["--colour", 0, "--llid", 1, "--call-hang", 0, "--channel-hang", 0, "--queue", 1]
+GREATEST = ["--colour", 15, "--llid", 16_777_215, "--call-hang", 65_535, "--channel-hang", 65_535, "--queue", 64]
+
+# Words that are answered with no run: listings and faults, one burst, help and the version, and mistakes.
+ANSWERED = [
+    ["show", "one.dmru"], ["show", "one.dmru", "--json"], ["show", "one.dmru", "--strip"], ["show", "cut.dmru"],
+    ["show", "nowhere"], ["show", "long.dmri"], ["show", "long.dmri", "--json"], ["show", "long.dmri", "--strip"],
+    ["show", "--help"], ["show", "-", "--slot", 3], ["slot", it.IDLE], ["--help"], ["help"], ["run", "--help"],
+    [], ["run", "--colours", 1], ["run", "--colour", 16],
+]
 
 
 def long_recording(report):
@@ -28,21 +46,35 @@ def expect_traffic(report, name, ran):
     report.expect(f"{name}: datagrams both ways", counts.get("sent", 0) > 0 and counts.get("received", 0) > 0, ran)
 
 
-class Failing:
-    """A call that fails in the runs over some files."""
+class Shim:
+    """What is loaded in front of the C library and lets a call fail, and the folder that it makes then."""
 
-    def __init__(self, report, room, shim, wanted):
-        self.report, self.room, self.shim, self.wanted = report, room, shim, wanted
-        self.mark = room.path / "failed"
+    def __init__(self, compiler, source, folder):
+        self.library, self.mark = folder / "failing.so", folder / "failed"
+        subprocess.run([compiler, "-O1", "-shared", "-fPIC", "-o", self.library, source, "-ldl"], check=True)
 
-    def run(self, call, at=None):
-        """A run in which this call fails, and whether the run got to it."""
+    def run(self, started, call, at=None):
+        """Starts something in an environment in which this call fails, and tells whether it got to it."""
         more = {"FAILING_AT": str(at), "FAILED": str(self.mark)} if at else {}
-        ran = self.room.run(env={**os.environ, "LD_PRELOAD": str(self.shim), "FAILING": call, **more})
+        ran = started({**os.environ, "LD_PRELOAD": str(self.library), "FAILING": call, **more})
         reached = self.mark.exists()
         if reached:
             self.mark.rmdir()
         return ran, reached
+
+
+class Failing:
+    """A call that fails in the runs over some files, with some settings."""
+
+    def __init__(self, report, room, shim, *settings):
+        self.report, self.room, self.shim, self.settings = report, room, shim, settings
+        self.whole = room.run(*settings)
+        self.wanted = self.whole.out, room.outputs()
+        report.expect("a whole run", (self.whole.status, self.whole.err) == (0, b""), self.whole)
+
+    def run(self, call, at=None):
+        """A run in which this call fails, and whether the run got to it."""
+        return self.shim.run(lambda env: self.room.run(*self.settings, env=env), call, at)
 
     def in_turn(self, call):
         """Lets the first such call fail, the second, and so on, until a run has none left; answers the runs that failed."""
@@ -76,8 +108,8 @@ def expect_texts(report, call, failed, texts):
 
 def check_memory(report, failing):
     failed = failing.in_turn("memory")
-    told = all(ran.out == b"" and ran.err == b"error: out of memory\n" for ran, _ in failed)
-    report.expect("memory: each want of it is told", told, [ran for ran, _ in failed if ran.err != b"error: out of memory\n"])
+    told = all(ran.out == b"" and ran.err == NO_MEMORY for ran, _ in failed)
+    report.expect("memory: each want of it is told", told, [ran for ran, _ in failed if ran.err != NO_MEMORY])
     statuses = [ran.status for ran, _ in failed]
     report.expect("memory: status 2 on the command line, and then 1", statuses == sorted(statuses, reverse=True), statuses)
     run = [outputs for ran, outputs in failed if ran.status == 1]
@@ -87,21 +119,76 @@ def check_memory(report, failing):
     return len(run)
 
 
+def check_emptying(report, failing):
+    """The outputs are emptied in their order, and what can't be emptied is as it was."""
+    for at, file, left in ((1, "downlink", [OLD, OLD]), (2, "received", [b"", OLD])):
+        failing.room.downlink.write_bytes(OLD)
+        failing.room.received.write_bytes(OLD)
+        ran, reached = failing.run("empty", at)
+        report.expect(f"{file} can't be emptied", reached and ran.is_error(f"{file}: cannot open"), ran)
+        report.expect(f"{file} can't be emptied: the outputs", failing.room.outputs() == left, failing.room.outputs())
+
+
+def check_settings(report, room, shim, growths):
+    """A want of memory is told at the ends of the ranges of settings too. It is wanted as often, but for the datagrams that may
+    wait: each of them has a place in either slot."""
+    for settings in LEAST, GREATEST:
+        had = check_memory(report, Failing(report, room, shim, *settings))
+        wanted = growths + 2 * (settings[-1] - QUEUE)
+        report.expect(f"how often memory is wanted with {settings}", had == wanted, f"{had}, not {wanted}")
+
+
+def check_extremes(report):
+    """A run has the memory that it wants at all ends of the ranges of settings."""
+    block = information_of(sealed(bytes(10), CONTROL_BLOCK))
+    for settings in itertools.product(*zip(zip(LEAST[::2], LEAST[1::2]), zip(GREATEST[::2], GREATEST[1::2]))):
+        known = dict(settings)
+        if known["--call-hang"] > known["--channel-hang"]:
+            continue
+        uplink = it.UPLINK_HEAD + b"\1" + data_burst(3, block, known["--colour"]) + b"\0"
+        with Room(report, uplink, it.OUTGOING_HEAD) as room:
+            ran = room.run(*itertools.chain(*settings))
+            report.expect(f"a run with {known}", (ran.status, ran.out, ran.err) == (0, summary(7, 1), b""), ran)
+
+
+def expect_answer(report, shim, words, folder):
+    """Each growth fails in turn: words are answered whole, or it is told that there is no memory. Answers how often it is."""
+    whole, statuses = report.call(*words, cwd=folder), []
+    for at in range(1, MANY):
+        ran, reached = shim.run(lambda env: report.call(*words, cwd=folder, env=env), "memory", at)
+        is_whole = (ran.status, ran.out, ran.err) == (whole.status, whole.out, whole.err)
+        # Lines up to a fault may stand before its text, for which there is no memory.
+        is_told = ran.status in (1, 2) and ran.err == NO_MEMORY and (ran.out == b"" or whole.status == 1 and ran.out == whole.out)
+        report.expect(f"{words}, growth {at} fails", is_whole or is_told, ran)
+        statuses += [] if is_whole else [ran.status]
+        if not reached:
+            report.expect(f"{words}, and nothing fails", is_whole, ran)
+            break
+    report.expect(f"{words}: status 2 on the command line, and then 1", statuses == sorted(statuses, reverse=True), statuses)
+    report.expect(f"{words} want memory", statuses, whole)
+
+
+def check_answers(report, shim):
+    """What is told of words where there is no memory for it: listings, help, and mistakes."""
+    longest = it.received_record(2**32 - 1, 2, 1, 0xFFFFFF, bytes(number % 251 for number in range(65_535)))
+    with Room(report) as room:
+        for name, octets in (("one.dmru", it.ONE_CSBK), ("cut.dmru", it.ONE_CSBK[:42]), ("long.dmri", it.RECEIVED_HEAD + longest)):
+            (room.path / name).write_bytes(octets)
+        for words in ANSWERED:
+            expect_answer(report, shim, words, room.path)
+
+
 def check(report):
     compiler = shutil.which("cc")
     report.expect("there is a C compiler", compiler, "no cc")
     if not compiler:
         return
+    check_extremes(report)
     with tempfile.TemporaryDirectory(prefix="dmrgate-failing-") as folder, Room(report, *long_recording(report)) as room:
-        shim = pathlib.Path(folder) / "failing.so"
-        source = report.top / "scripts/failing.c"
-        subprocess.run([compiler, "-O1", "-shared", "-fPIC", "-o", shim, source, "-ldl"], check=True)
-        ran = room.run()
-        wanted = ran.out, room.outputs()
-        report.expect("a whole run", (ran.status, ran.err) == (0, b""), ran)
-        expect_traffic(report, "3,000 frames", ran)
+        shim = Shim(compiler, report.top / "scripts/failing.c", pathlib.Path(folder))
+        failing = Failing(report, room, shim)
+        expect_traffic(report, "3,000 frames", failing.whole)
 
-        failing = Failing(report, room, shim, wanted)
         growths = check_memory(report, failing)
         expect_texts(report, "read", failing.in_turn("read"), ["uplink: read failed", "outgoing: read failed"])
         # Where what failed is the line of the run itself, nothing more can be told.
@@ -110,12 +197,15 @@ def check(report):
         files = ["uplink", "outgoing", "downlink", "received"]
         expect_texts(report, "open", failing.in_turn("open"), [f"{file}: cannot open" for file in files])
         expect_texts(report, "empty", failing.in_turn("empty"), [f"{file}: cannot open" for file in files[2:]])
+        check_emptying(report, failing)
         ran, _ = failing.run("short")
-        report.expect("an octet at a time", (ran.status, ran.out, room.outputs()) == (0, *wanted), ran)
+        report.expect("an octet at a time", (ran.status, ran.out, room.outputs()) == (0, *failing.wanted), ran)
 
         room.uplink.write_bytes(it.UPLINK_HEAD + b"\1" + it.STATUS + bytes(19))
         room.outgoing.write_bytes(it.OUTGOING_HEAD + it.outgoing_record(0, slot=2))
-        ran = room.run()
-        expect_traffic(report, "ten frames", ran)
-        short = check_memory(report, Failing(report, room, shim, (ran.out, room.outputs())))
+        failing = Failing(report, room, shim)
+        expect_traffic(report, "ten frames", failing.whole)
+        short = check_memory(report, failing)
         report.expect("ten frames want memory as often as 3,000", short == growths, f"{short} and {growths}")
+        check_settings(report, room, shim, growths)
+        check_answers(report, shim)

@@ -1,12 +1,17 @@
 """The four files, and what stands behind them: no output over an input, nothing lost at a refusal, pipes and hyphens."""
 
+import contextlib
+import itertools
 import os
+import pathlib
 import subprocess
+import tempfile
 
 from checks import recordings as it
 from checks.program import Room, summary
 
 LINE = summary(7, 1)
+FILES = "uplink", "outgoing", "downlink", "received"
 OLD = b"an older file, which is longer than what a run over one block writes" * 9
 
 
@@ -79,6 +84,89 @@ def check_nothing_lost(report):
         report.expect("ten frames and one are written", room.outputs() == wanted, room.outputs())
 
 
+def check_order(report):
+    """The files are opened in their order, and the first that can't be is told: no output is made behind it."""
+    with Room(report, it.ONE_CSBK, it.OUTGOING_HEAD) as room:
+        nowhere = room.path / "nowhere" / "file"
+        for first, second in itertools.combinations(FILES, 2):
+            ran = room.run(**{first: nowhere, second: nowhere})
+            report.expect(f"neither {first} nor {second}", ran.is_error(f"{first}: cannot open"), ran)
+        for taken, missing, told in (
+            ("downlink", "uplink", "uplink"),
+            ("downlink", "outgoing", "outgoing"),
+            ("downlink", "received", "downlink"),
+            ("received", "outgoing", "outgoing"),
+            ("received", "downlink", "downlink"),
+        ):
+            ran = room.run(**{missing: nowhere, taken: room.uplink if missing != "uplink" else room.outgoing})
+            report.expect(f"{taken} over an input, and no {missing}", ran.is_error(f"{told}: cannot open"), ran)
+        ran = room.run(downlink=room.outgoing, received=room.uplink)
+        report.expect("both outputs over inputs", ran.is_error("downlink: cannot open"), ran)
+        report.expect("no output is made", room.outputs() == [None, None], room.outputs())
+        inputs = [room.uplink.read_bytes(), room.outgoing.read_bytes()]
+        report.expect("the inputs are as they were", inputs == [it.ONE_CSBK, it.OUTGOING_HEAD], inputs)
+
+
+def check_names(report):
+    """A file may have any name, one with line feeds too, and a hyphen behind a folder."""
+    downlink = (report.top / "samples/one_csbk/downlink.dmrd").read_bytes()
+    for name in ("line\nfeed", "\n", "-", "--uplink", " "):
+        with Room(report, it.ONE_CSBK, it.OUTGOING_HEAD) as room:
+            places = {}
+            for file in FILES:
+                (room.path / file).mkdir()
+                places[file] = room.path / file / name
+            places["uplink"].write_bytes(it.ONE_CSBK)
+            places["outgoing"].write_bytes(it.OUTGOING_HEAD)
+            ran = room.run(**{file: f"./{file}/{name}" for file in FILES})
+            report.expect(f"files named {name!r}", (ran.status, ran.out, ran.err) == (0, LINE, b""), ran)
+            written = [places[file].read_bytes() for file in FILES[2:]]
+            report.expect(f"their outputs, {name!r}", written == [downlink, it.RECEIVED_HEAD], written)
+
+
+def folders_by_number(device):
+    """Folders of other devices than this one, by their numbers: the system's own tree has many of small numbers."""
+    found = {}
+    for folder, _, _ in os.walk("/sys"):
+        # One that was there may be gone.
+        with contextlib.suppress(OSError):
+            known = os.stat(folder)
+            if known.st_dev != device:
+                found[known.st_ino] = folder
+    return found
+
+
+def twin_in(folder):
+    """A new file in a folder, and a folder of another device that has the same number; None where there is none such."""
+    others = folders_by_number(folder.stat().st_dev)
+    for number in range(500):
+        file = folder / str(number)
+        file.touch()
+        if file.stat().st_ino in others:
+            return file, others[file.stat().st_ino]
+
+
+def check_devices(report):
+    """Files of two devices may have one number, and are two files."""
+    memory = pathlib.Path("/dev/shm")
+    if not memory.is_dir():
+        return
+    downlink = (report.top / "samples/one_csbk/downlink.dmrd").read_bytes()
+    with tempfile.TemporaryDirectory(dir=memory) as folder, Room(report, it.ONE_CSBK, it.OUTGOING_HEAD) as room:
+        twins = twin_in(pathlib.Path(folder))
+        # Where a device counts from large numbers on, there are none.
+        if not twins:
+            return
+        file, other = twins
+        ran = room.run(downlink=file, uplink=other)
+        report.expect("an input of the output's number", ran.is_error("uplink: read failed"), ran)
+        behind = os.open(other, os.O_RDONLY)
+        ran = room.run(downlink=file, streams={"stdin": behind})
+        os.close(behind)
+        report.expect("standard input of the output's number", (ran.status, ran.out, ran.err) == (0, LINE, b""), ran)
+        report.expect("the output", file.read_bytes() == downlink)
+
+
 def check_standard_streams(report):
     downlink = (report.top / "samples/one_csbk/downlink.dmrd").read_bytes()
     for name in ("/dev/stdout", "-"):
@@ -94,6 +182,11 @@ def check_standard_streams(report):
                     ran = room.run(streams={"stdout": out}, **{taken: name})
                 report.expect(f"{taken} {name} to a file", ran.is_error(f"{taken}: cannot open"), ran)
                 report.expect("that file is as it was", printed.read_bytes() == OLD)
+                second = room.path / f"second-{taken}"
+                os.link(printed, second)
+                with open(printed, "r+b") as out:
+                    ran = room.run(streams={"stdout": out}, **{taken: second})
+                report.expect(f"{taken} by another name of that file", ran.is_error(f"{taken}: cannot open"), ran)
                 with open(printed, "r+b") as out:
                     ran = room.run(streams={"stderr": out}, **{taken: printed})
                 told = f"error: {taken}: cannot open\n".encode()
@@ -134,6 +227,39 @@ def check_closed_streams(report):
                 report.expect(f"{name}: the status", ran.status == (0 if is_printed else 1), ran)
 
 
+def check_hyphens_of_closed_streams(report):
+    """Standard input that is closed is at its end, and standard output that is can't be written."""
+    for closed, places, told in (
+        (0, {"uplink": "-"}, "uplink: cut record"),
+        (0, {"outgoing": "-"}, "outgoing: cut record"),
+        (1, {"downlink": "-"}, "downlink: write failed"),
+        (1, {"received": "-"}, "received: write failed"),
+    ):
+        with Room(report, it.ONE_CSBK, it.OUTGOING_HEAD) as room:
+            streams = {"stdin" if closed == 0 else "stdout": None, "preexec_fn": lambda: os.closerange(closed, closed + 1)}
+            ran = room.run(streams=streams, **places)
+            report.expect(f"{places}, and stream {closed} is closed", ran.is_error(told), ran)
+
+
+def check_pipes_that_are_inputs(report):
+    """A pipe that is an input is no output, whichever name is given for either of them."""
+    with Room(report, it.ONE_CSBK, it.OUTGOING_HEAD) as room:
+        fifo = room.path / "pipe"
+        os.mkfifo(fifo)
+        # Open at both ends, so that nobody waits for another to open it.
+        held = os.open(fifo, os.O_RDWR)
+        for given, name, taken in itertools.product(FILES[:2], ("-", "/dev/stdin", fifo), FILES[2:]):
+            # What would be read is at fault at once, so that nobody waits for more of it.
+            os.write(held, b"no head!")
+            ran = room.run(streams={"stdin": held}, **{given: name, taken: fifo})
+            report.expect(f"{taken} over {given}, a pipe by {name}", ran.is_error(f"{taken}: cannot open"), ran)
+        ran = room.run(downlink=fifo, received=fifo)
+        report.expect("a named pipe for both outputs", ran.is_error("received: cannot open"), ran)
+        os.close(held)
+        ran = room.run(downlink="-", received="-")
+        report.expect("standard output for both outputs", ran.is_error("received: cannot open"), ran)
+
+
 def check_pipes(report):
     downlink = (report.top / "samples/one_csbk/downlink.dmrd").read_bytes()
     with Room(report, it.ONE_CSBK, it.OUTGOING_HEAD) as room:
@@ -168,7 +294,12 @@ def check(report):
     check_outputs_over_inputs(report)
     check_one_output(report)
     check_nothing_lost(report)
+    check_order(report)
+    check_names(report)
+    check_devices(report)
     check_standard_streams(report)
     check_closed_streams(report)
+    check_hyphens_of_closed_streams(report)
     check_pipes(report)
+    check_pipes_that_are_inputs(report)
     check_colours(report)

@@ -1,9 +1,43 @@
 """The longest files that there may be, and longer ones. A record past the limit is refused before its tag is looked at."""
 
+import array
 import subprocess
+import sys
 
 from checks import recordings as it
 from checks.program import Room, summary
+
+
+def received_records(frames):
+    """Four empty records of each of so many frames, which are as many as there may be."""
+    records = bytearray(b"".join(it.received_record(0, slot, kind, 1, b"") for slot in (1, 2) for kind in (2, 1)) * frames)
+    numbers = array.array("I", range(frames))
+    if sys.byteorder == "little":
+        numbers.byteswap()
+    for at in range(0, 48, 12):
+        for octet in range(4):
+            records[at + 1 + octet :: 48] = numbers.tobytes()[octet::4]
+    return bytes(records)
+
+
+def check_listings(report):
+    """Listings of the longest files, of which no frame is asked for, and of longer ones."""
+    frames = it.LIMIT + 6
+    counted = f"frames {frames} seconds {frames * 6 // 100}.{frames * 6 % 100:02} slot-1 0 slot-2 0 unreadable 0"
+    for file, octets, more, last, place in (
+        ("uplink", it.UPLINK_HEAD + bytes(2 * it.LIMIT), b"\1", None, f", frame {it.LIMIT}, slot 1"),
+        ("downlink", it.DOWNLINK_HEAD + bytes(2 * frames), b"\1", counted, f", frame {frames}, slot 1"),
+        ("outgoing list", it.OUTGOING_HEAD + it.LIMIT * it.outgoing_record(0, octets=b""), b"\7", f"records {it.LIMIT}", ""),
+        ("received list", it.RECEIVED_HEAD + received_records(frames), b"\7", f"records {4 * frames}", ""),
+    ):
+        # The longest uplink is listed with its bursts elsewhere.
+        if last:
+            ran = report.call("show", "-", "--from", 2**32 - 1, given=octets)
+            report.expect(f"the longest {file}, listed", (ran.status, ran.out.decode().splitlines()[1:]) == (0, [last]), ran)
+        ran = report.call("show", "-", "--from", 2**32 - 1, given=octets + more)
+        told = f"error: -: too long at octet {len(octets)}{place}\n"
+        is_so = (ran.status, ran.out.count(b"\n"), ran.err.decode()) == (1, 1, told)
+        report.expect(f"an octet past the longest {file}, listed", is_so, ran)
 
 
 def check(report):
@@ -29,3 +63,4 @@ def check(report):
         endless.stdout.close()
         endless.wait()
         report.expect("silence without end", ran.is_error("uplink: too long"), ran)
+    check_listings(report)

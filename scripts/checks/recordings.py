@@ -97,3 +97,44 @@ def outgoing_fault(octets):
 def outgoing_record(frame, slot=1, mode=0, octets=DATAGRAM):
     """A record of the outgoing file."""
     return b"\2" + frame.to_bytes(4, "big") + bytes([slot, mode]) + len(octets).to_bytes(2, "big") + octets
+
+
+def received_record(frame, slot, kind, source, octets):
+    """A record of the received file."""
+    places = frame.to_bytes(4, "big") + bytes([slot, kind]) + source.to_bytes(3, "big")
+    return b"\3" + places + len(octets).to_bytes(2, "big") + octets
+
+
+def sum_of_words(octets):
+    """The sum of words of two octets in one's complement."""
+    total = sum(octets[0::2]) * 256 + sum(octets[1::2])
+    while total > 0xFFFF:
+        total = total % 0x10000 + total // 0x10000
+    return total
+
+
+def covered_by_udp(source, destination, udp):
+    """What the checksum of UDP covers."""
+    return source + destination + bytes([0, 17]) + len(udp).to_bytes(2, "big") + udp
+
+
+def datagram(source, destination, data=b""):
+    """A datagram from an end to another, each of four octets of address and a port."""
+    udp = b"".join(port.to_bytes(2, "big") for port in (source[1], destination[1], 8 + len(data))) + b"\0\0" + data
+    check = (0xFFFF - sum_of_words(covered_by_udp(source[0], destination[0], udp))) or 0xFFFF
+    udp = udp[:6] + check.to_bytes(2, "big") + data
+    head = b"\x45\0" + (20 + len(udp)).to_bytes(2, "big") + bytes.fromhex("1234 0000 4011 0000") + source[0] + destination[0]
+    check = 0xFFFF - sum_of_words(head)
+    return head[:10] + check.to_bytes(2, "big") + head[12:] + udp
+
+
+def is_datagram(octets):
+    """Octets are a datagram that no rule refuses."""
+    if not 28 <= len(octets) <= 1400 or octets[0] != 0x45:
+        return False
+    total, fragment, length, check = (int.from_bytes(octets[at : at + 2], "big") for at in (2, 6, 24, 26))
+    return (
+        (total, length, fragment & 0x3FFF, octets[9]) == (len(octets), len(octets) - 20, 0, 17)
+        and sum_of_words(octets[:20]) == 0xFFFF
+        and (check == 0 or sum_of_words(covered_by_udp(octets[12:16], octets[16:20], octets[20:])) == 0xFFFF)
+    )

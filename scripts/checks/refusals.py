@@ -3,6 +3,8 @@
 import os
 
 from checks import recordings as it
+from checks.bursts import data_burst, information_of, unreadable_burst, untyped_data_burst, voice_burst, voice_sync_burst
+from checks.contents import TWELVE, TWELVE_DIGITS, beyond_reach
 from checks.program import Room, summary
 
 BURST = b"\1" + it.CSBK
@@ -198,7 +200,28 @@ def check_elsewhere(report):
         report.expect(f"{program} doesn't do {command}", ran.is_error(text, 2), ran)
 
 
+def bursts_of_each_line():
+    """Bursts for each line that `slot` may print, of either side, with each type and each EMB."""
+    for side in ("BS", "MS"):
+        for kind in range(16):
+            # Each type has a colour code of its own, another of either side.
+            colour = (5 * kind + (3 if side == "BS" else 11)) % 16
+            told, lost = ("as received",) * 2 if kind in (8, 10) else (TWELVE_DIGITS, "unreadable")
+            for information, holds in ((information_of(TWELVE), told), (beyond_reach(), lost)):
+                line = f"data {side}, colour {colour}, type {kind}, information {holds}"
+                yield data_burst(kind, information, colour, side), line
+        yield untyped_data_burst(side), f"data {side}, slot type unreadable"
+        yield voice_sync_burst(side), f"voice sync {side}"
+    for emb in range(128):
+        colour, pi, lcss = emb // 8, emb // 4 % 2, emb % 4
+        yield voice_burst(lcss, pi, colour=colour), f"voice, colour {colour}, PI {pi}, LCSS {lcss}"
+    yield unreadable_burst(), "unreadable"
+
+
 def check_bursts(report):
+    for burst, line in bursts_of_each_line():
+        ran = report.call("slot", burst.hex())
+        report.expect(f"slot of a burst: {line}", (ran.status, ran.out.decode(), ran.err) == (0, f"{line}\n", b""), ran)
     for burst, line in [
         (it.IDLE, "data BS, colour 1, type 9, information FF83DF1732094ED1E7CD8A91"),
         (it.IDLE.lower(), "data BS, colour 1, type 9, information FF83DF1732094ED1E7CD8A91"),

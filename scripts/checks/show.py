@@ -1,10 +1,11 @@
 """Listings: each file of samples/, as text and as JSON, faults with the place of their records, and what may be left out."""
 
 import json
-import re
+import os
 import subprocess
 
 from checks import recordings as it
+from checks.lines import line_of_burst, line_of_record
 from checks.program import Room
 
 CALL = """uplink recording, version 1
@@ -134,6 +135,39 @@ def check_faults(report):
             report.expect("standard output is full", (ran.status, ran.err) == (1, b""), ran)
 
 
+def check_names(report):
+    """A fault is told in one line, whatever the name: of one with line feeds the first line is told."""
+    with Room(report) as room:
+        for name, told in (("one\ntwo.dmru", "one"), ("\nthree", ""), ("four\n\nerror: \n", "four")):
+            ran = report.call("show", name, cwd=room.path)
+            report.expect(f"no file {name!r}", ran.is_error(f"{told}: cannot open"), ran)
+            file = room.path / name
+            file.write_bytes(b"DMRU")
+            ran = report.call("show", name, cwd=room.path)
+            report.expect(f"a fault of {name!r}", ran.is_error(f"{told}: cut record at octet 0"), ran)
+            file.write_bytes(it.ONE_STATUS)
+            ran = report.call("show", name, "--strip", cwd=room.path)
+            report.expect(f"no strip of {name!r}", ran.is_error(f"{told}: a list has no strip"), ran)
+            ran = report.call("show", name, cwd=room.path)
+            report.expect(f"the listing of {name!r}", (ran.status, ran.out.decode(), ran.err) == (0, RECEIVED, b""), ran)
+
+
+def check_closed_streams(report):
+    """A standard stream that is closed is at its end, and can't be printed to."""
+    call = report.top / "samples/call/uplink.dmru"
+    for closed, words, status, told in (
+        (0, ["show", "-"], 1, b"error: -: cut record at octet 0\n"),
+        (0, ["show", call], 0, b""),
+        (1, ["show", call], 1, b""),
+        (1, ["show", call, "--json"], 1, b""),
+        (1, ["show", call, "--strip"], 1, b""),
+        (2, ["show", "nowhere"], 1, b""),
+        (2, ["show", call], 0, b""),
+    ):
+        ran = report.call(*words, preexec_fn=lambda: os.closerange(closed, closed + 1))
+        report.expect(f"{words}, and stream {closed} is closed", (ran.status, ran.err) == (status, told), ran)
+
+
 def judged(report, name, octets, fault):
     """A listing ends at this fault, or at none."""
     ran = report.call("show", "-", given=octets)
@@ -218,14 +252,14 @@ def records_of(octets):
     while at < len(octets):
         tag, head = octets[at], octets[:4]
         if tag == 2:
-            frame, slot, mode, size = (int.from_bytes(octets[at + a : at + b]) for a, b in ((1, 5), (5, 6), (6, 7), (7, 9)))
+            frame, slot, mode, size = (int.from_bytes(octets[at + a : at + b], "big") for a, b in ((1, 5), (5, 6), (6, 7), (7, 9)))
             kept = octets[at + 9 : at + 9 + min(size, 1400)]
             sent = {"confirmed": bool(mode & 1), "rate": "1" if mode & 2 else "1/2", "length": size, "octets": kept}
             found.append({"frame": frame, "slot": slot} | sent)
             at += 9 + size
         elif tag == 3:
             frame, slot, kind, source, size = (
-                int.from_bytes(octets[at + a : at + b]) for a, b in ((1, 5), (5, 6), (6, 7), (7, 10), (10, 12))
+                int.from_bytes(octets[at + a : at + b], "big") for a, b in ((1, 5), (5, 6), (6, 7), (7, 10), (10, 12))
             )
             came = {"kind": KINDS[kind], "source": source, "octets": octets[at + 12 : at + 12 + size]}
             found.append({"frame": frame, "slot": slot} | came)
@@ -241,32 +275,12 @@ def records_of(octets):
 
 def tact_of(cach):
     """AT, TC and LCSS of a CACH: the Hamming word within one bit of its seven, whose checks are those of the standard."""
-    bits = [int.from_bytes(cach) >> 23 - place & 1 for place in (0, 4, 8, 12, 14, 18, 22)]
+    bits = [int.from_bytes(cach, "big") >> 23 - place & 1 for place in (0, 4, 8, 12, 14, 18, 22)]
     for number in range(16):
         a, b, c, d = (number >> shift & 1 for shift in (3, 2, 1, 0))
         word = [a, b, c, d, a ^ b ^ c, b ^ c ^ d, a ^ b ^ d]
         if sum(x != y for x, y in zip(word, bits)) < 2:
             return {"at": a, "tc": b, "lcss": 2 * c + d}
-
-
-def agrees_with_line(made, line):
-    """An object of a burst says what its line says."""
-    side, colour, name = line[21:24].strip(), line[24:27].strip(), line[29:42].strip()
-    busy = side.endswith("*")
-    wrong = dict(re.findall(r"(sync|slot type|EMB|information) (\d+)", line.partition("[wrong: ")[2]))
-    told = {key: count for key, count in (made["wrong"] or {}).items() if count}
-    call = re.search(r"(group|unit) call (\d+) -> (\d+)", line)
-    called = [made["lc"][key] for key in ("flco", "source", "target")] if call else None
-    return (
-        (made["side"] or "-", made["name"]) == (side.rstrip("*").strip(), name)
-        and ("-" if made["colour"] is None else str(made["colour"])) == colour
-        and f"{made['ms'] / 1000:9.2f}" == line[:9]
-        and bool(made.get("cach", {}).get("at")) == busy
-        and told == {key.lower().replace(" ", "_"): int(count) for key, count in wrong.items()}
-        and (not call or called == [0 if call[1] == "group" else 3, int(call[2]), int(call[3])])
-        and ("octets" not in made or made["octets"] is None or made["octets"] in line)
-        and ("lcss" not in made or f"LCSS {made['lcss']}" in line)
-    )
 
 
 def check_json(report):
@@ -291,7 +305,7 @@ def check_json(report):
             if "cach" in fields:
                 fields["cach"] = tact_of(fields["cach"])
             is_so = all(one[key] == value for key, value in fields.items()) and ("burst" in fields or one.keys() == fields.keys())
-            if not is_so or "burst" in fields and not agrees_with_line(one, line):
+            if not is_so or line != (line_of_burst(one) if "burst" in fields else line_of_record(one)):
                 others.append((one, fields, line))
         report.expect(f"{name}: each record, and what its line says", not others, others[:2])
     call = report.top / "samples/call/uplink.dmru"
@@ -355,6 +369,8 @@ def check(report):
     check_texts(report)
     check_samples(report)
     check_faults(report)
+    check_names(report)
+    check_closed_streams(report)
     check_outputs(report)
     check_filters(report)
     check_strips(report)
