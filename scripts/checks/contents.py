@@ -330,6 +330,8 @@ DATAGRAMS = [
     (it.datagram(*ENDS, data=b"\xA5" * 1372), "UDP 12.34.56.78:258 -> 225.9.200.1:65533, 1372 octets of data"),
     (it.datagram(*ENDS)[:-1], it.datagram(*ENDS)[:-1].hex().upper()),
     (it.datagram(*ENDS, data=bytes(1373)), None),
+    # What is kept of it is a datagram.
+    (it.datagram(*ENDS, data=bytes(1372)) + bytes(100), None),
     (b"\x0A", "0A"),
 ]
 
