@@ -2,7 +2,7 @@
 ghost use Rattle.std.specs.Prelude.{◌<◌, ◌^◌};
 ghost use Rattle.dmr_data.specs.Header.{IsFitHeader};
 
-use crate::tests::{one_block, placed};
+use crate::tests::{gives_nothing, one_block, placed};
 use dmr_arq::{Answer, Joined, Receiver, ReceiverOut, Verdict};
 use dmr_data::{
     Block, Confirmed, Header, Octets, Packet, Rate, ShortData, Unconfirmed, split_packet,
@@ -62,14 +62,6 @@ fn header_of(full: bool, blocks: u8) -> Header
         blocks,
         ..FIRST
     })
-}
-
-/// Whether a place that fits its try gives nothing.
-fn gives_nothing(out: Option<ReceiverOut>) -> bool {
-    match out {
-        Some(out) => out.delivered.is_none() && out.answer.is_none(),
-        None => false,
-    }
 }
 
 /// A place of a try that isn't its last, and gives nothing.
@@ -271,7 +263,7 @@ fn delivers(rt: &impl Abort, receiver: &mut Receiver, source: u32, packet: &Pack
 {
     receiver.header(&Header::Confirmed(Confirmed { source, ..FIRST }));
     assert!(rt; receiver.open() == Some(Some(1)));
-    receiver.place(packet.blocks.get(0)).delivered.is_some()
+    matches!(placed(receiver, packet.blocks.get(0)), Some(out) if out.delivered.is_some())
 }
 
 // A packet is a repeat while 63 other sources were heard since, and new with the 64th.

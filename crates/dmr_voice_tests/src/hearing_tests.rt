@@ -48,6 +48,12 @@ fn turned(burst: &[u8; 33], places: &[usize]) -> [u8; 33] {
     bits.octets()
 }
 
+/// What the burst is heard as by a repeater of colour code 1, with bits turned.
+fn hear_turned(burst: &[u8; 33], places: &[usize]) -> Heard {
+    let turned = turned(burst, places);
+    hear(Some(&turned), 1)
+}
+
 /// The burst with three wrong bits in its sync and three in its slot type, and all bits of the first row of its information
 /// and R(3) turned.
 fn damaged(burst: &[u8; 33]) -> [u8; 33] {
@@ -128,8 +134,8 @@ fn bursts_that_are_no_data(rt: HostRuntime) {
     assert!(rt; hear(Some(&IDLE_BURST), 1).data_burst == None);
     assert!(rt; hear(Some(&REPEATED_CSBK), 1).data_burst == None);
     // A fourth wrong bit in the sync, and one in the slot type.
-    assert!(rt; hear(Some(&turned(&ONE_CSBK, &[108, 109, 110, 111])), 1).data_burst == None);
-    assert!(rt; hear(Some(&turned(&ONE_CSBK, &[98, 99, 100, 101])), 1).data_burst == None);
+    assert!(rt; hear_turned(&ONE_CSBK, &[108, 109, 110, 111]).data_burst == None);
+    assert!(rt; hear_turned(&ONE_CSBK, &[98, 99, 100, 101]).data_burst == None);
 }
 
 #[test]
@@ -160,8 +166,8 @@ fn printed_voice_burst(rt: HostRuntime) {
     };
     assert!(rt; hear(Some(&PRINTED_VOICE_BURST), 1) == frame);
     assert!(rt; hear(Some(&PRINTED_VOICE_BURST), 2) == frame);
-    assert!(rt; hear(Some(&turned(&PRINTED_VOICE_BURST, &[108, 155])), 1) == frame);
-    assert!(rt; hear(Some(&turned(&PRINTED_VOICE_BURST, &[108, 109, 155])), 1).emb == None);
+    assert!(rt; hear_turned(&PRINTED_VOICE_BURST, &[108, 155]) == frame);
+    assert!(rt; hear_turned(&PRINTED_VOICE_BURST, &[108, 109, 155]).emb == None);
 }
 
 #[test]
@@ -184,8 +190,8 @@ fn voice_sync(rt: HostRuntime) {
     assert!(rt; heard.voice);
     assert!(rt; heard.data_burst == None);
     assert!(rt; heard.embedded == 0x7D5D_D57D);
-    assert!(rt; hear(Some(&turned(&burst, &[108, 120, 155])), 1).voice);
-    assert!(rt; !hear(Some(&turned(&burst, &[108, 120, 130, 155])), 1).voice);
+    assert!(rt; hear_turned(&burst, &[108, 120, 155]).voice);
+    assert!(rt; !hear_turned(&burst, &[108, 120, 130, 155]).voice);
 }
 
 #[test]
