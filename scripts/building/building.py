@@ -266,7 +266,8 @@ class Building:
         for name, work in self.running.items():
             rest[name] = max(self.costs[name] - work.seconds() * GAIN[work.jobs] / pace, 0)
         chain = max((self.chains[it] - self.costs[it] + seconds for it, seconds in rest.items()), default=0)
-        return pace * max(chain / GAIN[min(self.lanes, MOST_JOBS)], sum(rest.values()) / self.lanes)
+        # A chain that holds up all else has two jobs most of the time.
+        return pace * max(chain / GAIN[min(self.lanes, 2)], sum(rest.values()) / self.lanes)
 
     def end(self):
         for work in self.running.values():
