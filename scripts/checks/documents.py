@@ -4,8 +4,8 @@ public calls in their table."""
 import re
 
 DOCUMENTS = (
-    "README.md", "docs/architecture.md", "docs/protocol.md", "docs/promises.md", "docs/DECISIONS.md", "docs/speed.md",
-    "samples/README.md",
+    "README.md", "CONTRIBUTING.md", "CHANGELOG.md", "docs/architecture.md", "docs/protocol.md", "docs/promises.md",
+    "docs/DECISIONS.md", "docs/proofs.md", "docs/testing.md", "docs/speed.md", "samples/README.md",
 )
 WIDTH = 132
 
