@@ -5,7 +5,7 @@ ghost use Rattle.dmr_arq.specs.Fit.{IsOfferedPacket};
 use crate::tests::{
     ACK, ROUTE, expect_burst, expect_outcome, expect_preambles, one_block, sender_of,
 };
-use dmr_arq::{Answer, Busy, GateBurst, Outcome, Route, Sender, Verdict};
+use dmr_arq::{Answer, GateBurst, Outcome, Route, Sender, Verdict};
 use dmr_data::{Block, Confirmed, Header, Octets, Packet, Rate, Unconfirmed, split_packet};
 use dmr_test_values::DATAGRAM_BLOCK;
 use std::process::Abort;
@@ -50,12 +50,10 @@ fn expect_block(rt: &impl Abort, sender: &mut Sender, octet: u8) {
 }
 
 #[test]
-fn busy_sender(rt: HostRuntime) {
+fn begun_try(rt: HostRuntime) {
     assert!(rt; Sender::new(1).is_idle());
     let mut sender = sender_of(&rt, &one_block(7));
     assert!(rt; !sender.is_idle());
-    let refused = sender.offer(one_block(8), ROUTE);
-    assert!(rt; refused == Err(Busy(one_block(8), ROUTE)));
     assert!(rt; !sender.is_begun());
     expect_preambles(&rt, &mut sender, ROUTE, 1);
     assert!(rt; sender.is_begun());

@@ -1,5 +1,5 @@
-//! Tests of the crates for codes, checks, units of the air, packets, datagrams and files: values from outside, and each public call
-//! once.
+//! Tests of the crates for bits, codes, units of the air, packets, datagrams and files: values from outside, damage and faults.
+//! Most calls on good values stand in dmr_surface_tests, and so does all that is tested of checks and Reed-Solomon words.
 #![tactic(auto)]
 
 #[cfg(test)]

@@ -2,7 +2,6 @@
 mod bits;
 mod bptc;
 mod burst;
-mod checks;
 mod codes;
 mod csbk;
 mod data;
@@ -10,5 +9,4 @@ mod embedded;
 mod ip;
 mod link;
 mod record;
-mod rs;
 mod texts;

@@ -10,23 +10,6 @@ use dmr_gateway::{Gateway, Received};
 use dmr_record::ReceivedKind;
 use std::process::Abort;
 
-#[test]
-fn status_received(rt: HostRuntime) {
-    let mut gateway = gateway(&rt, rt.alloc());
-    let _ = frame(&mut gateway, Some(status(3, 5)));
-    let received = gateway.take_received();
-    assert!(rt;
-        received
-            == Some(Received {
-                slot: 1,
-                kind: ReceivedKind::Status,
-                source: 3,
-                octets: Octets::from_slice(&[1, 2, 0, 5]),
-            })
-    );
-    assert!(rt; gateway.take_received().is_none());
-}
-
 // What came in slot 1 is taken first, and what isn't taken goes when its slot is heard again.
 #[test]
 fn first_slot_first(rt: HostRuntime) {

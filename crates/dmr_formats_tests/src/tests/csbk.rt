@@ -1,7 +1,6 @@
-//! Blocks from outside, and one of each kind that has a view.
-use dmr_bits::Bits;
+//! A block with each field, and both faults.
 use dmr_bptc::bptc_encode;
-use dmr_csbk::{BsDownAct, Csbk, CsbkFault, Preamble, csbk_info, csbk_read};
+use dmr_csbk::{Csbk, CsbkFault, csbk_info, csbk_read};
 
 /// The block of ten zero octets.
 const ZERO: Csbk = Csbk {
@@ -11,12 +10,6 @@ const ZERO: Csbk = Csbk {
     fid: 0,
     body: [0; 8],
 };
-
-#[test]
-fn check_of_zeros(rt: HostRuntime) {
-    let octets: [u8; 12] = csbk_info(&ZERO).octets();
-    assert!(rt; octets == [0, 0, 0, 0, 0, 0, 0, 0, 0, 0, 0x5A, 0x5A]);
-}
 
 #[test]
 fn read_as_written(rt: HostRuntime) {
@@ -45,45 +38,4 @@ fn both_faults(rt: HostRuntime) {
         word.set(at, !bit);
     }
     assert!(rt; csbk_read(&word) == Err(CsbkFault::Bptc));
-}
-
-// The preamble that a gateway sends two bursts before a header and one block: from 1 to 2.
-#[test]
-fn preamble_of_a_packet(rt: HostRuntime) {
-    let message = Bits::<80>::from_octets(&[0xBD, 0, 0x80, 0x03, 0, 0, 2, 0, 0, 1]);
-    let octets: [u8; 10] = message.octets();
-    let preamble = Csbk {
-        last: true,
-        protect: false,
-        code: 61,
-        fid: 0,
-        body: [0x80, 0x03, 0, 0, 2, 0, 0, 1],
-    };
-    let sent: [u8; 12] = csbk_info(&preamble).octets();
-    assert!(rt; sent[..10] == octets[..]);
-    let meaning = Preamble {
-        packet: true,
-        group: false,
-        left: 3,
-        target: 2,
-        source: 1,
-    };
-    assert!(rt; preamble.is_standard());
-    assert!(rt; preamble.preamble() == Some(meaning));
-    assert!(rt; preamble.down_act() == None);
-}
-
-#[test]
-fn activation(rt: HostRuntime) {
-    let csbk = Csbk {
-        code: 56,
-        body: [0xFF, 0xFF, 0, 0, 7, 0x01, 0x02, 0x03],
-        ..ZERO
-    };
-    let meaning = BsDownAct {
-        bs: 7,
-        source: 0x01_02_03,
-    };
-    assert!(rt; csbk.down_act() == Some(meaning));
-    assert!(rt; csbk.preamble() == None);
 }

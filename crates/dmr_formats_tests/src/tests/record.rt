@@ -253,15 +253,6 @@ fn failing_reads(rt: HostRuntime) {
 }
 
 #[test]
-fn downlink_slots(rt: HostRuntime) {
-    let mut written = [0xee; 38];
-    let mut sink = ToWrite::new(&mut written[..]);
-    assert!(rt; write_slot(&mut sink, Some((CACH, BURST))).is_ok());
-    assert!(rt; write_slot(&mut sink, None).is_ok());
-    assert!(rt; written == *b"\x01\x80\x0a\x20abcdefghijklmnopqrstuvwxyz0123456\0");
-}
-
-#[test]
 fn received_records(rt: HostRuntime) {
     for (frame, slot, kind, source, octets, head) in RECEIVED {
         let mut written = [0xee; 270];
