@@ -98,7 +98,7 @@ fn header_on_the_channel(rt: HostRuntime) {
     };
     let (slots, gate) = ([repeated, FREE], [None, None]);
     let mut channel = Channel::new(1, 5);
-    let frame = channel.frame(&slots, &gate);
+    let [first, second] = channel.frame(&slots, &gate);
     let idle = Some(data(data_type::IDLE, &IDLE_BURST));
-    assert!(rt; frame == [header, idle]);
+    assert!(rt; first == header && second == idle);
 }
