@@ -157,7 +157,7 @@ fn repeated_retry(rt: HostRuntime) {
     receiver.header(&header_of(false, 2));
     assert!(rt; receiver.open() == Some(Some(2)));
     assert!(rt; gives_nothing(placed(&mut receiver, packet.blocks.get(0))));
-    let answered = last(&rt, &mut receiver, packet.blocks.get(63));
+    let answered = last(&rt, &mut receiver, packet.blocks.get(1));
     assert!(rt; answered == (answer(Verdict::Ack, 0), false));
 }
 
