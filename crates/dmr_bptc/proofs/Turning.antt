@@ -87,7 +87,7 @@ undone columns old checks long fail holds =
     each a b c d (suc (suc (suc (suc j)))) h = absurd (omega arith)
 
 -- a word within one place is what the bits are corrected to
-corrected_to : (columns : List ℕ) (old new : List Bool)
+pub corrected_to : (columns : List ℕ) (old new : List Bool)
     → ((w : List Bool) → IsWord columns 4 w → 0 < weight w → 3 ≤ weight w) → length old ≡ length columns → IsWord columns 4 new
     → distance new old ≤ 1 → IsCorrected (IsWord columns 4) old new
 corrected_to columns old new least long is near = record {

@@ -1,56 +1,81 @@
--- A burst that was damaged within the limits is heard as what was sent.
-use Rattle.std.proofs.Common.{◌≡◌, ℕ, List, Bool, true, false, Option, Some, None, IfSome, IsTrue, refl, ◌∙◌, arith}
-use Rattle.dmr_bits.specs.Bits.{number_of}
-use Rattle.dmr_burst.specs.Emb.{HasEmb}
-use Rattle.dmr_burst.specs.Layout.{embedded_field}
+-- A burst that is recorded within the limits of damage, and heard by its fields, is heard as what was sent.
+use Rattle.std.proofs.Common.{◌≡◌, ℕ, List, Bool, true, false, length, Option, Some, None, IfSome, IsTrue, refl, sym, ◌∙◌, ap, subst}
+use Rattle.std.proofs.Common.{arith}
+use Rattle.dmr_bits.specs.Bits.{bits_of_octets}
+use Rattle.dmr_bits.proofs.OctetFronts.{length-bits_of_octets}
+use Rattle.dmr_burst.specs.Layout.{information_field}
 use Rattle.dmr_burst.specs.Sync.{HasSync}
-use Rattle.dmr_burst.specs.declared.emb.Emb.{Emb}
+use Rattle.dmr_burst.specs.declared.slot_type.SlotType.{SlotType}
 use Rattle.dmr_burst.specs.declared.sync.Side.TheVariants.{Ms}
 use Rattle.dmr_hearing.specs.DataTypes.{payload_of}
-use Rattle.dmr_hearing.specs.Damage.{Sends, IsSentSlot, IsDamagedData, IsDamagedForeignData, IsDamagedBurst, HasNoMobileSync}
-use Rattle.dmr_hearing.specs.Hearing.{IsHeardData}
+use Rattle.dmr_hearing.specs.Damage.{IsSentSlot, IsDamagedForeignData, IsDamagedBurst, HasNoMobileSync, IsRecordedAs}
+use Rattle.dmr_hearing.specs.Hearing.{IsHeardData, IsHeardBurst, Hears}
 use Rattle.dmr_hearing.specs.Slots.{SentSlot, Silent, Data, VoiceSync, Voice, ForeignVoice, ForeignData, CutOff, IsHeardAs}
 use Rattle.dmr_hearing.specs.declared.heard.DataBurst.{DataBurst}
 use Rattle.dmr_hearing.specs.declared.heard.Heard.{Heard}
-use Rattle.dmr_link.specs.declared.full_lc.FullLc.{FullLc}
+use Rattle.dmr_hearing.proofs.OneField.{one_sync, one_slot_type}
+use Rattle.dmr_hearing.proofs.Payloads.{sent_is_read}
 
--- what the parts of a burst are read as
-pub record IsFound (colour : ℕ) (bits : List Bool) (heard : Heard) : Type 0 where
-  pub within : IfSome heard.data_burst (λ data_burst. IsHeardData colour data_burst bits)
-  pub undone : (kind : ℕ) (information : List Bool) (lc : Option FullLc)
-      → Sends (payload_of kind) information lc → IsDamagedData colour kind information bits
-      → heard.data_burst ≡ Some (record { kind = kind; information = information; link_control = lc })
-  pub foreign : IsDamagedForeignData colour bits → heard.data_burst ≡ None
-  pub voice_data_burst : HasSync (record { side = Ms; voice = true }) bits → heard.data_burst ≡ None
-  pub voice_within : IsTrue heard.voice → HasSync (record { side = Ms; voice = true }) bits
-  pub voice_only : HasSync (record { side = Ms; voice = true }) bits → IsTrue heard.voice
-  pub data_voice : HasSync (record { side = Ms; voice = false }) bits → heard.voice ≡ false
-  pub emb : (emb : Emb) → HasEmb emb bits → heard.emb ≡ Some emb
-  pub embedded : heard.embedded ≡ number_of (embedded_field bits)
+-- ---- what isn't heard
+not_heard : {A : Type 0} (P : A → Type 0) (found : Option A) → IfSome found P → ((a : A) → P a → ⊥) → found ≡ None
+not_heard P None within none = refl
+not_heard P (Some a) within none = absurd (none a within)
 
-no_data_burst : (colour : ℕ) (bits : List Bool) (data_burst : Option DataBurst)
-    → IfSome data_burst (λ found. IsHeardData colour found bits)
-    → HasNoMobileSync bits → data_burst ≡ None
-no_data_burst colour bits None within none = refl
-no_data_burst colour bits (Some data_burst) within none = absurd (let near = within.sync in let far = none.data_sync in omega arith)
+not_so : (b : Bool) → (IsTrue b → ⊥) → b ≡ false
+not_so false none = refl
+not_so true none = absurd (none refl)
 
-no_voice : (bits : List Bool) (voice : Bool) → (IsTrue voice → HasSync (record { side = Ms; voice = true }) bits)
-    → HasNoMobileSync bits → voice ≡ false
-no_voice bits false within none = refl
-no_voice bits true within none = absurd (let near = within refl in let far = none.voice in omega arith)
+one_kind_of_sync : (bits : List Bool) → length bits ≡ 264 → HasSync (record { side = Ms; voice = true }) bits
+    → HasSync (record { side = Ms; voice = false }) bits → ⊥
+one_kind_of_sync bits long voice data_sync = let same : true ≡ false = one_sync bits true false long voice data_sync in cc
 
-pub undone : (sent : SentSlot) (colour : ℕ) (bits : List Bool) (heard : Heard) → IsFound colour bits heard → IsSentSlot colour sent
-    → IsDamagedBurst colour sent bits → IsHeardAs sent heard
-undone Silent colour bits heard found is damaged = absurd damaged
-undone (Data kind information lc) colour bits heard found is damaged =
-    (found.undone kind information lc is damaged, found.data_voice damaged.sync)
-undone VoiceSync colour bits heard found is damaged = (found.voice_data_burst damaged, found.voice_only damaged)
-undone (Voice emb embedded) colour bits heard found is damaged = (found.emb emb damaged.0, found.embedded ∙ damaged.1)
-undone (ForeignVoice emb) colour bits heard found is damaged = (
-  no_data_burst colour bits heard.data_burst found.within damaged.1,
-  no_voice bits heard.voice found.voice_within damaged.1,
-  found.emb emb damaged.0,
-)
-undone ForeignData colour bits heard found is damaged = (found.foreign damaged, found.data_voice damaged.sync)
-undone CutOff colour bits heard found is damaged =
-    (no_data_burst colour bits heard.data_burst found.within damaged, no_voice bits heard.voice found.voice_within damaged)
+-- ---- by what was sent
+module _ (colour : ℕ) (bits : List Bool) (heard : Heard) (long : length bits ≡ 264) (is : IsHeardBurst colour bits heard) where
+  no_voice : HasSync (record { side = Ms; voice = false }) bits → heard.voice ≡ false
+  no_voice has = not_so heard.voice (λ voice. one_kind_of_sync bits long (is.voice.0 voice) has)
+
+  no_data : HasSync (record { side = Ms; voice = true }) bits → heard.data_burst ≡ None
+  no_data has =
+      not_heard (λ (found : DataBurst). IsHeardData colour found bits) heard.data_burst is.data_burst_within
+      (λ found given. one_kind_of_sync bits long has given.sync)
+
+  no_own_data : IsDamagedForeignData colour bits → heard.data_burst ≡ None
+  no_own_data damaged =
+      not_heard (λ (found : DataBurst). IsHeardData colour found bits) heard.data_burst is.data_burst_within
+      (λ found given. damaged.foreign
+      (ap (λ (s : SlotType). s.colour) (one_slot_type bits (record { colour = damaged.other; kind = damaged.kind })
+      (record { colour = colour; kind = found.kind }) long damaged.slot_type given.slot_type)))
+
+  no_sync_no_data : HasNoMobileSync bits → heard.data_burst ≡ None
+  no_sync_no_data none =
+      not_heard (λ (found : DataBurst). IsHeardData colour found bits) heard.data_burst is.data_burst_within
+      (λ found given. let near = given.sync in let far = none.data_sync in omega arith)
+
+  no_sync_no_voice : HasNoMobileSync bits → heard.voice ≡ false
+  no_sync_no_voice none =
+      not_so heard.voice (λ voice. let near = is.voice.0 voice in let far = none.voice in omega arith)
+
+  burst_heard : (sent : SentSlot) → IsSentSlot colour sent → IsDamagedBurst colour sent bits → IsHeardAs sent heard
+  burst_heard Silent sends damaged = absurd damaged
+  burst_heard (Data kind information lc) sends damaged = (
+    is.data_burst_only (record { kind = kind; information = information; link_control = lc }) (record {
+      sync = damaged.sync;
+      slot_type = damaged.slot_type;
+      reads = sent_is_read (payload_of kind) information (information_field bits) lc sends damaged.payload;
+    }),
+    no_voice damaged.sync,
+  )
+  burst_heard VoiceSync sends damaged = (no_data damaged, is.voice.1 damaged)
+  burst_heard (Voice emb embedded) sends damaged = (is.emb_only emb damaged.0, is.embedded ∙ damaged.1)
+  burst_heard (ForeignVoice emb) sends damaged =
+      (no_sync_no_data damaged.1, no_sync_no_voice damaged.1, is.emb_only emb damaged.0)
+  burst_heard ForeignData sends damaged = (no_own_data damaged, no_voice damaged.sync)
+  burst_heard CutOff sends damaged = (no_sync_no_data damaged, no_sync_no_voice damaged)
+
+pub recorded_is_heard : (colour : ℕ) (slot : Option (List ℕ)) (sent : SentSlot) (heard : Heard) → IsRecordedAs colour sent slot
+    → Hears colour slot heard → IsHeardAs sent heard
+recorded_is_heard colour None sent heard recorded hears =
+    subst (λ slot. IsHeardAs slot heard) (sym recorded.damaged) hears
+recorded_is_heard colour (Some octets) sent heard recorded (count, is) =
+    burst_heard colour (bits_of_octets octets) heard (omega (arith, length-bits_of_octets octets, count)) is sent recorded.sent
+    recorded.damaged

@@ -49,4 +49,4 @@ data_burst_fit colour bits (Some data_burst) within = (
 
 pub heard_fit : (colour : ℕ) (slot : Option (List ℕ)) (heard : Heard) → Hears colour slot heard → IsFitHeard heard
 heard_fit colour None heard silent = subst IsFitHeard (sym silent) tt
-heard_fit colour (Some octets) heard is = data_burst_fit colour _ heard.data_burst is.data_burst_within
+heard_fit colour (Some octets) heard is = data_burst_fit colour _ heard.data_burst is.1.data_burst_within

@@ -37,4 +37,4 @@ one_burst colour bits a b p q =
 
 pub one_hearing : (colour : ℕ) (slot : Option (List ℕ)) (a b : Heard) → Hears colour slot a → Hears colour slot b → a ≡ b
 one_hearing colour None a b p q = p ∙ sym q
-one_hearing colour (Some octets) a b p q = one_burst colour (bits_of_octets octets) a b p q
+one_hearing colour (Some octets) a b p q = one_burst colour (bits_of_octets octets) a b p.1 q.1

@@ -1,19 +1,21 @@
 -- Information that is read by what it holds.
 use Rattle.std.proofs.Common.{◌≡◌, ℕ, List, Bool, Option, Some, None, Ok, Err, Result, sym, ap, ◌∙◌, subst, refl}
 use Rattle.dmr_bits.specs.Bits.{octets_of}
-use Rattle.dmr_bptc.specs.Decoding.{IsDecoded, IsDamaged}
-use Rattle.dmr_bptc.specs.ProductWord.{IsProductWord, information as held_by}
-use Rattle.dmr_bptc.proofs.Decoded.{one_decoded, undone as undamaged}
+use Rattle.dmr_bptc.specs.Decoding.{IsDecoded}
+use Rattle.dmr_bptc.proofs.Decoded.{one_decoded, undone}
+use Rattle.dmr_bptc.proofs.Existing.{decoded_somehow}
 use Rattle.dmr_bptc.proofs.Written.{one_written}
 use Rattle.dmr_checks.specs.Sealed.{IsSealed}
 use Rattle.dmr_checks.specs.declared.sealing.Mask.{Mask}
-use Rattle.dmr_hearing.specs.Damage.{IsDamagedPayload}
+use Rattle.dmr_hearing.specs.Damage.{Sends, IsDamagedPayload}
+use Rattle.dmr_hearing.specs.Hearing.{Reads}
 use Rattle.dmr_bptc.specs.ProductWord.{IsWritten}
 use Rattle.dmr_hearing.specs.Reading.{IsReading}
-use Rattle.dmr_hearing.specs.declared.data_types.Payload.TheVariants.{Word, Sealed, LinkControl}
+use Rattle.dmr_hearing.specs.declared.data_types.Payload.{Payload}
+use Rattle.dmr_hearing.specs.declared.data_types.Payload.TheVariants.{Word, Sealed, LinkControl, Raw, Nothing}
 use Rattle.dmr_hearing.specs.declared.heard.DataBurst.{DataBurst}
-use Rattle.dmr_link.specs.Sealed.{IsLc, IsReadLc, IsSealedLc}
-use Rattle.dmr_link.proofs.SealedForms.{same_lc, same_message as same_sealed}
+use Rattle.dmr_link.specs.Sealed.{IsLc, IsReadLc}
+use Rattle.dmr_link.proofs.SealedForms.{near_itself, same_message as same_sealed}
 use Rattle.dmr_link.specs.declared.fault.LcFault.{LcFault}
 use Rattle.dmr_link.specs.declared.full_lc.FullLc.{FullLc}
 use Rattle.dmr_link.specs.declared.sealing.LcUse.{LcUse}
@@ -36,13 +38,6 @@ one_message received a b p q = same_some a b (one_decoded received (Some a) (Som
 pub one_encoded : (m n a b : List Bool) → m ≡ n → IsWritten m a → IsWritten n b → a ≡ b
 one_encoded m n a b e p q = one_written n a b (subst (λ (x : List Bool). IsWritten x a) e p) q
 
--- what decoding answers, of information in a product word
-held : (received information message : List Bool) (result : Option (List Bool)) → IsDecoded received result
-    → IsWritten message information → IsDamagedPayload Word information received
-    → result ≡ Some message
-held received information message result decoded encoded (word, product, same, damaged) =
-    undamaged received word result decoded product damaged ∙ ap Some (same ∙ encoded.holds)
-
 -- ---- a message, encoded anew
 pub record IsMade (kind : ℕ) (message : List Bool) (data_burst : DataBurst) : Type 0 where
   pub kind_is : data_burst.kind ≡ kind
@@ -64,9 +59,6 @@ word_read kind received message data_burst decoded made = record {
   within = (made.kind_is, (message, decoded, made.encoded, made.plain));
   only = λ information lc reads. let (other, decoded', encoded, plain) = reads in
       made_is kind message other information lc data_burst made (one_message received message other decoded decoded') encoded plain;
-  undone = λ information lc sends damaged. let (other, encoded, plain) = sends in
-      made_is kind message other information lc data_burst made (same_some message other
-      (held received information other (Some message) decoded encoded damaged)) encoded plain;
 }
 
 not_some : (a : List Bool) → None ≡ Some a → ⊥
@@ -77,8 +69,6 @@ word_unread kind received decoded = record {
   within = tt;
   only = λ information lc reads. let (other, decoded', encoded, plain) = reads in
       absurd (not_some other (one_decoded received None (Some other) decoded decoded'));
-  undone = λ information lc sends damaged. let (other, encoded, plain) = sends in
-      absurd (not_some other (held received information other None decoded encoded damaged));
 }
 
 -- ---- sealed bits
@@ -90,9 +80,6 @@ sealed_read mask kind received message data_burst decoded sealed made = record {
   within = (made.kind_is, (message, decoded, sealed, made.encoded, made.plain));
   only = λ information lc reads. let (other, decoded', sealed', encoded, plain) = reads in
       made_is kind message other information lc data_burst made (one_message received message other decoded decoded') encoded plain;
-  undone = λ information lc sends damaged. let (other, sealed', encoded, plain) = sends in
-      made_is kind message other information lc data_burst made (same_some message other
-      (held received information other (Some message) decoded encoded damaged)) encoded plain;
 }
 
 pub sealed_unread : (mask : Mask) (kind : ℕ) (received : List Bool) → IsDecoded received None
@@ -101,8 +88,6 @@ sealed_unread mask kind received decoded = record {
   within = tt;
   only = λ information lc reads. let (other, decoded', sealed, encoded, plain) = reads in
       absurd (not_some other (one_decoded received None (Some other) decoded decoded'));
-  undone = λ information lc sends damaged. let (other, sealed, encoded, plain) = sends in
-      absurd (not_some other (held received information other None decoded encoded damaged));
 }
 
 pub unsealed_unread : (mask : Mask) (kind : ℕ) (received message : List Bool) → IsDecoded received (Some message)
@@ -114,27 +99,16 @@ unsealed_unread mask kind received message decoded unsealed =
       within = tt;
       only = λ information lc reads. let (other, decoded', sealed, encoded, plain) = reads in
           absurd (opened other (one_message received other message decoded' decoded) sealed);
-      undone = λ information lc sends damaged. let (other, sealed, encoded, plain) = sends in
-          absurd (opened other (sym (same_some message other
-          (held received information other (Some message) decoded encoded damaged))) sealed);
     }
 
 -- ---- link control
--- the word that was sent holds what seals the link control
-word_holds : (lc_use : LcUse) (sent : FullLc) (message information word : List Bool) → IsLc lc_use sent message
-    → IsWritten message information → held_by word ≡ held_by information
-    → IsLc lc_use sent (held_by word)
-word_holds lc_use sent message information word is encoded same = subst (IsLc lc_use sent) (sym (same ∙ encoded.holds)) is
-
 pub link_control_read : (lc_use : LcUse) (kind : ℕ) (received message information : List Bool) (lc : FullLc)
     → IsReadLc lc_use received lc
     → ((other : FullLc) → IsReadLc lc_use received other → ◌≡◌ {A = Result FullLc LcFault} (Ok lc) (Ok other))
-    → ((word : List Bool) → IsProductWord word → IsDamaged word received → IsSealedLc lc_use (held_by word) → IsLc lc_use lc
-    (held_by word))
     → IsLc lc_use lc message → IsWritten message information
     → IsReading (LinkControl lc_use) kind received
     (Some (record { kind = kind; information = information; link_control = Some lc }))
-link_control_read lc_use kind received message information lc read only undone is encoded =
+link_control_read lc_use kind received message information lc read only is encoded =
     let made : (other : FullLc) (message' information' : List Bool) (control : Option FullLc) → lc ≡ other → IsLc lc_use other
     message' → IsWritten message' information' → control ≡ Some other
     → ◌≡◌ {A = Option DataBurst} (Some (record { kind = kind; information = information; link_control = Some lc }))
@@ -147,11 +121,6 @@ link_control_read lc_use kind received message information lc read only undone i
       within = (refl, (lc, message, read, is, encoded, refl));
       only = λ information' control reads. let (other, message', read', is', encoded', control_is) = reads in
           made other message' information' control (same_ok lc other (only other read')) is' encoded' control_is;
-      undone = λ information' control sends damaged. let (other, message', is', encoded', control_is) = sends in
-          let (word, product, same, near) = damaged in
-          let holds = word_holds lc_use other message' information' word is' encoded' same in
-          made other message' information' control (same_lc lc_use lc other (held_by word)
-          (undone word product near holds.sealed) holds) is' encoded' control_is;
     }
 
 not_ok : (fault : LcFault) (lc : FullLc) → ◌≡◌ {A = Result FullLc LcFault} (Err fault) (Ok lc) → ⊥
@@ -159,13 +128,41 @@ not_ok fault lc e = cc
 
 pub link_control_unread : (lc_use : LcUse) (kind : ℕ) (received : List Bool) (fault : LcFault)
     → ((other : FullLc) → IsReadLc lc_use received other → ◌≡◌ {A = Result FullLc LcFault} (Err fault) (Ok other))
-    → ((word : List Bool) → IsProductWord word → IsDamaged word received → IsSealedLc lc_use (held_by word) → ⊥)
     → IsReading (LinkControl lc_use) kind received None
-link_control_unread lc_use kind received fault only undone = record {
+link_control_unread lc_use kind received fault only = record {
   within = tt;
   only = λ information control reads. let (other, message, read, is, encoded, control_is) = reads in
       absurd (not_ok fault other (only other read));
-  undone = λ information control sends damaged. let (other, message, is, encoded, control_is) = sends in
-      let (word, product, same, near) = damaged in
-      absurd (undone word product near (word_holds lc_use other message information word is encoded same).sealed);
 }
+
+-- ---- what was sent
+-- what decoding gives of a word that was sent, damaged within the limits
+decoded_as : (received information message : List Bool) → IsWritten message information
+    → IsDamagedPayload Word information received → IsDecoded received (Some message)
+decoded_as received information message written (word, product, same, damaged) =
+    let (result, decoded) = decoded_somehow received in
+    subst (IsDecoded received) (undone received word result decoded product damaged ∙ ap Some (same ∙ written.holds)) decoded
+
+-- Information that was sent is read, damaged within the limits.
+pub sent_is_read : (payload : Payload) (information received : List Bool) (lc : Option FullLc) → Sends payload information lc
+    → IsDamagedPayload payload information received → Reads payload received information lc
+sent_is_read Word information received lc (message, written, none) damaged =
+    (message, decoded_as received information message written damaged, written, none)
+sent_is_read (Sealed mask) information received lc (message, sealed, written, none) damaged =
+    (message, decoded_as received information message written damaged, sealed, written, none)
+sent_is_read (LinkControl lc_use) information received lc (sent, message, is, written, some) damaged = (
+  sent,
+  message,
+  record {
+    message = message;
+    sealed = message;
+    decoded = decoded_as received information message written damaged;
+    near = near_itself message;
+    is = is;
+  },
+  is,
+  written,
+  some,
+)
+sent_is_read Raw information received lc (long, none) damaged = (sym damaged, none)
+sent_is_read Nothing information received lc sends damaged = absurd sends

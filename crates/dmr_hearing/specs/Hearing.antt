@@ -1,5 +1,5 @@
 -- What a slot of the uplink is heard as, whatever it holds.
-use Rattle.std.specs.Prelude.{◌≡◌, ℕ, ◌↔◌, Bool, true, false, List, Option, Some, None, IfSome, IsTrue}
+use Rattle.std.specs.Prelude.{◌≡◌, ℕ, ◌↔◌, Bool, true, false, List, length, Option, Some, None, IfSome, IsTrue}
 use Rattle.dmr_bits.specs.Bits.{bits_of_octets, number_of, octets_of}
 use Rattle.dmr_bptc.specs.Decoding.{IsDecoded}
 use Rattle.dmr_bptc.specs.ProductWord.{IsWritten}
@@ -57,7 +57,8 @@ pub record IsHeardBurst (colour : ℕ) (bits : List Bool) (heard : Heard) : Type
   pub embedded : heard.embedded ≡ number_of (embedded_field bits)
   pub vocoder : heard.vocoder ≡ vocoder_field bits
 
--- What a slot is heard as: silence as nothing, and a burst by its fields.
+-- What a slot is heard as: silence as nothing, and a burst of 33 octets by its fields. Those of fewer octets would be too short to
+-- tell one sync word or slot type from another.
 abbrev pub Hears : ℕ → Option (List ℕ) → Heard → Type 0
 Hears colour None heard = heard ≡ silence
-Hears colour (Some octets) heard = IsHeardBurst colour (bits_of_octets octets) heard
+Hears colour (Some octets) heard = (length octets ≡ 33) × IsHeardBurst colour (bits_of_octets octets) heard

@@ -1,6 +1,5 @@
 -- What reading the information of a data burst answers.
 use Rattle.std.specs.Prelude.{◌≡◌, ℕ, Bool, List, Option, Some, IfSome}
-use Rattle.dmr_hearing.specs.Damage.{Sends, IsDamagedPayload}
 use Rattle.dmr_hearing.specs.Hearing.{Reads}
 use Rattle.dmr_hearing.specs.declared.data_types.Payload.{Payload}
 use Rattle.dmr_hearing.specs.declared.heard.DataBurst.{DataBurst}
@@ -13,8 +12,4 @@ pub record IsReading (payload : Payload) (kind : ℕ) (received : List Bool) (re
       × Reads payload received data_burst.information data_burst.link_control)
   -- what can be read so is the data burst
   pub only : (information : List Bool) (lc : Option FullLc) → Reads payload received information lc
-      → result ≡ Some (record { kind = kind; information = information; link_control = lc })
-  -- what was sent is the data burst too, where the damage is within the limits
-  pub undone : (information : List Bool) (lc : Option FullLc) → Sends payload information lc
-      → IsDamagedPayload payload information received
       → result ≡ Some (record { kind = kind; information = information; link_control = lc })

@@ -1,16 +1,14 @@
 //! What a slot of the uplink is heard as.
-ghost use Rattle.std.specs.Prelude.{◌≡◌, ◌≢◌, ℕ, List, Bool, true, false, Option, Some, None, IfSome, option_copied};
+ghost use Rattle.std.specs.Prelude.{◌≡◌, ℕ, List, Bool, Option, Some, IfSome, option_copied};
 ghost use Rattle.dmr_bits.specs.Bits.{bits_of_octets};
 ghost use Rattle.dmr_burst.specs.Layout.{information_field};
 ghost use Rattle.dmr_burst.specs.SlotType.{HasSlotType};
 ghost use Rattle.dmr_burst.specs.Sync.{HasSync};
 ghost use Rattle.dmr_burst.specs.declared.sync.Side.TheVariants as side;
 ghost use Rattle.dmr_hearing.specs.DataTypes.{payload_of as payload};
-ghost use Rattle.dmr_hearing.specs.Damage.{Sends, IsSentSlot, IsRecordedAs};
-ghost use Rattle.dmr_hearing.specs.Damage.{IsDamagedPayload, IsDamagedData, IsDamagedForeignData, IsDamagedBurst};
 ghost use Rattle.dmr_hearing.specs.Fit.{IsFitHeard};
-ghost use Rattle.dmr_hearing.specs.Hearing.{Reads, IsHeardData, IsHeardBurst, Hears};
-ghost use Rattle.dmr_hearing.specs.Slots.{SentSlot, IsHeardAs, silence as silence_heard};
+ghost use Rattle.dmr_hearing.specs.Hearing.{Reads, IsHeardData, Hears};
+ghost use Rattle.dmr_hearing.specs.Slots.{silence as silence_heard};
 ghost use Rattle.dmr_hearing.specs.declared.heard.DataBurst.{DataBurst};
 ghost use Rattle.dmr_link.specs.declared.full_lc.FullLc.{FullLc};
 
@@ -24,11 +22,10 @@ use dmr_burst::{
 /// What a slot of the uplink is heard as by a repeater of a colour code below 16: silence as nothing, and a burst by its
 /// fields, what is wrong within the reach of a code or a sync word undone. Only the sync words of mobile stations count
 /// (this project's own). A data burst of another colour code is no data burst; an EMB is heard of any colour code.
+/// What was sent is heard where the damage is within the limits: `laws::recorded_is_heard`.
 pub fn hear(slot: Option<&[u8; 33]>, colour: u8) -> Heard
-    // Each part is heard exactly where the burst has it,
+    // Each part is heard exactly where the burst has it.
     ensures heard { Hears colour (option_copied slot.entry) result }
-    // and what was sent is heard where the damage is within the limits.
-    ensures damaged { (sent : SentSlot) → IsRecordedAs colour sent (option_copied slot.entry) → IsHeardAs sent result }
     // What is read fits its fields.
     ensures fit { IsFitHeard result }
 {
@@ -53,9 +50,7 @@ pub fn silence() -> Heard
 
 /// What a burst is heard as.
 fn hear_burst(burst: &[u8; 33], colour: u8) -> Heard
-    ensures heard { IsHeardBurst colour (bits_of_octets burst.now) result }
-    ensures damaged { (sent : SentSlot) → IsSentSlot colour sent → IsDamagedBurst colour sent (bits_of_octets burst.now)
-        → IsHeardAs sent result }
+    ensures heard { Hears colour (Some burst.now) result }
 {
     let sync = read_mobile_sync(burst);
     Heard {
@@ -74,11 +69,6 @@ fn hear_data_burst(burst: &[u8; 33], sync: Option<bool>, colour: u8) -> Option<D
         → sync ≡ Some voice }
     ensures within { IfSome result (λ data_burst. IsHeardData colour data_burst (bits_of_octets burst.now)) }
     ensures only { (data_burst : DataBurst) → IsHeardData colour data_burst (bits_of_octets burst.now) → result ≡ Some data_burst }
-    ensures undone { (kind : ℕ) (information : List Bool) (lc : Option FullLc) → Sends (payload kind) information lc
-        → IsDamagedData colour kind information (bits_of_octets burst.now)
-        → result ≡ Some (record { kind = kind; information = information; link_control = lc }) }
-    ensures foreign { IsDamagedForeignData colour (bits_of_octets burst.now) → result ≡ None }
-    ensures voice { HasSync (record { side = side.Ms; voice = true }) (bits_of_octets burst.now) → result ≡ None }
 {
     match sync {
         Some(true) => None,
@@ -97,12 +87,6 @@ fn own_data_burst(burst: &[u8; 33], colour: u8) -> Option<DataBurst>
         → HasSlotType (record { colour = colour; kind = kind }) (bits_of_octets burst.now)
         → Reads (payload kind) (information_field (bits_of_octets burst.now)) information lc
         → result ≡ Some (record { kind = kind; information = information; link_control = lc }) }
-    ensures undone { (kind : ℕ) (information : List Bool) (lc : Option FullLc)
-        → HasSlotType (record { colour = colour; kind = kind }) (bits_of_octets burst.now) → Sends (payload kind) information lc
-        → IsDamagedPayload (payload kind) information (information_field (bits_of_octets burst.now))
-        → result ≡ Some (record { kind = kind; information = information; link_control = lc }) }
-    ensures foreign { (other kind : ℕ) → other ≢ colour
-        → HasSlotType (record { colour = other; kind = kind }) (bits_of_octets burst.now) → result ≡ None }
 {
     let Some(slot_type) = read_slot_type(burst) else {
         return None;

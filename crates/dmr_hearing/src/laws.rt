@@ -8,7 +8,7 @@ ghost use Rattle.dmr_burst.specs.declared.sync.Side.TheVariants as side;
 ghost use Rattle.dmr_hearing.specs.Damage.{IsSentSlot, IsRecordedAs, HasNoMobileSync};
 ghost use Rattle.dmr_hearing.specs.Hearing.{Hears};
 ghost use Rattle.dmr_hearing.specs.Recorded.{IsSilenceOr33Octets, IsHearing};
-ghost use Rattle.dmr_hearing.specs.Slots.{SentSlot, Data, VoiceSync, Voice, ForeignVoice, ForeignData};
+ghost use Rattle.dmr_hearing.specs.Slots.{SentSlot, Data, VoiceSync, Voice, ForeignVoice, ForeignData, IsHeardAs};
 ghost use Rattle.dmr_hearing.specs.declared.heard.Heard.{Heard};
 ghost use Rattle.dmr_link.specs.declared.full_lc.FullLc.{FullLc};
 
@@ -38,6 +38,12 @@ pub fn sent_is_recorded()
         → IsSentSlot colour (ForeignVoice emb) → HasNoMobileSync (bits_of_octets octets)
         → IsEncoding (burst.Voice emb embedded vocoder) side.Ms (bits_of_octets octets)
         → IsRecordedAs colour (ForeignVoice emb) (Some octets) }
+{}
+
+/// What is recorded within the limits of damage, and heard by its fields, is heard as what was sent.
+pub fn recorded_is_heard()
+    ensures law { (colour : ℕ) (slot : Option (List ℕ)) (sent : SentSlot) (heard : Heard) → IsRecordedAs colour sent slot
+        → Hears colour slot heard → IsHeardAs sent heard }
 {}
 
 /// A slot that is a recording of two things that may be sent can be heard as both: they ask for nothing that excludes the other.

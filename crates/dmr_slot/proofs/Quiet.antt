@@ -6,7 +6,6 @@ use Rattle.std.proofs.lemmas.List.{replicate-append-replicate}
 use Rattle.dmr_hearing.specs.Hearing.{Hears}
 use Rattle.dmr_hearing.specs.Slots.{silence}
 use Rattle.dmr_hearing.specs.declared.heard.Heard.{Heard}
-use Rattle.dmr_hearing.proofs.HeardAsBoth.{silent as quiet_sent}
 use Rattle.dmr_link.specs.declared.full_lc.FullLc.{FullLc}
 use Rattle.dmr_voice.specs.CallRules.{step_of, nothing_repeated}
 use Rattle.dmr_voice.specs.declared.place.Place.TheVariants.{A, B, C, D, E, F}
@@ -111,7 +110,7 @@ push_of_silence : (colour call_hang : ℕ) (lc : Option FullLc) → Stays colour
 push_of_silence colour call_hang lc = record {
   heard = silence;
   carried = None;
-  hears = record { by_fields = refl; damaged = quiet_sent colour };
+  hears = refl;
   carries = record { read = λ c. absurd (cc (c)); nothing = λ c. refl };
   gives = refl;
   remembers = refl;

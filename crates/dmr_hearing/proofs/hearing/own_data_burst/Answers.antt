@@ -1,4 +1,3 @@
-use Rattle.std.proofs.Common.{sym, ◌∙◌}
 use Rattle.dmr_bits.specs.Bits.{bits_of_octets}
 use Rattle.dmr_burst.specs.Layout.{information_field}
 use Rattle.dmr_hearing.proofs.SlotTypes.{no_slot_type, found_colour, reading_of}
@@ -9,18 +8,8 @@ returns-in_default-clause-only c = λ kind information lc has reads.
     absurd (no_slot_type (record { colour = c.args.colour; kind = kind }) (bits_of_octets c.args.burst.now)
     c.in_default.ensures.only has)
 
-pub returns-in_default-clause-undone : goal.returns-in_default-clause-undone
-returns-in_default-clause-undone c = λ kind information lc has sends damaged.
-    absurd (no_slot_type (record { colour = c.args.colour; kind = kind }) (bits_of_octets c.args.burst.now)
-    c.in_default.ensures.only has)
-
 pub returns-then-slot_type-colour-clause-only : goal.returns-then-slot_type-colour-clause-only
 returns-then-slot_type-colour-clause-only c = λ kind information lc has reads.
-    absurd (c.if-slot_type-colour.true (found_colour c.in-Some.slot_type c.args.colour kind (bits_of_octets c.args.burst.now)
-    c.in-Some.ensures.only has))
-
-pub returns-then-slot_type-colour-clause-undone : goal.returns-then-slot_type-colour-clause-undone
-returns-then-slot_type-colour-clause-undone c = λ kind information lc has sends damaged.
     absurd (c.if-slot_type-colour.true (found_colour c.in-Some.slot_type c.args.colour kind (bits_of_octets c.args.burst.now)
     c.in-Some.ensures.only has))
 
@@ -30,15 +19,3 @@ returns-clause-only c = λ kind information lc has.
     (reading_of c.in-Some.slot_type c.args.colour kind bits c.read_info.result (information_field bits)
     c.read_data_burst.result c.in-Some.ensures.only has
     c.read_info.ensures.value c.read_data_burst.ensures.reading).only information lc
-
-pub returns-clause-undone : goal.returns-clause-undone
-returns-clause-undone c = λ kind information lc has.
-    let bits = bits_of_octets c.args.burst.now in
-    (reading_of c.in-Some.slot_type c.args.colour kind bits c.read_info.result (information_field bits)
-    c.read_data_burst.result c.in-Some.ensures.only has
-    c.read_info.ensures.value c.read_data_burst.ensures.reading).undone information lc
-
-pub returns-clause-foreign : goal.returns-clause-foreign
-returns-clause-foreign c = λ other kind foreign has.
-    absurd (foreign (sym (found_colour c.in-Some.slot_type other kind (bits_of_octets c.args.burst.now) c.in-Some.ensures.only
-    has) ∙ c.if-slot_type-colour.false))

@@ -68,7 +68,7 @@ returns-clause-pushed c =
       colour_is = c.self.invariant.0.same;
       state_is = refl;
       window_is = c.places.ensures.value ∙ c.move_on.ensures.moved;
-      hears = record { by_fields = c.hear-heard.ensures.heard; damaged = c.hear-heard.ensures.damaged };
+      hears = c.hear-heard.ensures.heard;
       says = c.step-decided.ensures.out;
       steps = c.step-decided.ensures.state;
       gives = c.slot_out-out.ensures.out;

@@ -1,0 +1,109 @@
+-- Any bits are decoded somehow: there is what they are decoded to.
+use Rattle.std.proofs.Common.{◌≡◌, ℕ, ◌+◌, ◌-◌, ◌*◌, ◌/◌, ◌%◌, ◌≤◌, ◌<◌, ◌⊎◌, Bool, false, List, length, map, get_or, refl, sym}
+use Rattle.std.proofs.Common.{◌∙◌, ap, subst, arith, inl, inr, Option, Some, None}
+use Rattle.std.specs.List.{range_with_len}
+use Rattle.std.proofs.lemmas.List.FromFn.{get_or-map-range_with_len}
+use Rattle.dmr_bits.specs.Bits.{weight}
+use Rattle.dmr_codes.proofs.Searching.{Decided, near_or_beyond, word_or_not, all_or_one}
+use Rattle.dmr_codes.specs.Code.{IsWord}
+use Rattle.dmr_codes.specs.LeastColumns.{least_three}
+use Rattle.dmr_codes.specs.Seven.{IsHamming13, IsHamming15, hamming13_columns, hamming15_columns, hamming13_shaped, hamming15_shaped}
+use Rattle.dmr_bptc.specs.Decoding.{IsCorrected, IsDecoded}
+use Rattle.dmr_bptc.specs.ProductWord.{place, cell, row, column, IsProductWord, information}
+use Rattle.dmr_bptc.proofs.Cells.{length-row, length-column, row_from, column_from, unplace, place_below}
+use Rattle.dmr_bptc.proofs.Turning.{corrected_to}
+
+-- ---- one row or column
+-- What a row or a column may be corrected to.
+record IsLine (columns : List ℕ) (old new : List Bool) : Type 0 where
+  long : length new ≡ length columns
+  corrected : IsCorrected (IsWord columns 4) old new
+
+line_somehow : (columns : List ℕ) (old : List Bool) → ((w : List Bool) → IsWord columns 4 w → 0 < weight w → 3 ≤ weight w)
+    → length old ≡ length columns → (new : List Bool) × IsLine columns old new
+line_somehow columns old least long =
+    elim (near_or_beyond columns 4 old) [
+      | inl found ↦
+          (let (new, near) = found in
+          (new, record { long = near.is.long; corrected = corrected_to columns old new least long near.is near.near }))
+      | inr beyond ↦ (
+        old,
+        record {
+          long = long;
+          corrected =
+              record { word = λ w is near. (let far = beyond w is in absurd (omega arith)); same = λ none. refl };
+        },
+      )
+    ]
+
+-- ---- a table of given cells
+-- The bit of a place, from the cells.
+abbrev bit_at : (ℕ → ℕ → Bool) → ℕ → Bool
+bit_at cells i = cells ((13 * i % 196 - 1) / 15) ((13 * i % 196 - 1) % 15)
+
+-- The bits of a table with these cells.
+abbrev table_of : (ℕ → ℕ → Bool) → List Bool
+table_of cells = map (bit_at cells) (range_with_len 0 196)
+
+cell_of_table : (cells : ℕ → ℕ → Bool) (r c : ℕ) → r < 13 → c < 15 → cell (table_of cells) r c ≡ cells r c
+cell_of_table cells r c h l =
+    let number : 13 * place r c % 196 ≡ 1 + 15 * r + c = unplace (1 + 15 * r + c) (omega arith) in
+    let line : (1 + 15 * r + c - 1) / 15 ≡ r = omega arith in
+    let across : (1 + 15 * r + c - 1) % 15 ≡ c = omega arith in
+    get_or-map-range_with_len (bit_at cells) 0 196 (place r c) (place r c) false (place_below r c) (omega arith)
+    ∙ ap (λ n. cells ((n - 1) / 15) ((n - 1) % 15)) number
+    ∙ ap (λ n. cells n ((1 + 15 * r + c - 1) % 15)) line
+    ∙ ap (cells r) across
+
+-- ---- all columns, and then all rows
+columns_somehow : (bits : List Bool)
+    → (table : List Bool) × ((c : ℕ) → c < 15 → IsCorrected IsHamming13 (column bits c) (column table c))
+columns_somehow bits =
+    let found : (c : ℕ) → (new : List Bool) × IsLine hamming13_columns (column bits c) new =
+    λ c. line_somehow hamming13_columns (column bits c) (least_three 13 9 hamming13_columns hamming13_shaped refl refl)
+    (length-column bits c) in
+    let cells : ℕ → ℕ → Bool = λ r c. get_or (found c).0 r false in (
+      table_of cells,
+      λ c h. subst (IsCorrected IsHamming13 (column bits c))
+          (column_from (table_of cells) (found c).0 c (found c).1.long (λ r l. sym (cell_of_table cells r c l h)))
+          (found c).1.corrected,
+    )
+
+rows_somehow : (bits : List Bool)
+    → (table : List Bool) × ((r : ℕ) → r < 13 → IsCorrected IsHamming15 (row bits r) (row table r))
+rows_somehow bits =
+    let found : (r : ℕ) → (new : List Bool) × IsLine hamming15_columns (row bits r) new =
+    λ r. line_somehow hamming15_columns (row bits r) (least_three 15 11 hamming15_columns hamming15_shaped refl refl)
+    (length-row bits r) in
+    let cells : ℕ → ℕ → Bool = λ r c. get_or (found r).0 c false in (
+      table_of cells,
+      λ r h. subst (IsCorrected IsHamming15 (row bits r))
+          (row_from (table_of cells) (found r).0 r (found r).1.long (λ c l. sym (cell_of_table cells r c h l)))
+          (found r).1.corrected,
+    )
+
+-- ---- what they hold
+product_or_not : (bits : List Bool) → Decided (IsProductWord bits)
+product_or_not bits =
+    elim (all_or_one 13 (λ r. IsHamming15 (row bits r)) (λ r. IsHamming15 (row bits r) → ⊥)
+    (λ r. word_or_not hamming15_columns 4 (row bits r))) [
+      | inl rows ↦
+          elim (all_or_one 15 (λ c. IsHamming13 (column bits c)) (λ c. IsHamming13 (column bits c) → ⊥)
+          (λ c. word_or_not hamming13_columns 4 (column bits c))) [
+            | inl columns ↦ inl (record { rows = rows; columns = columns })
+            | inr one ↦ (let (c, h, none) = one in inr (λ is. none (is.columns c h)))
+          ]
+      | inr one ↦ (let (r, h, none) = one in inr (λ is. none (is.rows r h)))
+    ]
+
+pub decoded_somehow : (bits : List Bool) → (result : Option (List Bool)) × IsDecoded bits result
+decoded_somehow bits =
+    let (middle, columns) = columns_somehow bits in
+    let (last, rows) = rows_somehow middle in
+    elim (product_or_not last) [
+      | inl product ↦ (
+        Some (information last),
+        record { middle = middle; last = last; columns = columns; rows = rows; outcome = (product, refl) },
+      )
+      | inr none ↦ (None, record { middle = middle; last = last; columns = columns; rows = rows; outcome = none })
+    ]
