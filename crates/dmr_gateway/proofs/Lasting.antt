@@ -121,7 +121,7 @@ carries_within limit llid b earlier a k s e =
       | inr stood ↦ (let w = k.within a stood.0 in let lt = w.0 in omega (arith, lt), let le = stood.1 in omega (arith, le))
     ]
 
-carries : (limit llid : ℕ) (frames : List Brings) → Carries limit llid frames
+pub carries : (limit llid : ℕ) (frames : List Brings) → Carries limit llid frames
 carries limit llid [] = record { fits = tt; kept = refl; within = λ a e. cc }
 carries limit llid (b ∷ earlier) =
     let k : Carries limit llid earlier = carries limit llid earlier in

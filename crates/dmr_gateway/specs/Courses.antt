@@ -1,8 +1,12 @@
--- How long each attempt of a slot stands: until all its bursts are out, or it is cut or replaced.
-use Rattle.std.specs.Prelude.{◌≡◌, ℕ, ◌+◌, ◌<◌, ◌≤◌, ◌==◌, ◌⊎◌, Bool, true, false, List, [], ◌∷◌, length, Option, Some, None}
-use Rattle.std.specs.Prelude.{is_some, unwrap_or, slice_get}
+-- How long each attempt of a slot stands: until all its bursts are out, or it is cut or replaced. Which goes first, and how many
+-- tries a packet has.
+use Rattle.std.specs.Prelude.{◌≡◌, ℕ, ◌+◌, ◌<◌, ◌≤◌, ◌==◌, ◌⊎◌, Bool, true, false, not, ◌&&◌, List, [], ◌∷◌, length, Option, Some}
+use Rattle.std.specs.Prelude.{None, is_some, unwrap_or, slice_get}
 use Rattle.std.specs.Prelude.{if◌then◌else◌}
 use Rattle.std.specs.List.{AllByRecursion}
+use Rattle.std.specs.Option.{option_or}
+use Rattle.dmr_gateway.specs.Answers.{flag_count}
+use Rattle.dmr_gateway.specs.declared.answers.Due.{Due}
 use Rattle.dmr_gateway.specs.declared.outbox.SlotBurst.{SlotBurst}
 use Rattle.dmr_gateway.specs.AttemptMeaning.{AnswerOrTry, Answers, Tries, Attempt, Stage, Ready, Begun, Awaits, Hand, Ledger}
 use Rattle.dmr_gateway.specs.AttemptMeaning.{Brings}
@@ -102,3 +106,49 @@ pub record AreAttempts (limit llid : ℕ) (frames : List Brings) : Type 0 where
 -- Whatever frames bring, with whatever LLID and room in the queue, attempts have their courses in them.
 abbrev pub AttemptsStand : Type 0
 AttemptsStand = (limit llid : ℕ) (frames : List Brings) → AreAttempts limit llid frames
+
+-- 5. An answer goes before a try.
+
+-- A try of a packet begins in this frame: it stands in it, and it is its first frame.
+abbrev pub begins_try : ℕ → Option Attempt → Bool
+begins_try f None = false
+begins_try f (Some a) = not (is_answer a.what) && (a.first == f)
+
+-- The last burst of an answer goes out in this frame, of what stands in it.
+abbrev pub ends_answer : ℕ → Option Attempt → Bool
+ends_answer f None = false
+ends_answer f (Some a) = ends a.what
+  where
+    -- An answer ends with the last of its flags, or with its header where it has none.
+    ends : AnswerOrTry → Bool
+    ends (Answers due) = a.first + flag_count due == f
+    ends (Tries packet route number selection) = false
+
+-- The answer that is still owed after these frames: the one that was due last, until its last burst is out.
+abbrev pub owed_after : ℕ → ℕ → List Brings → Option Due
+owed_after limit llid [] = None
+owed_after limit llid (newest ∷ earlier) =
+    if ends_answer (length earlier) (attempts limit llid (newest ∷ earlier)).stands then None
+    else option_or newest.due (owed_after limit llid earlier)
+
+-- In a frame in which a try begins, no answer is due, and none is still owed.
+abbrev pub AnswersGoFirst : Type 0
+AnswersGoFirst =
+    (limit llid : ℕ) (newest : Brings) (earlier : List Brings) →
+    begins_try (length earlier) (attempts limit llid (newest ∷ earlier)).stands ≡ true →
+    option_or newest.due (owed_after limit llid earlier) ≡ None
+
+-- 6. Four tries.
+
+-- How many tries have begun since it was last told what became of a packet, from the frame on in which it was told; in all frames
+-- where it never was. One packet is in hand until it is told what became of it, so that its tries are among these.
+abbrev pub tries_since_told : ℕ → ℕ → List Brings → ℕ
+tries_since_told limit llid [] = 0
+tries_since_told limit llid (newest ∷ earlier) =
+    let now = attempts limit llid (newest ∷ earlier) in
+    (if begins_try (length earlier) now.stands then 1 else 0)
+    + (if is_some now.ledger.outcome then 0 else tries_since_told limit llid earlier)
+
+-- Whatever frames bring, no packet has a fifth try.
+abbrev pub HasFourTries : Type 0
+HasFourTries = (limit llid : ℕ) (frames : List Brings) → tries_since_told limit llid frames ≤ 4
