@@ -13,4 +13,4 @@ mod views;
 
 pub use block::{Csbk, csbk_info, csbk_read};
 pub use fault::CsbkFault;
-pub use views::{BsDownAct, DOWN_ACT, PREAMBLE, Preamble};
+pub use views::{BsDownAct, PREAMBLE, Preamble};

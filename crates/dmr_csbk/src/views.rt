@@ -6,7 +6,7 @@ use crate::block::Csbk;
 use dmr_bits::Bits;
 
 /// The opcode of BS_Dwn_Act, by which a radio asks a base station to transmit (ETSI TS 102 361-2, clause 7.1.2).
-pub const DOWN_ACT: u8 = 56;
+const DOWN_ACT: u8 = 56;
 
 /// The opcode of the preamble, which announces blocks that follow (ETSI TS 102 361-2, clause 7.1.2).
 pub const PREAMBLE: u8 = 61;

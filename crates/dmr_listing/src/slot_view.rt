@@ -79,7 +79,7 @@ impl SlotView {
     }
 
     /// The slot is silent in the next frame, which has no line.
-    pub fn pass(&mut self)
+    pub(crate) fn pass(&mut self)
         ensures past { self.new ≡ passed self.old }
     {
         self.places.next(None);

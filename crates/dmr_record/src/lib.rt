@@ -23,7 +23,7 @@ mod transfer;
 mod uplink;
 
 pub use device::{DeviceFault, FromRead, Sink, Source, ToWrite};
-pub use dmr_octets::{DATAGRAM_LIMIT, Octets};
+pub use dmr_octets::Octets;
 pub use downlink::{SLOT_LIMIT, read_slot, write_slot};
 pub use fault::RecordFault;
 pub use head::{

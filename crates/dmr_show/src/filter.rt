@@ -29,7 +29,7 @@ impl Filter {
     }
 
     /// Whether what stands in a place has a line.
-    pub fn passes(&self, place: Place) -> bool
+    pub(crate) fn passes(&self, place: Place) -> bool
         ensures passes { IsTrue result ↔ Passes self.now place }
         ensures value { result ≡ lets_pass self.now place }
     {
