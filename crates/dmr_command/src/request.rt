@@ -1,16 +1,25 @@
 //! What the words of a command line ask for.
-ghost use Rattle.std.specs.Prelude.{◌≡◌, option_map};
+ghost use Rattle.std.specs.Prelude.{◌≡◌, Some, codes, option_map};
 ghost use Rattle.clap.specs.Words.{found_of};
-ghost use Rattle.dmr_command.specs.Request.{ArePlacesOf, AreSettingsOf, IsAskedBy, IsPlaceOf};
+ghost use Rattle.dmr_command.specs.Request.{ArePlacesOf, AreSettingsOf, IsAskedBy, IsPlaceIfGiven, IsPlaceOf};
 ghost use Rattle.dmr_options.specs.Found.{IsNumberOf};
 
 use crate::places::Places;
 use clap::{ArgMatches, Error};
 use dmr_files::Place;
 use dmr_gateway::{Config, ConfigFault};
-use dmr_options::{repeating_commands, text_of};
+use dmr_options::{given_text_of, repeating_commands, text_of};
 use std::alloc::Global;
 use std::convert::AsStr;
+
+/// A standard stream that two files of a run would share.
+#[derive(Clone, Copy, Debug, PartialEq, Eq)]
+pub enum SharedStream {
+    /// Standard input, as the uplink and the outgoing list.
+    Input,
+    /// Standard output, as the downlink and the received file.
+    Output,
+}
 
 /// What the words of a command line ask for.
 #[derive(Clone, Copy)]
@@ -22,15 +31,27 @@ pub enum Request<'a> {
         config: Result<Config, ConfigFault>,
         places: Places<'a>,
     },
+    /// A run two files of which would be one standard stream.
+    Shared(SharedStream),
     /// A command that another program has, by its name.
     Elsewhere(&'a str),
 }
 
-/// The place that an option of `run` names, which requires each.
+/// The place that an option of `run` names, which is required.
 fn place_of<'a>(run: &ArgMatches<'a>, option: &str) -> Place<'a>
     ensures place { IsPlaceOf (found_of run.now) option.now result }
 {
     Place::named(text_of(run, option))
+}
+
+/// The place that an option of `run` names, where it is given.
+fn place_if_given<'a>(run: &ArgMatches<'a>, option: &str) -> Option<Place<'a>>
+    ensures place { IsPlaceIfGiven (found_of run.now) option.now result }
+{
+    match given_text_of(run, option) {
+        Some(name) => Some(Place::named(name)),
+        None => None,
+    }
 }
 
 /// Where a command line of `run` has its files.
@@ -39,9 +60,9 @@ fn places_of<'a>(run: &ArgMatches<'a>) -> Places<'a>
 {
     Places {
         uplink: place_of(run, "uplink"),
-        outgoing: place_of(run, "outgoing"),
+        outgoing: place_if_given(run, "outgoing"),
         downlink: place_of(run, "downlink"),
-        received: place_of(run, "received"),
+        received: place_if_given(run, "received"),
     }
 }
 
@@ -88,15 +109,29 @@ fn config_of(run: &ArgMatches<'_>) -> Result<Config, ConfigFault>
     )
 }
 
+/// What a command line of `run` asks for.
+fn run_request<'a>(run: &ArgMatches<'a>) -> Request<'a>
+    ensures asked { IsAskedBy (Some (record { 0 = codes "run"; 1 = found_of run.now })) result }
+{
+    let places = places_of(run);
+    if places.share_input() {
+        return Request::Shared(SharedStream::Input);
+    }
+    if places.share_output() {
+        return Request::Shared(SharedStream::Output);
+    }
+    Request::Run {
+        config: config_of(run),
+        places,
+    }
+}
+
 /// What a command with its options asks for.
 pub(crate) fn request_by<'a>(command: Option<(&'a str, &ArgMatches<'a>)>) -> Request<'a>
     ensures asked { IsAskedBy (option_map (λ c. (c.0.now, found_of c.1.now)) command.entry) result }
 {
     match command {
-        Some(("run", run)) => Request::Run {
-            config: config_of(run),
-            places: places_of(run),
-        },
+        Some(("run", run)) => run_request(run),
         Some(("slot", slot)) => Request::Slot(text_of(slot, "burst")),
         Some((name, _)) => Request::Elsewhere(name),
         // Not reached, since a command is required. No burst has no digits.

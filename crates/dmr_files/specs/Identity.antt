@@ -20,6 +20,10 @@ is_regular Regular = true
 is_regular Device = false
 is_regular Other = false
 
+-- more of a file may come while it is read
+abbrev pub is_live : Identity → Bool
+is_live file = not (is_regular file.kind)
+
 -- an output that is this file gets into the other
 abbrev pub clashes : Identity → Identity → Bool
 clashes output other = not (is_device output.kind) && is_one_file output other

@@ -1,5 +1,5 @@
 -- How places are written on a command line.
-use Rattle.std.specs.Prelude.{◌≡◌, List, ℕ, codes}
+use Rattle.std.specs.Prelude.{◌≡◌, List, ℕ, Bool, true, false, codes}
 use Rattle.dmr_files.specs.declared.place.Place.{Place}
 use Rattle.dmr_files.specs.declared.place.Place.TheVariants.{Standard, Path}
 
@@ -11,3 +11,8 @@ IsStandardName name = name ≡ codes "-"
 abbrev pub IsNamed : List ℕ → Place → Type 0
 IsNamed name Standard = IsStandardName name
 IsNamed name (Path path) = (IsStandardName name → ⊥) × (path.now ≡ name)
+
+-- A place is a standard stream's.
+abbrev pub is_standard : Place → Bool
+is_standard Standard = true
+is_standard (Path path) = false

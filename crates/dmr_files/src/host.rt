@@ -3,7 +3,7 @@ use crate::identity::{FileKind, Identity};
 use crate::place::Place;
 use crate::system::{Open, StandardFiles, System};
 use std::fs::{self, File, FileType, Metadata, OpenOptions};
-use std::io::{self, Read, Stdin, Stdout, Write};
+use std::io::{self, IsTerminal, Read, Stdin, Stdout, Write};
 use std::os::unix::fs::{FileTypeExt, MetadataExt};
 
 /// The paths at which a system has the files behind its standard streams.
@@ -155,6 +155,10 @@ impl System for HostRuntime {
             output: standard_file(self, STANDARD_OUTPUT),
             error: standard_file(self, STANDARD_ERROR),
         }
+    }
+
+    fn prints_to_terminal(&self) -> bool {
+        self.stdout().is_terminal()
     }
 }
 

@@ -1,6 +1,6 @@
 //! Which file a file is, whatever its name.
 ghost use Rattle.std.specs.Prelude.{◌≡◌};
-ghost use Rattle.dmr_files.specs.Identity.{clashes, is_behind, is_one_file};
+ghost use Rattle.dmr_files.specs.Identity.{clashes, is_behind, is_live, is_one_file};
 
 /// What a file is, as far as it matters whether two may write to it.
 #[derive(Clone, Copy, Debug, Drop, PartialEq, Eq)]
@@ -27,6 +27,13 @@ impl Identity {
         ensures one { result ≡ is_one_file self.now other.now }
     {
         self.device == other.device && self.number == other.number
+    }
+
+    /// Whether more of this file may come while it is read: it is a pipe, say, and no regular file.
+    pub fn is_live(&self) -> bool
+        ensures live { result ≡ is_live self.now }
+    {
+        self.kind != FileKind::Regular
     }
 
     /// Whether what is written to this file would get into the other. Any number may write to a device.

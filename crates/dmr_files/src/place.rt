@@ -1,5 +1,6 @@
 //! Where files are.
-ghost use Rattle.dmr_files.specs.Place.{IsNamed};
+ghost use Rattle.std.specs.Prelude.{◌≡◌};
+ghost use Rattle.dmr_files.specs.Place.{IsNamed, is_standard};
 
 /// Where a file is.
 #[derive(Clone, Copy)]
@@ -18,6 +19,16 @@ impl<'a> Place<'a> {
         match name {
             "-" => Place::Standard,
             path => Place::Path(path),
+        }
+    }
+
+    /// Whether it is a standard stream.
+    pub fn is_standard(&self) -> bool
+        ensures standard { result ≡ is_standard self.now }
+    {
+        match self {
+            Place::Standard => true,
+            Place::Path(_) => false,
         }
     }
 }

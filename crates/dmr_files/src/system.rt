@@ -35,4 +35,7 @@ pub trait System {
 
     /// The files behind the standard streams.
     fn standard_files(&self) -> StandardFiles;
+
+    /// Whether standard output is a terminal.
+    fn prints_to_terminal(&self) -> bool;
 }

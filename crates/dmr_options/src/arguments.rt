@@ -3,13 +3,12 @@
 use clap::{Arg, ArgAction, value_parser};
 use std::alloc::Global;
 
-/// An option that takes the path of a file, and is required.
-pub fn file<'a>(alloc: Global, name: &'a str, help: &'a str) -> Arg<'a> {
+/// An option that takes the path of a file.
+pub(crate) fn file<'a>(alloc: Global, name: &'a str, help: &'a str) -> Arg<'a> {
     Arg::new(alloc, name)
         .long(name)
         .value_name("FILE")
         .help(help)
-        .required(true)
         .action(ArgAction::Set)
 }
 

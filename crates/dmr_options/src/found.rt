@@ -1,6 +1,6 @@
 //! What a command line gives for an option.
-ghost use Rattle.std.specs.Prelude.{◌≡◌};
-ghost use Rattle.clap.specs.Words.{found_of};
+ghost use Rattle.std.specs.Prelude.{◌≡◌, option_map};
+ghost use Rattle.clap.specs.Words.{first_value, found_of};
 ghost use Rattle.dmr_options.specs.Found.{IsFlagOf, text_of};
 
 use clap::ArgMatches;
@@ -9,7 +9,14 @@ use clap::ArgMatches;
 pub fn text_of<'a>(matches: &ArgMatches<'a>, option: &str) -> &'a str
     ensures text { result.now ≡ text_of (found_of matches.now) option.now }
 {
-    matches.get_str(option).unwrap_or("")
+    given_text_of(matches, option).unwrap_or("")
+}
+
+/// The text of an option that may be left out, where it is given.
+pub fn given_text_of<'a>(matches: &ArgMatches<'a>, option: &str) -> Option<&'a str>
+    ensures text { option_map (λ text. text.now) result ≡ first_value (found_of matches.now) option.now }
+{
+    matches.get_str(option)
 }
 
 /// Whether an option is given that takes no text.

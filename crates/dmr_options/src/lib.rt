@@ -3,10 +3,10 @@
 //! `dmrgate` is several programs behind one command, so that whoever needs one waits for none of the others. Each program knows
 //! every command by name, with a line of help (`Listed`, `bare_command`), and has the options of its own commands alone. `command`
 //! makes a command line of these, for the command line parser. `repeating_commands` is that of the program that repeats; those of
-//! other programs are made of the same pieces (`file`, `number`, `frame`, `word`).
+//! other programs are made of the same pieces (`number`, `frame`, `word`).
 //!
-//! `words_of` gives the words that a program was started with. `text_of` and `flag_of` tell what was given for an option, by
-//! `specs/Found.antt`. Where nothing is to be done, three calls print why, and answer the exit status: `print_answer` prints help,
+//! `words_of` gives the words that a program was started with. `text_of`, `given_text_of` and `flag_of` tell what was given for an
+//! option, by `specs/Found.antt`. Where nothing is to be done, three calls print why, and answer the exit status: `print_answer` prints help,
 //! the version or a mistake, `print_elsewhere` that another program has the command, and `print_no_words` that there are no words.
 //! Of the texts of help nothing is promised, and tests compare them.
 //!
@@ -23,8 +23,8 @@ mod texts;
 mod words;
 
 pub use answer::{print_answer, print_elsewhere};
-pub use arguments::{file, frame, number, word};
+pub use arguments::{frame, number, word};
 pub use commands::{Listed, bare_command, command};
-pub use found::{flag_of, text_of};
+pub use found::{flag_of, given_text_of, text_of};
 pub use repeating::repeating_commands;
 pub use words::{print_no_words, words_of};

@@ -43,21 +43,23 @@ fn files<'a>(alloc: Global) -> Result<Vec<Arg<'a>>, AllocError> {
             alloc,
             "uplink",
             "The recording of the uplink, to read; - is standard input",
-        ),
+        )
+        .required(true),
         file(
             alloc,
             "outgoing",
-            "The datagrams to send, to read; - is standard input",
+            "The datagrams to send, to read; none without it",
         ),
         file(
             alloc,
             "downlink",
-            "The downlink, to write; - is standard output, where that is a pipe",
-        ),
+            "The downlink, to write; - is standard output",
+        )
+        .required(true),
         file(
             alloc,
             "received",
-            "The datagrams received, to write; - is standard output, where that is a pipe",
+            "The datagrams received, to write; not kept without it",
         ),
     ]?)
 }

@@ -1,13 +1,23 @@
--- Which outputs of a run may be written.
-use Rattle.std.specs.Prelude.{◌≡◌, false}
-use Rattle.dmr_files.specs.Identity.{clashes, is_behind}
+-- Which outputs of a run may be written, and which inputs are live.
+use Rattle.std.specs.Prelude.{◌≡◌, ◌||◌, Bool, false, Option, Some, None}
+use Rattle.dmr_files.specs.Identity.{clashes, is_behind, is_live as is_live_file}
 use Rattle.dmr_files.specs.declared.identity.Identity.{Identity}
-use Rattle.dmr_files.specs.declared.system.StandardFiles.{StandardFiles}
+use Rattle.dmr_program.specs.declared.opening.Taken.{Taken}
+
+-- An output gets into a file, where there is one.
+abbrev pub clashes_if_any : Identity → Option Identity → Bool
+clashes_if_any output (Some other) = clashes output other
+clashes_if_any output None = false
 
 -- An output that may be written: it is no input, and is behind no standard stream.
-pub record IsApart (uplink outgoing : Identity) (standard : StandardFiles) (output : Identity) : Type 0 where
-  pub from_uplink : clashes output uplink ≡ false
-  pub from_outgoing : clashes output outgoing ≡ false
-  pub from_standard_input : is_behind output standard.input ≡ false
-  pub from_standard_output : is_behind output standard.output ≡ false
-  pub from_standard_error : is_behind output standard.error ≡ false
+pub record IsApart (taken : Taken) (output : Identity) : Type 0 where
+  pub from_uplink : clashes output taken.uplink ≡ false
+  pub from_outgoing : clashes_if_any output taken.outgoing ≡ false
+  pub from_standard_input : is_behind output taken.standard.input ≡ false
+  pub from_standard_output : is_behind output taken.standard.output ≡ false
+  pub from_standard_error : is_behind output taken.standard.error ≡ false
+
+-- More of an input may come while it is read.
+abbrev pub is_live : Identity → Option Identity → Bool
+is_live uplink (Some outgoing) = is_live_file uplink || is_live_file outgoing
+is_live uplink None = is_live_file uplink

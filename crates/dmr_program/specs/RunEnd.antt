@@ -2,7 +2,7 @@
 use Rattle.std.specs.Prelude.{ℕ}
 use Rattle.dmr_lines.specs.Status.{success, failure, usage}
 use Rattle.dmr_program.specs.declared.run_end.RunEnd.{RunEnd}
-use Rattle.dmr_program.specs.declared.run_end.RunEnd.TheVariants.{Done, Fault, CannotOpen, Setting}
+use Rattle.dmr_program.specs.declared.run_end.RunEnd.TheVariants.{Done, Fault, CannotOpen, Terminal, Setting}
 
 -- at the end of its files
 abbrev pub IsDone : RunEnd → Type 0
@@ -14,4 +14,5 @@ abbrev pub status_of : RunEnd → ℕ
 status_of (Done summary) = success
 status_of (Fault fault) = failure
 status_of (CannotOpen stream) = failure
+status_of (Terminal stream) = failure
 status_of (Setting fault) = usage

@@ -1,19 +1,52 @@
 //! The files of a run, opened and told apart.
-ghost use Rattle.std.specs.Prelude.{◌≡◌, ◌↔◌, false, IsTrue, IfOk, IfErr};
+ghost use Rattle.std.specs.Prelude.{◌≡◌, ◌↔◌, false, true, IsTrue, IfOk, IfErr, IfSome, option_map};
 ghost use Rattle.dmr_files.specs.Identity.{clashes};
-ghost use Rattle.dmr_program.specs.Apart.{IsApart};
+ghost use Rattle.dmr_program.specs.Apart.{IsApart, clashes_if_any, is_live};
 
 use dmr_command::Places;
 use dmr_files::{Identity, Open, Place, StandardFiles, System};
 use dmr_repeater::Stream;
 
-/// The four files of a run, open.
+/// The files of a run, open.
 #[derive(Drop)]
 pub struct Opened<I, O> {
     pub uplink: Open<I>,
-    pub outgoing: Open<I>,
+    pub outgoing: Option<Open<I>>,
     pub downlink: Open<O>,
-    pub received: Open<O>,
+    pub received: Option<Open<O>>,
+}
+
+/// The files that no output may get into.
+#[derive(Clone, Copy, Drop)]
+pub struct Taken {
+    pub uplink: Identity,
+    pub outgoing: Option<Identity>,
+    pub standard: StandardFiles,
+}
+
+/// Which file an open one is, where there is one.
+fn identity_if_any<F>(open: &Option<Open<F>>) -> Option<Identity> {
+    match open {
+        Some(open) => Some(open.identity),
+        None => None,
+    }
+}
+
+/// Whether more of an input may come while it is read.
+pub(crate) fn are_live(uplink: &Identity, outgoing: &Option<Identity>) -> bool
+    ensures live { result ≡ is_live uplink.now outgoing.now }
+{
+    match outgoing {
+        Some(outgoing) => uplink.is_live() || outgoing.is_live(),
+        None => uplink.is_live(),
+    }
+}
+
+impl<I, O> Opened<I, O> {
+    /// Whether more of an input may come while it is read, so that what is decided is written at once.
+    pub(crate) fn is_live(&self) -> bool {
+        are_live(&self.uplink.identity, &identity_if_any(&self.outgoing))
+    }
 }
 
 /// Opens a file that is to be read.
@@ -30,20 +63,39 @@ fn open_input<S: System>(
     }
 }
 
-/// Whether an output would get into an input, or into what a standard stream reads or prints.
-fn is_apart(
-    output: &Identity,
-    uplink: &Identity,
-    outgoing: &Identity,
-    standard: &StandardFiles,
-) -> bool
-    ensures apart { IsTrue result ↔ IsApart uplink.now outgoing.now standard.now output.now }
+/// Opens a file that is to be read, where there is one.
+fn open_input_if_any<S: System>(
+    system: &S,
+    place: Option<Place<'_>>,
+    stream: Stream,
+) -> Result<Option<Open<S::Input>>, Stream>
+    ensures named { IfErr result (λ e. e ≡ stream) }
 {
-    !output.clashes(uplink)
-        && !output.clashes(outgoing)
-        && !output.is_behind(&standard.input)
-        && !output.is_behind(&standard.output)
-        && !output.is_behind(&standard.error)
+    match place {
+        Some(place) => Ok(Some(open_input(system, place, stream)?)),
+        None => Ok(None),
+    }
+}
+
+/// Whether an output would get into a file, where there is one.
+fn clashes_if_any(output: &Identity, other: &Option<Identity>) -> bool
+    ensures clash { result ≡ clashes_if_any output.now other.now }
+{
+    match other {
+        Some(other) => output.clashes(other),
+        None => false,
+    }
+}
+
+/// Whether an output would get into an input, or into what a standard stream reads or prints.
+fn is_apart(output: &Identity, taken: &Taken) -> bool
+    ensures apart { IsTrue result ↔ IsApart taken.now output.now }
+{
+    !output.clashes(&taken.uplink)
+        && !clashes_if_any(output, &taken.outgoing)
+        && !output.is_behind(&taken.standard.input)
+        && !output.is_behind(&taken.standard.output)
+        && !output.is_behind(&taken.standard.error)
 }
 
 /// Opens a file that is to be written, and refuses one that is in use.
@@ -51,38 +103,61 @@ fn open_output<S: System>(
     system: &S,
     place: Place<'_>,
     stream: Stream,
-    uplink: &Identity,
-    outgoing: &Identity,
-    standard: &StandardFiles,
+    taken: &Taken,
 ) -> Result<Open<S::Output>, Stream>
-    ensures apart { IfOk result (λ output. IsApart uplink.now outgoing.now standard.now output.identity) }
+    ensures apart { IfOk result (λ output. IsApart taken.now output.identity) }
     ensures named { IfErr result (λ e. e ≡ stream) }
 {
     match system.open_output(place) {
-        Ok(open) if is_apart(&open.identity, uplink, outgoing, standard) => Ok(open),
+        Ok(open) if is_apart(&open.identity, taken) => Ok(open),
         _ => Err(stream),
     }
 }
 
-/// Empties both outputs, which are no other file of the run and none behind a standard stream.
+/// Opens a file that is to be written, where there is one, and refuses one that is in use.
+fn open_output_if_any<S: System>(
+    system: &S,
+    place: Option<Place<'_>>,
+    stream: Stream,
+    taken: &Taken,
+) -> Result<Option<Open<S::Output>>, Stream>
+    ensures apart { IfOk result (λ output. IfSome output (λ file. IsApart taken.now file.identity)) }
+    ensures named { IfErr result (λ e. e ≡ stream) }
+{
+    match place {
+        Some(place) => Ok(Some(open_output(system, place, stream, taken)?)),
+        None => Ok(None),
+    }
+}
+
+/// Whether the received file, where there is one, would get into the downlink.
+fn gets_into<F>(received: &Option<Open<F>>, downlink: &Identity) -> bool
+    ensures apart { result ≡ false → IfSome received.now (λ file. clashes file.identity downlink.now ≡ false) }
+{
+    match received {
+        Some(received) => received.identity.clashes(downlink),
+        None => false,
+    }
+}
+
+/// Empties the outputs, which are no other file of the run and none behind a standard stream.
 fn empty_outputs<S: System>(
     system: &S,
-    files: &Opened<S::Input, S::Output>,
-    standard: &StandardFiles,
+    downlink: &Open<S::Output>,
+    received: &Option<Open<S::Output>>,
+    taken: &Taken,
 ) -> Result<(), Stream>
-    requires downlink { IsApart files.now.uplink.identity files.now.outgoing.identity standard.now
-        files.now.downlink.identity }
-    requires received { IsApart files.now.uplink.identity files.now.outgoing.identity standard.now
-        files.now.received.identity }
-    requires outputs { clashes files.now.received.identity files.now.downlink.identity ≡ false }
+    requires downlink { IsApart taken.now downlink.now.identity }
+    requires received { IfSome received.now (λ file. IsApart taken.now file.identity) }
+    requires outputs { IfSome received.now (λ file. clashes file.identity downlink.now.identity ≡ false) }
 {
-    if system.empty(&files.downlink).is_err() {
+    if system.empty(downlink).is_err() {
         return Err(Stream::Downlink);
     }
-    if system.empty(&files.received).is_err() {
-        return Err(Stream::Received);
+    match received {
+        Some(received) if system.empty(received).is_err() => Err(Stream::Received),
+        _ => Ok(()),
     }
-    Ok(())
 }
 
 /// Opens the files in their order, and empties the outputs once it is known that they are apart. Answers the first that can't be
@@ -93,32 +168,34 @@ pub(crate) fn open_files<S: System>(
 ) -> Result<Opened<S::Input, S::Output>, Stream> {
     let standard = system.standard_files();
     let uplink = open_input(system, places.uplink, Stream::Uplink)?;
-    let outgoing = open_input(system, places.outgoing, Stream::Outgoing)?;
-    let downlink = open_output(
-        system,
-        places.downlink,
-        Stream::Downlink,
-        &uplink.identity,
-        &outgoing.identity,
-        &standard,
-    )?;
-    let received = open_output(
-        system,
-        places.received,
-        Stream::Received,
-        &uplink.identity,
-        &outgoing.identity,
-        &standard,
-    )?;
-    if received.identity.clashes(&downlink.identity) {
+    let outgoing = open_input_if_any(system, places.outgoing, Stream::Outgoing)?;
+    let taken = Taken {
+        uplink: uplink.identity,
+        outgoing: identity_if_any(&outgoing),
+        standard,
+    };
+    let downlink = open_output(system, places.downlink, Stream::Downlink, &taken)?;
+    let received = open_output_if_any(system, places.received, Stream::Received, &taken)?;
+    if gets_into(&received, &downlink.identity) {
         return Err(Stream::Received);
     }
-    let files = Opened {
+    empty_outputs(system, &downlink, &received, &taken)?;
+    Ok(Opened {
         uplink,
         outgoing,
         downlink,
         received,
-    };
-    empty_outputs(system, &files, &standard)?;
-    Ok(files)
+    })
+}
+
+/// The output that would be sent to a terminal, where one would. Octets are nothing to look at.
+pub(crate) fn sent_to_terminal<S: System>(system: &S, places: &Places<'_>) -> Option<Stream> {
+    if !places.take_output() || !system.prints_to_terminal() {
+        return None;
+    }
+    Some(if places.downlink.is_standard() {
+        Stream::Downlink
+    } else {
+        Stream::Received
+    })
 }

@@ -1,8 +1,8 @@
 //! How a run ended.
-ghost use Rattle.std.specs.Prelude.{◌≡◌, false, true};
+ghost use Rattle.std.specs.Prelude.{◌≡◌, ◌↔◌, false, true, IsTrue};
 ghost use Rattle.dmr_lines.specs.Line.{PutsError, PutsLine};
 ghost use Rattle.dmr_program.specs.RunEnd.{IsDone, status_of};
-ghost use Rattle.dmr_lines.specs.Status.{failure};
+ghost use Rattle.dmr_lines.specs.Status.{failure, success};
 
 use crate::text::text_of;
 use dmr_gateway::ConfigFault;
@@ -20,6 +20,8 @@ pub enum RunEnd {
     Fault(RunFault),
     /// Before it began: a file could not be opened.
     CannotOpen(Stream),
+    /// Before it began: a file was to be sent to a terminal.
+    Terminal(Stream),
     /// Before it began: its settings were refused.
     Setting(ConfigFault),
 }
@@ -30,6 +32,7 @@ impl fmt::Display for RunEnd {
             RunEnd::Done(summary) => write_summary(summary, f),
             RunEnd::Fault(fault) => write!(f, "{fault}"),
             RunEnd::CannotOpen(stream) => write!(f, "{stream}: cannot open"),
+            RunEnd::Terminal(stream) => write!(f, "{stream}: standard output is a terminal"),
             RunEnd::Setting(ConfigFault::Hang) => write!(f, "{}", ConfigFault::Hang),
             // The command line refuses these by their ranges, so that no run ends so.
             RunEnd::Setting(_) => write!(f, "bad setting"),
@@ -56,6 +59,34 @@ fn write_summary<W: fmt::Write>(summary: &Summary, f: &mut fmt::Formatter<W>) ->
     write!(f, "refused {refused} unoffered {unoffered}")
 }
 
+impl RunEnd {
+    /// Whether it came to the end of its files.
+    fn is_done(&self) -> bool
+        ensures done { IsTrue result ↔ IsDone self.now }
+    {
+        match self {
+            RunEnd::Done(_) => true,
+            RunEnd::Fault(_) => false,
+            RunEnd::CannotOpen(_) => false,
+            RunEnd::Terminal(_) => false,
+            RunEnd::Setting(_) => false,
+        }
+    }
+
+    /// The exit status.
+    fn status(&self) -> u8
+        ensures value { result ≡ status_of self.now }
+    {
+        match self {
+            RunEnd::Done(_) => SUCCESS,
+            RunEnd::Fault(_) => FAILURE,
+            RunEnd::CannotOpen(_) => FAILURE,
+            RunEnd::Terminal(_) => FAILURE,
+            RunEnd::Setting(_) => USAGE,
+        }
+    }
+}
+
 /// Prints how a run ended, and answers the exit status: the numbers of a run that came to its end, and else an error.
 pub fn print_end<K: Sink, E: Sink>(end: &RunEnd, out: &mut K, err: &mut E) -> u8
     requires out { K.has_failed out.old ≡ false }
@@ -72,10 +103,27 @@ pub fn print_end<K: Sink, E: Sink>(end: &RunEnd, out: &mut K, err: &mut E) -> u8
 {
     let text = text_of(end);
     let line = line_of(text.as_str());
-    match end {
-        RunEnd::Done(_) => print_line(out, line, SUCCESS),
-        RunEnd::Fault(_) => print_error(err, line, FAILURE),
-        RunEnd::CannotOpen(_) => print_error(err, line, FAILURE),
-        RunEnd::Setting(_) => print_error(err, line, USAGE),
+    if end.is_done() {
+        print_line(out, line, end.status())
+    } else {
+        print_error(err, line, end.status())
+    }
+}
+
+/// Prints how a run ended where standard output is a file of the run, and answers the exit status. All goes to one sink.
+pub fn print_end_beside<E: Sink>(end: &RunEnd, err: &mut E) -> u8
+    requires err { E.has_failed err.old ≡ false }
+    ensures line { IsDone end.now → E.has_failed err.new ≡ false → PutsLine (E.held err.old) (E.held err.new) }
+    ensures error { (IsDone end.now → ⊥) → E.has_failed err.new ≡ false → PutsError (E.held err.old) (E.held err.new) }
+    ensures success { result ≡ success → PutsLine (E.held err.old) (E.held err.new) }
+    ensures status { E.has_failed err.new ≡ false → result ≡ status_of end.now }
+    ensures failed { E.has_failed err.new ≡ true → result ≡ failure }
+{
+    let text = text_of(end);
+    let line = line_of(text.as_str());
+    if end.is_done() {
+        print_line(err, line, end.status())
+    } else {
+        print_error(err, line, end.status())
     }
 }

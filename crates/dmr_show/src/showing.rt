@@ -9,7 +9,7 @@ use crate::file_listing::{Shown, show_all};
 use crate::filter::Filter;
 use crate::form::Form;
 use crate::lines::Lines;
-use dmr_lines::{FAILURE, SUCCESS, line_of, print_error};
+use dmr_lines::{FAILURE, SUCCESS, ToldName, line_of, print_error};
 use dmr_listing::{FaultLine, ListingEnd};
 use dmr_record::{OCTET_LIMIT, Sink, Source};
 use std::alloc::{AllocError, Global};
@@ -66,8 +66,7 @@ fn print_fault<E: Sink>(alloc: Global, name: &str, fault: &FaultLine, err: &mut 
     requires err { E.has_failed err.old ≡ false }
     ensures error { E.has_failed err.new ≡ false → PutsError (E.held err.old) (E.held err.new) }
 {
-    // A name may have line feeds: what is told stands behind it in its line.
-    let name = line_of(name);
+    let name = ToldName(name);
     match format!(in alloc; "{name}: {fault}") {
         Ok(text) => tell(err, text.as_str()),
         Err(_) => print_want_of_memory(err),
@@ -79,7 +78,7 @@ fn print_no_strip<E: Sink>(alloc: Global, name: &str, err: &mut E)
     requires err { E.has_failed err.old ≡ false }
     ensures error { E.has_failed err.new ≡ false → PutsError (E.held err.old) (E.held err.new) }
 {
-    let name = line_of(name);
+    let name = ToldName(name);
     match format!(in alloc; "{name}: a list has no strip") {
         Ok(text) => tell(err, text.as_str()),
         Err(_) => print_want_of_memory(err),

@@ -7,7 +7,7 @@ ghost use Rattle.dmr_tools.specs.Request.{IsShow};
 
 use crate::request::{Request, request_of};
 use dmr_files::{OpenFault, Place, System, open_source};
-use dmr_lines::{FAILURE, line_of, print_error};
+use dmr_lines::{FAILURE, ToldName, USAGE, line_of, print_error};
 use dmr_options::{print_answer, print_elsewhere};
 use dmr_record::Sink;
 use dmr_show::{Filter, Form, print_want_of_memory, show};
@@ -19,7 +19,7 @@ fn print_cannot_open<E: Sink>(alloc: Global, name: &str, err: &mut E)
     requires err { E.has_failed err.old ≡ false }
     ensures error { E.has_failed err.new ≡ false → PutsError (E.held err.old) (E.held err.new) }
 {
-    let name = line_of(name);
+    let name = ToldName(name);
     match format!(in alloc; "{name}: cannot open") {
         Ok(text) => {
             let _failure = print_error(err, line_of(text.as_str()), FAILURE);
@@ -85,6 +85,7 @@ pub fn fulfil<S: System, K: Sink, E: Sink>(
         Request::Show { name, form, filter } => show_file(
             alloc, system, name, form, filter, out, err,
         ),
+        Request::Backwards => print_error(err, "--from is beyond --to", USAGE),
         Request::Elsewhere(_) => print_elsewhere(err),
     }
 }

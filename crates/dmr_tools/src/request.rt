@@ -1,7 +1,7 @@
 //! What the words of a command line ask for.
-ghost use Rattle.std.specs.Prelude.{◌≡◌, option_map};
+ghost use Rattle.std.specs.Prelude.{◌≡◌, Some, codes, option_map};
 ghost use Rattle.clap.specs.Words.{found_of};
-ghost use Rattle.dmr_tools.specs.Request.{IsAskedOfTools, IsFilterOf, IsFormOf, form_by};
+ghost use Rattle.dmr_tools.specs.Request.{IsAskedOfTools, IsFilterOf, IsFormOf, form_by, is_backwards};
 
 use clap::{ArgMatches, Error};
 use dmr_options::{flag_of, text_of};
@@ -19,6 +19,8 @@ pub enum Request<'a> {
         form: Form,
         filter: Filter,
     },
+    /// To show frames from one on that is beyond the last.
+    Backwards,
     /// A command that another program has, by its name.
     Elsewhere(&'a str),
 }
@@ -52,16 +54,37 @@ fn form_of(show: &ArgMatches<'_>) -> Form
     form_by(flag_of(show, "strip"), flag_of(show, "json"))
 }
 
+/// Whether a filter begins beyond its end.
+fn is_backwards(filter: &Filter) -> bool
+    ensures backwards { result ≡ is_backwards filter.now }
+{
+    match (filter.from, filter.to) {
+        (Some(from), Some(to)) => from > to,
+        _ => false,
+    }
+}
+
+/// What a command line of `show` asks for.
+fn show_request<'a>(show: &ArgMatches<'a>) -> Request<'a>
+    ensures asked { IsAskedOfTools (Some (record { 0 = codes "show"; 1 = found_of show.now })) result }
+{
+    let filter = filter_of(show);
+    if is_backwards(&filter) {
+        return Request::Backwards;
+    }
+    Request::Show {
+        name: text_of(show, "file"),
+        form: form_of(show),
+        filter,
+    }
+}
+
 /// What a command with its options asks for.
 pub(crate) fn request_by<'a>(command: Option<(&'a str, &ArgMatches<'a>)>) -> Request<'a>
     ensures asked { IsAskedOfTools (option_map (λ c. (c.0.now, found_of c.1.now)) command.entry) result }
 {
     match command {
-        Some(("show", show)) => Request::Show {
-            name: text_of(show, "file"),
-            form: form_of(show),
-            filter: filter_of(show),
-        },
+        Some(("show", show)) => show_request(show),
         Some((name, _)) => Request::Elsewhere(name),
         // Not reached, since a command is required.
         None => Request::Elsewhere(""),

@@ -1,6 +1,6 @@
 //! Which word goes where, the ends of ranges, and what is printed where, with which status.
 use crate::tests::stand_in::StandIn;
-use dmr_command::{Request, request_of};
+use dmr_command::{Request, SharedStream, request_of};
 use dmr_files::Place;
 use dmr_gateway::{Config, ConfigFault};
 use dmr_program::obey;
@@ -67,8 +67,20 @@ const SETTINGS: [(&str, &str, &str, (u8, u32, u16, u16, u8)); 14] = [
     ("1", "--queue", "64", (1, 1, 3, 5, 64)),
 ];
 
+/// The words of a run with no more than is required, whose downlink goes to standard output.
+const BESIDE: [&str; 8] = [
+    "dmrgate",
+    "run",
+    "--uplink",
+    "up",
+    "--downlink",
+    "-",
+    "--llid",
+    "1",
+];
+
 /// Words, with the status that they end with, and what is printed.
-const OBEYED: [(&[&str], u8, &str, &str); 4] = [
+const OBEYED: [(&[&str], u8, &str, &str); 6] = [
     (&["other", "-V"], 0, "dmrgate 0.2.0\n", ""),
     (
         &[
@@ -92,6 +104,29 @@ const OBEYED: [(&[&str], u8, &str, &str); 4] = [
         "frames 7 repeated 1 received 0 delivered 0 sent 0 given-up 0 refused 0 unoffered 0\n",
         "",
     ),
+    (
+        &BESIDE,
+        0,
+        "",
+        "frames 7 repeated 1 received 0 delivered 0 sent 0 given-up 0 refused 0 unoffered 0\n",
+    ),
+    (
+        &[
+            "dmrgate",
+            "run",
+            "--uplink",
+            "-",
+            "--outgoing",
+            "-",
+            "--downlink",
+            "down",
+            "--llid",
+            "1",
+        ],
+        2,
+        "",
+        "error: --uplink and --outgoing can't both be standard input\n",
+    ),
 ];
 
 /// The words of a run with this address, and one option more.
@@ -109,11 +144,11 @@ fn settings(alloc: Global, words: &[&str]) -> Result<Result<Config, ConfigFault>
 }
 
 /// A place is named by the word that stands there.
-fn is_named(place: Place<'_>, words: &[&str], at: usize) -> bool {
+fn is_named(place: Option<Place<'_>>, words: &[&str], at: usize) -> bool {
     match (place, words.get(at)) {
-        (Place::Path(path), Some(name)) => path == *name,
-        (Place::Standard, Some(name)) => *name == "-",
-        (_, None) => false,
+        (Some(Place::Path(path)), Some(name)) => path == *name,
+        (Some(Place::Standard), Some(name)) => *name == "-",
+        _ => false,
     }
 }
 
@@ -128,10 +163,37 @@ fn places_by_their_options(rt: HostRuntime) -> Result<(), Fail> {
         let Request::Run { config: _, places } = request_of(rt.alloc(), &words)? else {
             return Err(Fail::from("no run"));
         };
-        assert!(rt; is_named(places.uplink, &words, 3), "{hyphen}");
+        assert!(rt; is_named(Some(places.uplink), &words, 3), "{hyphen}");
         assert!(rt; is_named(places.outgoing, &words, 5), "{hyphen}");
-        assert!(rt; is_named(places.downlink, &words, 7), "{hyphen}");
+        assert!(rt; is_named(Some(places.downlink), &words, 7), "{hyphen}");
         assert!(rt; is_named(places.received, &words, 9), "{hyphen}");
+    }
+    Ok(())
+}
+
+/// Lists may be left out, and two files can't be one standard stream.
+#[test]
+fn places_that_are_left_out(rt: HostRuntime) -> Result<(), Fail> {
+    let Request::Run { config: _, places } = request_of(rt.alloc(), &BESIDE)? else {
+        return Err(Fail::from("no run"));
+    };
+    assert!(rt; places.outgoing.is_none());
+    assert!(rt; places.received.is_none());
+    assert!(rt; places.take_output());
+    for (first, second, shared) in [
+        (3, 5, SharedStream::Input),
+        (7, 9, SharedStream::Output),
+    ] {
+        let mut words = RUN;
+        for at in [first, second] {
+            if let Some(word) = words.get_mut(at) {
+                *word = "-";
+            }
+        }
+        let Request::Shared(stream) = request_of(rt.alloc(), &words)? else {
+            return Err(Fail::from("it isn't refused"));
+        };
+        assert!(rt; stream == shared);
     }
     Ok(())
 }
@@ -162,7 +224,10 @@ fn burst_of_a_slot(rt: HostRuntime) -> Result<(), Fail> {
 #[test]
 fn words_that_are_obeyed(rt: HostRuntime) {
     let alloc = rt.alloc();
-    let system = StandIn { downlink: (1, 3) };
+    let system = StandIn {
+        downlink: (1, 3),
+        is_terminal: false,
+    };
     for (words, status, out, err) in OBEYED {
         let mut output = ToWrite::new(Vec::new(alloc));
         let mut errors = ToWrite::new(Vec::new(alloc));

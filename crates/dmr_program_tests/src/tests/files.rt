@@ -38,11 +38,15 @@ fn expect(rt: &(impl Abort + AllocGlobal), downlink: (u64, u64), names: &[&str; 
     let config = Config::new(1, 1, 3, 5, 9).expect(rt, "the settings are in range");
     let places = Places {
         uplink: Place::named(names[0]),
-        outgoing: Place::named(names[1]),
+        outgoing: Some(Place::named(names[1])),
         downlink: Place::named(names[2]),
-        received: Place::named(names[3]),
+        received: Some(Place::named(names[3])),
     };
-    let ended = run_places(&StandIn { downlink }, rt.alloc(), config, &places);
+    let system = StandIn {
+        downlink,
+        is_terminal: false,
+    };
+    let ended = run_places(&system, rt.alloc(), config, &places);
     assert!(rt; ended == end, "{downlink:?}, {names:?}");
 }
 
@@ -74,5 +78,49 @@ fn files_that_cannot_be_opened(rt: HostRuntime) {
             *name = "nowhere";
         }
         expect(&rt, (1, 3), &names, RunEnd::CannotOpen(stream));
+    }
+}
+
+/// A run without an outgoing list is one over a list without records, and one without a received file counts the same.
+#[test]
+fn lists_that_are_left_out(rt: HostRuntime) {
+    let system = StandIn {
+        downlink: (1, 3),
+        is_terminal: false,
+    };
+    for (outgoing, received) in [(None, None), (Some("out"), None), (None, Some("in"))] {
+        let config = Config::new(1, 1, 3, 5, 9).expect(&rt, "the settings are in range");
+        let places = Places {
+            uplink: Place::Path("up"),
+            outgoing: outgoing.map(Place::Path),
+            downlink: Place::Path("down"),
+            received: received.map(Place::Path),
+        };
+        let ended = run_places(&system, rt.alloc(), config, &places);
+        assert!(rt; ended == RunEnd::Done(SUMMARY), "{outgoing:?}, {received:?}");
+    }
+}
+
+/// What is sent to standard output isn't sent to a terminal, and a file is.
+#[test]
+fn terminals_get_no_octets(rt: HostRuntime) {
+    for (downlink, received, end) in [
+        ("-", "in", RunEnd::Terminal(Stream::Downlink)),
+        ("down", "-", RunEnd::Terminal(Stream::Received)),
+        ("down", "in", RunEnd::Done(SUMMARY)),
+    ] {
+        let config = Config::new(1, 1, 3, 5, 9).expect(&rt, "the settings are in range");
+        let places = Places {
+            uplink: Place::Path("up"),
+            outgoing: None,
+            downlink: Place::named(downlink),
+            received: Some(Place::named(received)),
+        };
+        let system = StandIn {
+            downlink: (1, 3),
+            is_terminal: true,
+        };
+        let ended = run_places(&system, rt.alloc(), config, &places);
+        assert!(rt; ended == end, "{downlink} {received}");
     }
 }

@@ -2,7 +2,7 @@
 use arrayvec::ArrayString;
 use dmr_gateway::ConfigFault;
 use dmr_lines::{print_error, print_text};
-use dmr_program::{RunEnd, print_end, print_slot};
+use dmr_program::{RunEnd, print_end, print_end_beside, print_slot};
 use dmr_record::{RecordFault, ToWrite};
 use dmr_repeater::{RunFault, Stream, Summary};
 use std::fmt::Write;
@@ -26,7 +26,7 @@ const LONGEST_LINE: &str =
             given-up 4294967290 refused 4294967289 unoffered 4294967288\n";
 
 /// Ends of runs that are no success, with their statuses and their lines.
-const FAILURES: [(RunEnd, u8, &str); 9] = [
+const FAILURES: [(RunEnd, u8, &str); 11] = [
     (
         RunEnd::CannotOpen(Stream::Uplink),
         1,
@@ -46,6 +46,16 @@ const FAILURES: [(RunEnd, u8, &str); 9] = [
         RunEnd::CannotOpen(Stream::Received),
         1,
         "error: received: cannot open\n",
+    ),
+    (
+        RunEnd::Terminal(Stream::Downlink),
+        1,
+        "error: downlink: standard output is a terminal\n",
+    ),
+    (
+        RunEnd::Terminal(Stream::Received),
+        1,
+        "error: received: standard output is a terminal\n",
     ),
     (RunEnd::Fault(RunFault::Memory), 1, "error: out of memory\n"),
     (
@@ -189,7 +199,7 @@ const NO_BURSTS: [&str; 4] = [
     "53C25EABA8671DC7383BD936065DFF57D75DF5D92BF6E465171B48CA6D4FC610BG",
 ];
 
-/// A run end prints this, and ends with this status.
+/// A run end prints this, and ends with this status. Beside standard output all of it goes to one place.
 fn expect_end(rt: &(impl Abort + AllocGlobal), end: RunEnd, status: u8, out: &str, err: &str) {
     let alloc = rt.alloc();
     let mut output = ToWrite::new(Vec::new(alloc));
@@ -197,6 +207,10 @@ fn expect_end(rt: &(impl Abort + AllocGlobal), end: RunEnd, status: u8, out: &st
     assert_eq!(rt; print_end(&end, &mut output, &mut errors), status);
     assert!(rt; output.into_inner().as_slice() == out.as_bytes(), "{out}");
     assert!(rt; errors.into_inner().as_slice() == err.as_bytes(), "{err}");
+    let mut beside = ToWrite::new(Vec::new(alloc));
+    let all = if out.is_empty() { err } else { out };
+    assert_eq!(rt; print_end_beside(&end, &mut beside), status);
+    assert!(rt; beside.into_inner().as_slice() == all.as_bytes(), "{all}");
 }
 
 /// A text given to `slot` prints this, and ends with this status.

@@ -11,12 +11,21 @@ const UPLINK: &[u8] = b"DMRU\x01\x00\x00\x00\
 /// No datagrams.
 const OUTGOING: &[u8] = b"DMRO\x01\x00\x00\x00";
 
-/// The system. Its uplink is file 1 of device 1, its outgoing list file 2, and its received file 4.
+/// The system. Its uplink is file 1 of device 1, its outgoing list file 2, and its received file 4. Its standard output is a pipe.
 #[derive(Drop)]
 pub struct StandIn {
     /// The device and the number of its downlink.
     pub downlink: (u64, u64),
+    /// Whether it says that its standard output is a terminal.
+    pub is_terminal: bool,
 }
+
+/// The pipe behind its standard output.
+const PIPE: Identity = Identity {
+    device: 2,
+    number: 9,
+    kind: FileKind::Other,
+};
 
 /// A regular file, and which it is.
 fn opened<F>(file: F, device: u64, number: u64) -> Open<F> {
@@ -45,6 +54,10 @@ impl System for StandIn {
         match place {
             Place::Path("down") => Ok(opened(io::sink(), self.downlink.0, self.downlink.1)),
             Place::Path("in") => Ok(opened(io::sink(), 1, 4)),
+            Place::Standard => Ok(Open {
+                file: io::sink(),
+                identity: PIPE,
+            }),
             _ => Err(io::Error::from(ErrorKind::NotFound)),
         }
     }
@@ -59,5 +72,9 @@ impl System for StandIn {
             output: None,
             error: None,
         }
+    }
+
+    fn prints_to_terminal(&self) -> bool {
+        self.is_terminal
     }
 }

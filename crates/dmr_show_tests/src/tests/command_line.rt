@@ -44,6 +44,10 @@ impl System for OneFile {
             error: None,
         }
     }
+
+    fn prints_to_terminal(&self) -> bool {
+        false
+    }
 }
 
 #[test]
