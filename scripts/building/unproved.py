@@ -24,8 +24,12 @@ class Look:
     """The words of a command as the program gets them, which runs in a folder of the kit's: with places that hold from anywhere."""
 
     def __init__(self, words, room):
-        self.room, self.to_standard_output = pathlib.Path(room), []
-        self.words = [*self.placed([*self.parted(words)])]
+        words = [*self.parted(words)]
+        hyphens = [before for before, word in zip(words, words[1:]) if before in OUTPUTS and word == "-"]
+        # The output that goes to standard output. Two of them are refused by the program, which gets their hyphens.
+        self.output = hyphens[0] if len(hyphens) == 1 else None
+        self.file = pathlib.Path(room) / "output"
+        self.words = [*self.placed(words)]
 
     @staticmethod
     def parted(words):
@@ -36,20 +40,20 @@ class Look:
 
     def placed(self, words):
         for before, word in zip([None, *words], words):
-            if before in OUTPUTS and word == "-":
-                file = self.room / before.strip("-")
-                self.to_standard_output.append(file)
-                yield str(file)
+            if self.output and (before, word) == (self.output, "-"):
+                yield str(self.file)
             elif word != "-" and (before in FILES or os.path.isfile(word)):
                 yield os.path.abspath(word)
             else:
                 yield word
 
-    def write_out(self):
-        """Writes what goes to standard output, in front of what the program printed."""
-        for file in self.to_standard_output:
-            if file.is_file():
-                sys.stdout.buffer.write(file.read_bytes())
+    def write_out(self, printed):
+        """Writes what the program printed to standard output, or the output that goes there, with what was printed beside it."""
+        if self.output:
+            write(printed.decode(errors="replace"))
+            printed = self.file.read_bytes() if self.file.is_file() else b""
+        sys.stdout.buffer.write(printed)
+        sys.stdout.buffer.flush()
 
 
 def look(words):
@@ -57,10 +61,13 @@ def look(words):
     if not words:
         say("what is to be looked at? For example, ./dmrgate --unproved run --help")
         return 2
-    say("compiling it for one run, which takes a minute or two; nothing of it is proved")
     crate = all_crates()[program_of(words)]
     with tempfile.TemporaryDirectory(prefix="dmrgate-look-") as room:
         it = Look(words, room)
+        if it.output and sys.stdout.isatty():
+            write(f"error: {it.output.strip('-')}: standard output is a terminal\n")
+            return 1
+        say("compiling it for one run, which takes a minute or two; nothing of it is proved")
         command = [found_rt(), "try", "--", *it.words]
         # The kit ends what it began, where it is told to end.
         signal.signal(signal.SIGTERM, lambda number, _: sys.exit(128 + number))
@@ -78,8 +85,6 @@ def look(words):
             say("there is no answer: this is too long for a quick look, or isn't compiled;"
                 " without --unproved it is proved and built")
             return 1
-        it.write_out()
-        sys.stdout.buffer.write(out)
-        sys.stdout.buffer.flush()
+        it.write_out(out)
         write(text[: ended.start()])
         return int(ended[3])

@@ -64,17 +64,17 @@ class Shim:
 
 
 class Failing:
-    """A call that fails in the runs over some files, with some settings."""
+    """A call that fails in the runs over some files, with some settings, and over a pipe where one is given."""
 
-    def __init__(self, report, room, shim, *settings):
-        self.report, self.room, self.shim, self.settings = report, room, shim, settings
-        self.whole = room.run(*settings)
+    def __init__(self, report, room, shim, *settings, **pipe):
+        self.report, self.room, self.shim, self.settings, self.pipe = report, room, shim, settings, pipe
+        self.whole = room.run(*settings, **pipe)
         self.wanted = self.whole.out, room.outputs()
         report.expect("a whole run", (self.whole.status, self.whole.err) == (0, b""), self.whole)
 
     def run(self, call, at=None):
         """A run in which this call fails, and whether the run got to it."""
-        return self.shim.run(lambda env: self.room.run(*self.settings, env=env), call, at)
+        return self.shim.run(lambda env: self.room.run(*self.settings, env=env, **self.pipe), call, at)
 
     def in_turn(self, call):
         """Lets the first such call fail, the second, and so on, until a run has none left; answers the runs that failed."""
@@ -127,6 +127,13 @@ def check_emptying(report, failing):
         ran, reached = failing.run("empty", at)
         report.expect(f"{file} can't be emptied", reached and ran.is_error(f"{file}: cannot open"), ran)
         report.expect(f"{file} can't be emptied: the outputs", failing.room.outputs() == left, failing.room.outputs())
+
+
+def check_reads_and_writes(report, failing):
+    expect_texts(report, "read", failing.in_turn("read"), ["uplink: read failed", "outgoing: read failed"])
+    # Where what failed is the line of the run itself, nothing more can be told.
+    told = [(ran, outputs) for ran, outputs in failing.in_turn("write") if ran.err]
+    expect_texts(report, "write", told, ["downlink: write failed", "received: write failed"])
 
 
 def check_settings(report, room, shim, growths):
@@ -190,10 +197,7 @@ def check(report):
         expect_traffic(report, "3,000 frames", failing.whole)
 
         growths = check_memory(report, failing)
-        expect_texts(report, "read", failing.in_turn("read"), ["uplink: read failed", "outgoing: read failed"])
-        # Where what failed is the line of the run itself, nothing more can be told.
-        told = [(ran, outputs) for ran, outputs in failing.in_turn("write") if ran.err]
-        expect_texts(report, "write", told, ["downlink: write failed", "received: write failed"])
+        check_reads_and_writes(report, failing)
         files = ["uplink", "outgoing", "downlink", "received"]
         expect_texts(report, "open", failing.in_turn("open"), [f"{file}: cannot open" for file in files])
         expect_texts(report, "empty", failing.in_turn("empty"), [f"{file}: cannot open" for file in files[2:]])
@@ -207,5 +211,7 @@ def check(report):
         expect_traffic(report, "ten frames", failing.whole)
         short = check_memory(report, failing)
         report.expect("ten frames want memory as often as 3,000", short == growths, f"{short} and {growths}")
+        # Live, each record is written by itself.
+        check_reads_and_writes(report, Failing(report, room, shim, uplink="-", given=room.uplink.read_bytes()))
         check_settings(report, room, shim, growths)
         check_answers(report, shim)

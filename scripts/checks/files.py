@@ -146,6 +146,25 @@ def twin_in(folder):
             return file, others[file.stat().st_ino]
 
 
+def check_lists_left_out(report):
+    """Where a list is left out, an output is apart from the files that are there, and may be any other."""
+    downlink = (report.top / "samples/one_csbk/downlink.dmrd").read_bytes()
+    with Room(report, it.ONE_CSBK, it.OUTGOING_HEAD) as room:
+        for left, taken, file in (
+            ("outgoing", "downlink", room.uplink),
+            ("outgoing", "received", room.uplink),
+            ("received", "downlink", room.uplink),
+            ("received", "downlink", room.outgoing),
+        ):
+            ran = room.run(**{left: None, taken: file})
+            report.expect(f"{taken} over {file.name}, without {left}", ran.is_error(f"{taken}: cannot open"), ran)
+        inputs = [room.uplink.read_bytes(), room.outgoing.read_bytes()]
+        report.expect("the inputs are as they were", inputs == [it.ONE_CSBK, it.OUTGOING_HEAD], inputs)
+        ran = room.run(outgoing=None, received=None, downlink=room.outgoing)
+        is_so = (ran.status, ran.out, ran.err, room.outgoing.read_bytes()) == (0, LINE, b"", downlink)
+        report.expect("a downlink over a list that is no input", is_so, ran)
+
+
 def check_devices(report):
     """Files of two devices may have one number, and are two files."""
     memory = pathlib.Path("/dev/shm")
@@ -169,12 +188,17 @@ def check_devices(report):
 
 def check_standard_streams(report):
     downlink = (report.top / "samples/one_csbk/downlink.dmrd").read_bytes()
-    for name in ("/dev/stdout", "-"):
+    # The line stands behind an output to standard output, and beside one that is a hyphen.
+    for name, behind, beside in (("/dev/stdout", LINE, b""), ("-", b"", LINE)):
         with Room(report, it.ONE_CSBK, it.OUTGOING_HEAD) as room:
             ran = room.run(downlink=name)
-            report.expect(f"downlink {name} to a pipe", (ran.status, ran.out, ran.err) == (0, downlink + LINE, b""), ran)
+            is_so = (ran.status, ran.out, ran.err) == (0, downlink + behind, beside)
+            report.expect(f"downlink {name} to a pipe", is_so, ran)
             ran = room.run(received=name)
-            report.expect(f"received {name} to a pipe", (ran.status, ran.out) == (0, it.RECEIVED_HEAD + LINE), ran)
+            is_so = (ran.status, ran.out, ran.err) == (0, it.RECEIVED_HEAD + behind, beside)
+            report.expect(f"received {name} to a pipe", is_so, ran)
+            ran = room.run(downlink=name, streams={"stderr": subprocess.STDOUT})
+            report.expect(f"downlink {name} to a pipe that has errors too", (ran.status, ran.out) == (0, downlink + LINE), ran)
             for taken in ("downlink", "received"):
                 printed = room.path / "printed"
                 printed.write_bytes(OLD)
@@ -256,8 +280,9 @@ def check_pipes_that_are_inputs(report):
         ran = room.run(downlink=fifo, received=fifo)
         report.expect("a named pipe for both outputs", ran.is_error("received: cannot open"), ran)
         os.close(held)
-        ran = room.run(downlink="-", received="-")
-        report.expect("standard output for both outputs", ran.is_error("received: cannot open"), ran)
+        for names in (("-", "/dev/stdout"), ("/dev/stdout", "-"), ("/dev/stdout", "/dev/stdout")):
+            ran = room.run(**dict(zip(FILES[2:], names)))
+            report.expect(f"standard output for both outputs, {names}", ran.is_error("received: cannot open"), ran)
 
 
 def check_pipes(report):
@@ -296,6 +321,7 @@ def check(report):
     check_nothing_lost(report)
     check_order(report)
     check_names(report)
+    check_lists_left_out(report)
     check_devices(report)
     check_standard_streams(report)
     check_closed_streams(report)

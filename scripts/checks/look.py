@@ -1,5 +1,6 @@
 """The quick look, `./dmrgate --unproved`: it starts a command once by the kit, and keeps nothing. A stand-in is the kit."""
 
+import os
 import subprocess
 import tempfile
 
@@ -8,10 +9,11 @@ from checks.standin import in_trees
 NOTHING_PROVED = "dmrgate: compiling it for one run, which takes a minute or two; nothing of it is proved\n"
 
 
-def look(tree, folder, *words, given=b""):
+def look(tree, folder, *words, stdout=subprocess.PIPE):
     """Runs it in a folder."""
     command = ["python3", tree.script, "--unproved", *words]
-    return subprocess.run(command, **{**tree.how(), "cwd": folder}, input=given, capture_output=True)
+    streams = {"stdin": subprocess.DEVNULL, "stdout": stdout, "stderr": subprocess.PIPE}
+    return subprocess.run(command, **{**tree.how(), "cwd": folder}, **streams)
 
 
 def expect(tree, name, ran, status, out, err):
@@ -30,12 +32,25 @@ def check_places(tree):
         tree.expect("a look at a run: its downlink", open(f"{folder}/down").read() == "downlink\n")
         tree.expect("a look at a run: the program", tree.said() == ["try dmrgate"])
         ran = look(tree, folder, "run", "--downlink", "-", "--uplink", "-")
-        lines = ran.stdout.decode().splitlines()
-        tree.expect("a downlink to standard output goes first", lines[:1] == ["downlink"] and len(lines) == 2, ran)
-        tree.expect("standard input stays what it is", lines[-1].endswith(" --uplink -"), ran)
+        tree.expect("a downlink stands alone on standard output", (ran.returncode, ran.stdout) == (0, b"downlink\n"), ran)
+        begin, _, end = ran.stderr.decode().removeprefix(NOTHING_PROVED).partition("/")
+        is_so = begin == "run --downlink " and end.endswith(" --uplink -\n")
+        tree.expect("what is printed goes beside it, and standard input stays what it is", is_so, ran)
         tree.said()
         look(tree, folder, "show", "down")
         tree.expect("a look at another program's command", tree.said() == ["try dmrgate_tools"])
+
+
+def check_hyphens(tree):
+    """An output isn't sent to a terminal, and nothing is compiled for that. Two hyphens are the program's to refuse."""
+    ours, its = os.openpty()
+    ran = look(tree, "/", "run", "--received=-", stdout=its)
+    is_so = (ran.returncode, ran.stderr) == (1, b"error: received: standard output is a terminal\n")
+    tree.expect("an output to a terminal", is_so and tree.said() == [], ran)
+    os.close(its)
+    os.close(ours)
+    ran = look(tree, "/", "run", "--downlink", "-", "--received", "-")
+    expect(tree, "both outputs to standard output", ran, 0, "run --downlink - --received -\n", NOTHING_PROVED)
 
 
 def check_endings(tree):
@@ -52,4 +67,4 @@ def check_endings(tree):
 
 
 def check(report):
-    in_trees(report, [check_places], [check_endings])
+    in_trees(report, [check_places, check_hyphens], [check_endings])

@@ -81,10 +81,11 @@ class Room:
         self.held.cleanup()
 
     def words(self, *more, **places):
-        """The words of a run over these files, or over others in their places."""
+        """The words of a run over these files, or over others in their places; a file is left out whose place is None."""
         words = ["run"]
         for name in ("uplink", "outgoing", "downlink", "received"):
-            words += [f"--{name}", places.get(name, getattr(self, name))]
+            place = places.get(name, getattr(self, name))
+            words += [] if place is None else [f"--{name}", place]
         return [*words, *([] if "--llid" in more else ["--llid", 1]), *more]
 
     def run(self, *more, given=b"", env=None, streams=None, **places):

@@ -75,6 +75,15 @@ Usage: dmrgate slot <HEX>
 
 For more information, try '--help'.
 """
+RUN_ALONE = """error: the following required arguments were not provided:
+  --uplink <FILE>
+  --downlink <FILE>
+  --llid <N>
+
+Usage: dmrgate run --uplink <FILE> --downlink <FILE> --llid <N>
+
+For more information, try '--help'.
+"""
 COLOUR_16 = """error: invalid value '16' for '--colour <N>': 16 is not in 0..=15
 
 For more information, try '--help'.
@@ -83,7 +92,7 @@ COLOURS = """error: unexpected argument '--colours' found
 
   tip: a similar argument exists: '--colour'
 
-Usage: dmrgate run --uplink <FILE> --outgoing <FILE> --downlink <FILE> --received <FILE> --llid <N> --colour <N>
+Usage: dmrgate run --uplink <FILE> --downlink <FILE> --llid <N> --outgoing <FILE> --received <FILE> --colour <N>
 
 For more information, try '--help'.
 """
@@ -146,6 +155,9 @@ def check_devices(report):
         with open("/dev/full", "wb") as full:
             ran = room.run(uplink=room.path / "nowhere", streams={"stderr": full})
             report.expect("standard error is full", (ran.status, ran.out) == (1, b""), ran)
+            for file in ("downlink", "received"):
+                ran = room.run(**{file: "-"}, streams={"stdout": full})
+                report.expect(f"{file} to a full standard output", ran.is_error(f"{file}: write failed"), ran)
 
 
 def check_words(report):
@@ -169,7 +181,7 @@ def check_words(report):
             ran = room.run(*words)
             report.expect(f"{words}", (ran.status, ran.err) == (0, b""), ran)
         words = room.words()
-        for name in ("uplink", "outgoing", "downlink", "received", "llid"):
+        for name in ("uplink", "downlink", "llid"):
             at = words.index(f"--{name}")
             ran = report.call(*words[:at], *words[at + 2 :])
             is_told = ran.status == 2 and ran.out == b"" and f"  --{name} <" in ran.err.decode()
@@ -178,8 +190,9 @@ def check_words(report):
         ran = report.call(*words)
         is_told = ran.status == 2 and ran.out == b"" and b"Usage: dmrgate" in ran.err
         report.expect(f"words {words}", is_told, ran)
-    ran = report.call("slot")
-    report.expect("the text of a slot without a burst", (ran.status, ran.out, ran.err.decode()) == (2, b"", SLOT_ALONE), ran)
+    for command, text in (("slot", SLOT_ALONE), ("run", RUN_ALONE)):
+        ran = report.call(command)
+        report.expect(f"the text of {command} alone", (ran.status, ran.out, ran.err.decode()) == (2, b"", text), ran)
     with open("/dev/full", "wb") as full:
         for words in (["--help"], ["--version"], ["slot", it.IDLE], ["show", "--help"], ["help", "show"]):
             ran = report.call(*words, stdout=full)

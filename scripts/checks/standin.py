@@ -47,7 +47,7 @@ case $1 in
         shift 2
         previous=
         for word; do
-            [ "$previous" != --downlink ] || echo downlink >"$word"
+            [ "$previous" != --downlink ] || [ "$word" = - ] || echo downlink >"$word"
             previous=$word
         done
         echo "$@"

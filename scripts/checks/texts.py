@@ -14,6 +14,16 @@ BASH = "share/bash-completion/completions/dmrgate"
 ZSH = "share/zsh/site-functions/_dmrgate"
 FISH = "share/fish/vendor_completions.d/dmrgate.fish"
 
+# Stands in for socat, between the ports of a modem: one sends an uplink, and the other takes a downlink.
+SOCAT = """#!/bin/sh
+[ "$1" = -u ] || exit 2
+case "$2 $3" in
+    "TCP:modem:5000 -") cat modem.dmru ;;
+    "- TCP:modem:5001") cat >modem.dmrd ;;
+    *) exit 2 ;;
+esac
+"""
+
 # What bash offers for the words of an array, the last of them unfinished.
 COMPLETE = 'source "$1"; shift; COMP_WORDS=("$@"); COMP_CWORD=$(($# - 1)); _dmrgate; printf "%s\\n" "${COMPREPLY[@]}"'
 
@@ -68,14 +78,18 @@ def check_help(report):
     """The options of the programs, of run, of slot and of show."""
     top, run, slot, show = (help_of(report, *words) for words in ([], ["run"], ["slot"], ["show"]))
     report.expect("help of slot to the octet", slot == HELP_OF_SLOT, slot)
-    usages = "dmrgate <COMMAND>", "dmrgate run [OPTIONS] --uplink <FILE>", "dmrgate slot <HEX>", "dmrgate show [OPTIONS] <FILE>"
+    wanted = "dmrgate run [OPTIONS] --uplink <FILE> --downlink <FILE> --llid <N>"
+    usages = "dmrgate <COMMAND>", wanted, "dmrgate slot <HEX>", "dmrgate show [OPTIONS] <FILE>"
     for text, usage in zip((top, run, slot, show), usages):
-        report.expect(f"help has the usage {usage}", f"\nUsage: {usage}" in text, text)
+        report.expect(f"help has the usage {usage}", f"\nUsage: {usage}\n" in text, text)
     commands = set(re.findall(r"^  ([a-z]+)  ", top, re.MULTILINE))
     report.expect("the commands", commands == {"run", "slot", "show", "help"}, commands)
     defaults = {"--colour": "1", "--call-hang": "3", "--channel-hang": "5", "--queue": "9"}
     report.expect("the defaults", defaults_in(run) == defaults, defaults_in(run))
-    for words in ("60 ms", "1 to 16777215", "0 to 15", "1 to 64", "0 to 65535", "Status 0", "Example", "docs/protocol.md"):
+    ranges = "1 to 16777215", "0 to 15", "1 to 64", "0 to 65535"
+    left_out = "none without it", "not kept without it"
+    hyphens = "- is standard input", "- is standard output"
+    for words in ("60 ms", *ranges, *left_out, *hyphens, "Status 0", "Example", "docs/protocol.md"):
         report.expect(f"help of run has {words!r}", words in run, run)
     report.expect("--color is hidden", "--color " not in run, run)
     for words, text in ((["help"], top), (["help", "run"], run), (["help", "slot"], slot), (["help", "show"], show)):
@@ -113,11 +127,22 @@ def check_completions(report, top, run, slot, show):
         (["dmrgate", "run", ""], run),
         (["dmrgate", "run", "--c"], {"--colour", "--call-hang", "--channel-hang"}),
         (["dmrgate", "run", "--uplink", "READ"], {"README.md"}),
+        # Bash parts words at =, unless it is told not to.
+        (["dmrgate", "run", "--uplink", "=", "READ"], {"README.md"}),
+        (["dmrgate", "run", "--uplink=READ"], {"--uplink=README.md"}),
         (["dmrgate", "run", "--llid", ""], set()),
+        (["dmrgate", "run", "--llid", "="], set()),
+        (["dmrgate", "run", "--color", ""], set()),
+        (["dmrgate", "run", "--", "-"], set()),
         (["dmrgate", "slot", "-"], slot),
         (["dmrgate", "show", "-"], show),
         (["dmrgate", "show", "READ"], {"README.md"}),
-        (["dmrgate", "show", "--slot", ""], set()),
+        (["dmrgate", "show", "--slot", ""], {"1", "2"}),
+        (["dmrgate", "show", "--slot", "="], {"1", "2"}),
+        (["dmrgate", "show", "--slot=2"], {"--slot=2"}),
+        (["dmrgate", "show", "--from", ""], set()),
+        (["dmrgate", "show", "--", "-"], set()),
+        (["dmrgate", "show", "--", "READ"], {"README.md"}),
         (["dmrgate", "help", ""], {"run", "slot", "show"}),
     ):
         had = offered(report, *words)
@@ -127,6 +152,10 @@ def check_completions(report, top, run, slot, show):
     parts = [text[:begin], *re.split(r"^    (?:slot|show|help)\)$", text[begin:], flags=re.MULTILINE)]
     for name, part, wanted in zip(("the program", "run", "slot", "show"), parts, (top, run, slot, show)):
         report.expect(f"zsh's options of {name}", options_in(part) == wanted, options_in(part) ^ wanted)
+        is_so = name == "the program" or part.count("_arguments -S ") == 1
+        report.expect(f"zsh offers no option of {name} behind --", is_so, part)
+        without = re.findall(r"(--[a-z-]+)\[[^]]*\]:", part)
+        report.expect(f"zsh takes each value of {name} behind = too", not without, without)
     lines = (report.top / FISH).read_text().splitlines()
     everywhere = {"--help"}
     marks = ("the program", "__fish_use_subcommand", top), ("run", "from run'", run), ("show", "from show'", show)
@@ -143,12 +172,44 @@ def shell(command, folder):
     return subprocess.run(["sh", "-c", command], cwd=folder, capture_output=True, text=True)
 
 
+def expect_live(report, name, room, sample, command):
+    """A command repeats between the ports of a modem."""
+    (room.path / "socat").write_text(SOCAT)
+    (room.path / "socat").chmod(0o755)
+    shutil.copy(sample / "uplink.dmru", room.path / "modem.dmru")
+    ran = shell(f"PATH=$PWD:$PATH; {command}", room.path)
+    taken = (room.path / "modem.dmrd").read_bytes()
+    is_so = (ran.returncode, ran.stdout, ran.stderr) == (0, "", (sample / "summary.txt").read_text())
+    report.expect(name, is_so and taken == (sample / "downlink.dmrd").read_bytes(), ran)
+    (room.path / "modem.dmru").unlink()
+
+
+def check_examples(report):
+    """The manual's examples run: over a file, to a picture, and between the ports of a modem."""
+    text = (report.top / MANUAL).read_text()
+    text = text[text.index(".SH EXAMPLES") :].replace("\\-", "-")
+    over_file, to_picture, live = re.findall(r"^\.nf\n(.*?)^\.fi$", text, re.MULTILINE | re.DOTALL)
+    sample = report.top / "samples/call"
+    line = (sample / "summary.txt").read_text()
+    with Room(report) as room:
+        (room.path / "dmrgate").symlink_to(report.top / "dmrgate")
+        shutil.copy(sample / "uplink.dmru", room.path / "in.dmru")
+        ran = shell(f"PATH=$PWD:$PATH; {over_file}", room.path)
+        written = (room.path / "out.dmrd").read_bytes()
+        is_so = (ran.returncode, ran.stdout, ran.stderr, written) == (0, line, "", (sample / "downlink.dmrd").read_bytes())
+        report.expect("the manual's run over a file", is_so, ran)
+        ran, strip = shell(f"PATH=$PWD:$PATH; {to_picture}", room.path), shell("./dmrgate show out.dmrd --strip", room.path)
+        is_so = (ran.returncode, ran.stdout, ran.stderr) == (0, strip.stdout, line)
+        report.expect("the manual's picture", is_so and strip.stdout, ran)
+        expect_live(report, "the manual's run between the ports of a modem", room, sample, live)
+
+
 def check_readme(report):
     """Its commands run, and do what it says; each option that it names is one."""
     text = (report.top / "README.md").read_text()
     command = re.search(r"^    (\./dmrgate run .*)$", text, re.MULTILINE)[1]
     line = re.search(r"It prints `(frames .*?)`", text)[1]
-    named = re.search(r" --uplink (samples/\w+)/uplink\.dmru --outgoing \1/outgoing\.dmro --downlink downlink\.dmrd ", command)[1]
+    named = re.search(r" --uplink (samples/\w+)/uplink\.dmru --downlink downlink\.dmrd ", command)[1]
     sample = report.top / named
     wanted = (sample / "downlink.dmrd").read_bytes()
     is_told = f"`downlink.dmrd` is `{named}/downlink.dmrd`, octet for octet" in " ".join(text.split())
@@ -160,9 +221,12 @@ def check_readme(report):
         report.expect("the command of the README", (ran.returncode, ran.stdout) == (0, line + "\n"), ran)
         report.expect("its downlink", room.downlink.name == "downlink.dmrd" and room.downlink.read_bytes() == wanted)
 
-        shell(re.search(r"^    (printf .* > none\.dmro)$", text, re.MULTILINE)[1], room.path)
-        empty = (room.path / "none.dmro").read_bytes()
-        report.expect("an empty outgoing list", empty == recordings.OUTGOING_HEAD, empty)
+        piped = re.search(r"^    (\./dmrgate run .* \| \./dmrgate show - --strip)$", text, re.MULTILINE)[1]
+        ran, strip = shell(piped, room.path), shell("./dmrgate show downlink.dmrd --strip", room.path)
+        is_so = (ran.returncode, ran.stdout, ran.stderr) == (0, strip.stdout, line + "\n")
+        report.expect("the README's pipe", is_so and strip.stdout, ran)
+        live = re.search(r"^    (socat .*)$", text, re.MULTILINE)[1]
+        expect_live(report, "the README's run between the ports of a modem", room, sample, live)
         if shutil.which("xxd"):
             (room.path / "slots.txt").write_text(recordings.CSBK.hex().upper() + "\n\n")
             ran = shell(re.search(r"^    (\{ printf .* > mine\.dmru)$", text, re.MULTILINE)[1], room.path)
@@ -197,5 +261,6 @@ def check(report):
     short = report.call("-V")
     report.expect("-V is --version", (short.status, short.out, short.err) == (ran.status, ran.out, ran.err), short)
     check_manual(report, top | run | slot | show, version)
+    check_examples(report)
     check_completions(report, top, run, slot, show)
     check_readme(report)

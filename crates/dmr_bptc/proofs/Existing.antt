@@ -1,16 +1,20 @@
--- Any bits are decoded somehow: there is what they are decoded to.
+-- There is what any bits are decoded to, and a written form of any information.
 use Rattle.std.proofs.Common.{◌≡◌, ℕ, ◌+◌, ◌-◌, ◌*◌, ◌/◌, ◌%◌, ◌≤◌, ◌<◌, ◌⊎◌, Bool, false, List, length, map, get_or, refl, sym}
 use Rattle.std.proofs.Common.{◌∙◌, ap, subst, arith, inl, inr, Option, Some, None}
 use Rattle.std.specs.List.{range_with_len}
-use Rattle.std.proofs.lemmas.List.FromFn.{get_or-map-range_with_len}
+use Rattle.std.proofs.lemmas.List.{get_or-take}
+use Rattle.std.proofs.lemmas.List.FromFn.{length-map-range_with_len, get_or-map-range_with_len}
 use Rattle.dmr_bits.specs.Bits.{weight}
+use Rattle.dmr_codes.proofs.Completing.{word_somehow}
 use Rattle.dmr_codes.proofs.Searching.{Decided, near_or_beyond, word_or_not, all_or_one}
 use Rattle.dmr_codes.specs.Code.{IsWord}
 use Rattle.dmr_codes.specs.LeastColumns.{least_three}
-use Rattle.dmr_codes.specs.Seven.{IsHamming13, IsHamming15, hamming13_columns, hamming15_columns, hamming13_shaped, hamming15_shaped}
+use Rattle.dmr_codes.specs.Seven.{IsHamming13, IsHamming15, hamming13_columns, hamming15_columns, hamming13_shaped}
+use Rattle.dmr_codes.specs.Seven.{hamming15_shaped}
 use Rattle.dmr_bptc.specs.Decoding.{IsCorrected, IsDecoded}
-use Rattle.dmr_bptc.specs.ProductWord.{place, cell, row, column, IsProductWord, information}
-use Rattle.dmr_bptc.proofs.Cells.{length-row, length-column, row_from, column_from, unplace, place_below}
+use Rattle.dmr_bptc.specs.ProductWord.{place, cell, row, column, IsProductWord, information, information_cell, IsWritten}
+use Rattle.dmr_bptc.proofs.Cells.{length-row, length-column, row_from, column_from, unplace, place_below, information_from}
+use Rattle.dmr_bptc.proofs.Filling.{all_rows, information_cell_at, reserved_cell}
 use Rattle.dmr_bptc.proofs.Turning.{corrected_to}
 
 -- ---- one row or column
@@ -107,3 +111,73 @@ decoded_somehow bits =
       )
       | inr none ↦ (None, record { middle = middle; last = last; columns = columns; rows = rows; outcome = none })
     ]
+
+-- ---- what is written
+-- The upper rows: eleven cells of the information, and the four checks of the code behind them.
+record IsUpperRow (message : List Bool) (r : ℕ) (word : List Bool) : Type 0 where
+  is : IsHamming15 word
+  cells : (c : ℕ) → c < 11 → get_or word c false ≡ information_cell message r c
+
+row_of_information : (message : List Bool) (r : ℕ) → (word : List Bool) × IsUpperRow message r word
+row_of_information message r =
+    let front : List Bool = map (λ c. information_cell message r c) (range_with_len 0 11) in
+    let (word, is, begins) =
+    word_somehow 15 11 hamming15_columns front hamming15_shaped (length-map-range_with_len (λ c. information_cell message r c) 0 11)
+    in (
+      word,
+      record {
+        is = is;
+        cells = λ c h. sym (get_or-take 11 word c false h) ∙ ap (λ l. get_or l c false) begins
+            ∙ get_or-map-range_with_len (λ c. information_cell message r c) 0 11 c c false h (omega arith);
+      },
+    )
+
+-- The columns: nine cells of the upper rows, and the four checks of the code below them.
+record IsWholeColumn (rows : ℕ → List Bool) (c : ℕ) (word : List Bool) : Type 0 where
+  is : IsHamming13 word
+  cells : (r : ℕ) → r < 9 → get_or word r false ≡ get_or (rows r) c false
+
+column_of_rows : (rows : ℕ → List Bool) (c : ℕ) → (word : List Bool) × IsWholeColumn rows c word
+column_of_rows rows c =
+    let front : List Bool = map (λ r. get_or (rows r) c false) (range_with_len 0 9) in
+    let (word, is, begins) =
+    word_somehow 13 9 hamming13_columns front hamming13_shaped (length-map-range_with_len (λ r. get_or (rows r) c false) 0 9) in (
+      word,
+      record {
+        is = is;
+        cells = λ r h. sym (get_or-take 9 word r false h) ∙ ap (λ l. get_or l r false) begins
+            ∙ get_or-map-range_with_len (λ r. get_or (rows r) c false) 0 9 r r false h (omega arith);
+      },
+    )
+
+-- Any 96 bits have a written form.
+pub written_somehow : (message : List Bool) → length message ≡ 96 → (bits : List Bool) × IsWritten message bits
+written_somehow message long =
+    let rows : ℕ → List Bool = λ r. (row_of_information message r).0 in
+    let upper : (r : ℕ) → IsUpperRow message r (rows r) = λ r. (row_of_information message r).1 in
+    let columns : ℕ → List Bool = λ c. (column_of_rows rows c).0 in
+    let whole : (c : ℕ) → IsWholeColumn rows c (columns c) = λ c. (column_of_rows rows c).1 in
+    let cells : ℕ → ℕ → Bool = λ r c. get_or (columns c) r false in
+    let bits : List Bool = table_of cells in
+    let cell_is : (r c : ℕ) → r < 13 → c < 15 → cell bits r c ≡ get_or (columns c) r false = cell_of_table cells in
+    let upper_cell : (r c : ℕ) → r < 9 → c < 15 → cell bits r c ≡ get_or (rows r) c false =
+    λ r c h l. cell_is r c (omega arith) l ∙ (whole c).cells r h in
+    let held : (r c : ℕ) → r < 9 → c < 11 → cell bits r c ≡ information_cell message r c =
+    λ r c h l. upper_cell r c h (omega arith) ∙ (upper r).cells c l in
+    let all_columns : (c : ℕ) → c < 15 → IsHamming13 (column bits c) =
+    λ c h. subst IsHamming13 (column_from bits (columns c) c (whole c).is.long (λ r l. sym (cell_is r c l h))) (whole c).is in
+    let first_rows : (r : ℕ) → r < 9 → IsHamming15 (row bits r) =
+    λ r h. subst IsHamming15 (row_from bits (rows r) r (upper r).is.long (λ c l. sym (upper_cell r c h l))) (upper r).is in (
+      bits,
+      record {
+        long = length-map-range_with_len (bit_at cells) 0 196;
+        word = record { rows = all_rows bits all_columns first_rows; columns = all_columns };
+        holds = sym (information_from bits message long (λ k h.
+            sym (held ((k + 3) / 11) ((k + 3) % 11) (omega arith) (omega arith) ∙ information_cell_at message k)));
+        reserved = record {
+          cells = λ c h. held 0 c (omega arith) (omega arith) ∙ reserved_cell message c h;
+          first = get_or-map-range_with_len (bit_at cells) 0 196 0 0 false (omega arith) (omega arith)
+              ∙ (whole 0).cells 0 (omega arith) ∙ (upper 0).cells 0 (omega arith) ∙ reserved_cell message 0 (omega arith);
+        };
+      },
+    )

@@ -1,5 +1,5 @@
 -- Bursts, as they are sent, and what is read back of them. ETSI TS 102 361-1, clauses 6.1, 6.2 and 9.1.
-use Rattle.std.specs.Prelude.{◌≡◌, ◌<◌, Bool, true, false, List, length}
+use Rattle.std.specs.Prelude.{◌≡◌, ◌<◌, ◌^◌, Bool, true, false, List, length}
 use Rattle.dmr_bits.specs.Bits.{number_of}
 use Rattle.dmr_codes.specs.Seven.{IsGolay20, IsResidue16}
 use Rattle.dmr_burst.specs.Emb.{emb_of, HasEmb}
@@ -15,6 +15,12 @@ abbrev pub IsBurst : Burst → Type 0
 IsBurst (Data colour kind information) = (colour < 16) × (kind < 16)
 IsBurst (VoiceSync vocoder) = Unit {0}
 IsBurst (Voice emb embedded vocoder) = (emb.colour < 16) × (emb.lcss < 4)
+
+-- the lists of a burst are as long as its fields
+abbrev pub HasWholeLists : Burst → Type 0
+HasWholeLists (Data colour kind information) = length information ≡ 196
+HasWholeLists (VoiceSync vocoder) = length vocoder ≡ 216
+HasWholeLists (Voice emb embedded vocoder) = (embedded < 2 ^ 32) × (length vocoder ≡ 216)
 
 -- The 264 bits that a side sends for a burst. A data burst has a Golay word that says its slot type, its information, and the data
 -- sync of its side.

@@ -1,8 +1,13 @@
 //! Laws of the definition of a block, as the contracts of functions that do nothing.
 ghost use Rattle.std.specs.Prelude.{◌≡◌, List, Bool};
 ghost use Rattle.dmr_bptc.specs.ProductWord.{IsWritten};
-ghost use Rattle.dmr_csbk.specs.Block.{IsCsbk, IsReadCsbk};
+ghost use Rattle.dmr_csbk.specs.Block.{FitsCsbk, IsCsbk, IsReadCsbk};
 ghost use Rattle.dmr_csbk.specs.declared.block.Csbk.{Csbk};
+
+/// A block whose fields fit has its 96 bits.
+pub fn block_is_sealed()
+    ensures law { (csbk : Csbk) → FitsCsbk csbk → (message : List Bool) × IsCsbk csbk message }
+{}
 
 /// A block has one written form.
 pub fn one_written_form()

@@ -2,7 +2,7 @@
 ghost use Rattle.std.specs.Prelude.{◌≡◌, false, IfOk};
 
 use crate::place::Place;
-use crate::system::System;
+use crate::system::{Open, System};
 use dmr_record::{FromRead, Source};
 use std::alloc::Global;
 use std::io::BufReader;
@@ -16,19 +16,22 @@ pub enum OpenFault {
     Memory,
 }
 
-/// Opens a file that is to be read, through a buffer.
+/// Opens a file that is to be read, through a buffer, and tells which file it is.
 pub fn open_source<S: System>(
     system: &S,
     alloc: Global,
     place: Place<'_>,
-) -> Result<FromRead<BufReader<S::Input>>, OpenFault>
-    ensures well { IfOk result (λ source. ⟦<FromRead<BufReader<S::Input>> as Source>⟧.has_failed source ≡ false) }
+) -> Result<Open<FromRead<BufReader<S::Input>>>, OpenFault>
+    ensures well { IfOk result (λ read. ⟦<FromRead<BufReader<S::Input>> as Source>⟧.has_failed read.file ≡ false) }
 {
-    let Ok(open) = system.open_input(place) else {
+    let Ok(Open { file, identity }) = system.open_input(place) else {
         return Err(OpenFault::CannotOpen);
     };
-    match BufReader::new(alloc, open.file) {
-        Ok(reader) => Ok(FromRead::new(reader)),
+    match BufReader::new(alloc, file) {
+        Ok(reader) => Ok(Open {
+            file: FromRead::new(reader),
+            identity,
+        }),
         Err(_) => Err(OpenFault::Memory),
     }
 }

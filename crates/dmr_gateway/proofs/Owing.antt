@@ -10,7 +10,7 @@ use Rattle.dmr_gateway.specs.declared.answers.Due.{Due}
 use Rattle.dmr_gateway.specs.Answers.{flag_count}
 use Rattle.dmr_gateway.specs.AttemptMeaning.{Stage, Ready, Begun, Awaits, Hand, Owing, Ledger, Goes, Brings, attempts, goes}
 use Rattle.dmr_gateway.specs.AttemptMeaning.{goes_on, try_stands, due_try, rests, waiting_goes, ledger_owes}
-use Rattle.dmr_gateway.specs.Courses.{begins_try, ends_answer, owed_after, AnswersGoFirst}
+use Rattle.dmr_gateway.specs.Courses.{begins_try, ends_answer, still_due_after, AnswersGoFirst}
 use Rattle.dmr_gateway.proofs.Attempting.{FitsLedger, joined, heard, readied, readied_fits, hand_fits, owing_fits, answer_from}
 use Rattle.dmr_gateway.proofs.Attempting.{cut_answer, cut_in_stage}
 use Rattle.dmr_gateway.proofs.Going.{FitsStage, FitsHand, FitsBegun, FitsOwing, Leaves, hears_leaves, takes_owing}
@@ -150,7 +150,7 @@ frame_owes limit llid b earlier =
     goes_owes llid f b.free z.hand z (hand_fits f z.hand z.owing fits) (owing_fits f z.hand z.owing fits)
 
 held_is_owed : (limit llid : ℕ) (frames : List Brings) → due_of (attempts limit llid frames).ledger.owing
-    ≡ owed_after limit llid frames
+    ≡ still_due_after limit llid frames
 held_is_owed limit llid [] = refl
 held_is_owed limit llid (b ∷ earlier) =
     let l : Ledger = (attempts limit llid earlier).ledger in

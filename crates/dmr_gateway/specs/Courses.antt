@@ -125,18 +125,18 @@ ends_answer f (Some a) = ends a.what
     ends (Tries packet route number selection) = false
 
 -- The answer that is still owed after these frames: the one that was due last, until its last burst is out.
-abbrev pub owed_after : ℕ → ℕ → List Brings → Option Due
-owed_after limit llid [] = None
-owed_after limit llid (newest ∷ earlier) =
+abbrev pub still_due_after : ℕ → ℕ → List Brings → Option Due
+still_due_after limit llid [] = None
+still_due_after limit llid (newest ∷ earlier) =
     if ends_answer (length earlier) (attempts limit llid (newest ∷ earlier)).stands then None
-    else option_or newest.due (owed_after limit llid earlier)
+    else option_or newest.due (still_due_after limit llid earlier)
 
 -- In a frame in which a try begins, no answer is due, and none is still owed.
 abbrev pub AnswersGoFirst : Type 0
 AnswersGoFirst =
     (limit llid : ℕ) (newest : Brings) (earlier : List Brings) →
     begins_try (length earlier) (attempts limit llid (newest ∷ earlier)).stands ≡ true →
-    option_or newest.due (owed_after limit llid earlier) ≡ None
+    option_or newest.due (still_due_after limit llid earlier) ≡ None
 
 -- 6. Four tries.
 

@@ -1,3 +1,4 @@
+pub mod Existing
 pub mod Fields
 pub mod Masks
 pub mod Options

@@ -1,12 +1,18 @@
 //! Laws of the definition of a sealed link control, as the contracts of functions that do nothing.
 ghost use Rattle.std.specs.Prelude.{◌≡◌, List, Bool};
 ghost use Rattle.dmr_bptc.specs.ProductWord.{IsWritten};
+ghost use Rattle.dmr_link.specs.FullLc.{FitsFullLc};
 ghost use Rattle.dmr_link.specs.Sealed.{IsLc, IsReadLc};
 ghost use Rattle.dmr_link.specs.declared.full_lc.FullLc.{FullLc};
 ghost use Rattle.dmr_link.specs.declared.sealing.LcUse.{LcUse};
 ghost use Rattle.dmr_link.specs.Options as numbers;
 
 use crate::ServiceOptions;
+
+/// A link control whose fields fit has a sealed form for each use.
+pub fn link_control_is_sealed()
+    ensures law { (lc_use : LcUse) (lc : FullLc) → FitsFullLc lc → (message : List Bool) × IsLc lc_use lc message }
+{}
 
 /// A link control has one sealed form for a use.
 pub fn one_written_form()

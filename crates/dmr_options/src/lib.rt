@@ -6,9 +6,9 @@
 //! other programs are made of the same pieces (`number`, `frame`, `word`).
 //!
 //! `words_of` gives the words that a program was started with. `text_of`, `given_text_of` and `flag_of` tell what was given for an
-//! option, by `specs/Found.antt`. Where nothing is to be done, three calls print why, and answer the exit status: `print_answer` prints help,
-//! the version or a mistake, `print_elsewhere` that another program has the command, and `print_no_words` that there are no words.
-//! Of the texts of help nothing is promised, and tests compare them.
+//! option, by `specs/Found.antt`. Where nothing is to be done, three calls print why, and answer the exit status: `print_answer`
+//! prints help, the version or a mistake, `print_elsewhere` that another program has the command, and `print_no_words` that there
+//! are no words. Of the texts of help nothing is promised, and tests compare them.
 //!
 //! Arguments are gathered in lists and handed to the parser at once. One that is held while the next wants memory has to be dropped
 //! where there is none, and a proof goes through each such way.

@@ -1,6 +1,6 @@
 -- Which outputs of a run may be written, and which inputs are live.
 use Rattle.std.specs.Prelude.{◌≡◌, ◌||◌, Bool, false, Option, Some, None}
-use Rattle.dmr_files.specs.Identity.{clashes, is_behind, is_live as is_live_file}
+use Rattle.dmr_files.specs.Identity.{clashes, is_behind, is_live}
 use Rattle.dmr_files.specs.declared.identity.Identity.{Identity}
 use Rattle.dmr_program.specs.declared.opening.Taken.{Taken}
 
@@ -18,6 +18,6 @@ pub record IsApart (taken : Taken) (output : Identity) : Type 0 where
   pub from_standard_error : is_behind output taken.standard.error ≡ false
 
 -- More of an input may come while it is read.
-abbrev pub is_live : Identity → Option Identity → Bool
-is_live uplink (Some outgoing) = is_live_file uplink || is_live_file outgoing
-is_live uplink None = is_live_file uplink
+abbrev pub is_any_live : Identity → Option Identity → Bool
+is_any_live uplink (Some outgoing) = is_live uplink || is_live outgoing
+is_any_live uplink None = is_live uplink

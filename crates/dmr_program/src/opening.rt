@@ -1,7 +1,7 @@
 //! The files of a run, opened and told apart.
 ghost use Rattle.std.specs.Prelude.{◌≡◌, ◌↔◌, false, true, IsTrue, IfOk, IfErr, IfSome, option_map};
 ghost use Rattle.dmr_files.specs.Identity.{clashes};
-ghost use Rattle.dmr_program.specs.Apart.{IsApart, clashes_if_any, is_live};
+ghost use Rattle.dmr_program.specs.Apart.{IsApart, clashes_if_any, is_any_live};
 
 use dmr_command::Places;
 use dmr_files::{Identity, Open, Place, StandardFiles, System};
@@ -34,7 +34,7 @@ fn identity_if_any<F>(open: &Option<Open<F>>) -> Option<Identity> {
 
 /// Whether more of an input may come while it is read.
 pub(crate) fn are_live(uplink: &Identity, outgoing: &Option<Identity>) -> bool
-    ensures live { result ≡ is_live uplink.now outgoing.now }
+    ensures live { result ≡ is_any_live uplink.now outgoing.now }
 {
     match outgoing {
         Some(outgoing) => uplink.is_live() || outgoing.is_live(),

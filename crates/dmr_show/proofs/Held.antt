@@ -1,7 +1,8 @@
 -- Octets that wait, and such as were written.
-use Rattle.std.proofs.Common.{◌≡◌, ℕ, List, ◌++◌, [], Option, None, Some, ap, ◌∙◌, sym, append_assoc, append-nil}
+use Rattle.std.proofs.Common.{◌≡◌, ℕ, List, ◌++◌, [], Option, None, Some, ap, ◌∙◌, refl, sym, append_assoc, append-nil}
 use Rattle.std.specs.Io.KnownBytes.{Appends}
 use Rattle.dmr_record.proofs.Torn.{Tears_after, Tears_more}
+use Rattle.dmr_lines.specs.Line.{PutsLine}
 use Rattle.dmr_record.specs.Devices.{Tears}
 use Rattle.dmr_show.specs.Held.{held_by}
 
@@ -14,6 +15,11 @@ kept (Some xs) old new piece e = ap (λ l. xs ++ l) e ∙ sym (append_assoc xs o
 pub kept_alone : (a : Option (List ℕ)) (old new piece : List ℕ) → old ≡ [] → new ≡ old ++ piece → Appends a (held_by a new) piece
 kept_alone None old new piece none e = tt
 kept_alone (Some xs) old new piece none e = ap (λ l. xs ++ l) (e ∙ ap (λ l. l ++ piece) none)
+
+-- what waits goes on waiting
+pub still_waiting : (a : Option (List ℕ)) (w : List ℕ) → Appends a (held_by a w) w
+still_waiting None w = tt
+still_waiting (Some xs) w = refl
 
 -- a piece was written where nothing waited
 pub written_alone : (a b : Option (List ℕ)) (none piece : List ℕ) → none ≡ [] → Appends a b piece → Appends a (held_by b none) piece
@@ -36,3 +42,15 @@ torn_behind = Tears_after
 -- of what waited a front was written
 pub torn_before : (a b : Option (List ℕ)) (old piece : List ℕ) → Tears a b old → Tears a b (old ++ piece)
 torn_before = Tears_more
+
+let_go : (a b c : Option (List ℕ)) (w piece : List ℕ) → Appends a (held_by b w) piece → Appends b c w → Appends a c piece
+let_go None b c w piece p q = tt
+let_go (Some xs) None c w piece p q = absurd p
+let_go (Some xs) (Some ys) None w piece p q = absurd q
+let_go (Some xs) (Some ys) (Some zs) w piece p q = q ∙ p
+
+-- a line waits behind what waited, and then what waits is written, or goes on waiting
+pub line_let_go : (a b c : Option (List ℕ)) (old new : List ℕ) → PutsLine a (held_by b old) → Appends b (held_by c new) old
+    → PutsLine a (held_by c new)
+line_let_go a b c old new line gone =
+    record { text = line.text; one = line.one; octets = let_go a b (held_by c new) old _ line.octets gone }

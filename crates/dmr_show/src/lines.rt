@@ -1,6 +1,6 @@
 //! The lines of a file, printed in a notation.
 ghost use Rattle.std.specs.Io.KnownBytes.{Appends};
-ghost use Rattle.std.specs.Prelude.{◌≡◌, ◌≤◌, [], OnOk, false, length};
+ghost use Rattle.std.specs.Prelude.{◌≡◌, ◌≤◌, [], OnOk, false, true, length};
 ghost use Rattle.dmr_record.specs.Devices.{failed_after};
 ghost use Rattle.dmr_lines.specs.Line.{PutsLine};
 ghost use Rattle.dmr_show.specs.Held.{held_by};
@@ -30,6 +30,8 @@ pub(crate) struct Lines<'a, K> {
     pub(crate) waiting: Waiting,
     pub(crate) notation: Notation,
     pub(crate) filter: Filter,
+    /// Whether no line waits for others.
+    is_live: bool,
     /// The line that is printed; there is room for every line.
     text: &'a mut String,
 }
@@ -45,11 +47,12 @@ fn head_of(format: FileFormat) -> &'static str {
 }
 
 impl<'a, K: Sink> Lines<'a, K> {
-    /// Lines go to this sink. The text has room for the longest of them.
+    /// Lines go to this sink, each at once where they are live. The text has room for the longest of them.
     pub(crate) fn new(
         sink: &'a mut K,
         notation: Notation,
         filter: Filter,
+        is_live: bool,
         text: &'a mut String,
     ) -> Lines<'a, K>
         ensures same_sink { result.sink.ghost_name ≡ sink.entry.ghost_name }
@@ -63,6 +66,7 @@ impl<'a, K: Sink> Lines<'a, K> {
             waiting: Waiting::new(),
             notation,
             filter,
+            is_live,
             text,
         }
     }
@@ -78,9 +82,30 @@ impl<'a, K: Sink> Lines<'a, K> {
         self.waiting.flush(self.sink)
     }
 
+    /// Writes what waits to the sink, where no line waits for others.
+    #[tactic(auto, using(crate::proofs::Held::still_waiting, crate::proofs::Held::written_alone))]
+    fn let_go(&mut self) -> Result<(), DeviceFault>
+        requires well { K.has_failed self.old.sink.now ≡ false }
+        ensures live { self.old.is_live ≡ true → self.new.waiting ≡ [] }
+        ensures octets { OnOk result (Appends (K.held self.old.sink.now) (held_by (K.held self.new.sink.now) self.new.waiting)
+            self.old.waiting) }
+        ensures failure { K.has_failed self.new.sink.now ≡ failed_after (K.has_failed self.old.sink.now) result }
+        ensures same_sink { self.new.sink.ghost_name ≡ self.old.sink.ghost_name }
+        ensures same_notation { self.new.notation ≡ self.old.notation }
+        ensures same_filter { self.new.filter ≡ self.old.filter }
+    {
+        if self.is_live {
+            self.waiting.flush(self.sink)
+        } else {
+            Ok(())
+        }
+    }
+
     /// Prints a line, whatever it is written in.
+    #[tactic(auto, using(crate::proofs::Held::line_let_go))]
     fn write<T: Display>(&mut self, line: &T) -> Result<(), DeviceFault>
         requires well { K.has_failed self.old.sink.now ≡ false }
+        ensures live { self.old.is_live ≡ true → OnOk result (self.new.waiting ≡ []) }
         ensures line { OnOk result (PutsLine (held_by (K.held self.old.sink.now) self.old.waiting)
             (held_by (K.held self.new.sink.now) self.new.waiting)) }
         ensures failure { K.has_failed self.new.sink.now ≡ failed_after (K.has_failed self.old.sink.now) result }
@@ -92,7 +117,8 @@ impl<'a, K: Sink> Lines<'a, K> {
         // There is room for every line, and nothing else makes this fail.
         let _ = write!(self.text, "{line}");
         self.waiting
-            .put_line(self.sink, line_of(self.text.as_str()))
+            .put_line(self.sink, line_of(self.text.as_str()))?;
+        self.let_go()
     }
 
     /// Prints a line of the notation that is asked for.

@@ -23,6 +23,7 @@ fn show_to<S: Source, K: Sink>(
     form: Form,
     source: &mut S,
     filter: Filter,
+    is_live: bool,
     room: &mut [u8],
     text: &mut String,
     out: &mut K,
@@ -41,7 +42,7 @@ fn show_to<S: Source, K: Sink>(
     ensures others { IfErr result (λ e. IfFile e (λ fault. K.has_failed out.new ≡ false)) }
     ensures well { OnOk result (K.has_failed out.new ≡ false) }
 {
-    let mut lines = Lines::new(out, form.notation(), filter, text);
+    let mut lines = Lines::new(out, form.notation(), filter, is_live, text);
     show_all(form, source, room, &mut lines)
 }
 
@@ -96,12 +97,14 @@ fn room_of(alloc: Global) -> Result<(Vec<u8>, String), AllocError>
 
 /// Prints a file of any of the four formats to the first sink, in a form and as far as the file can be read, and answers the exit
 /// status. The source stands before the head. A fault of the file is told on the second sink, by the name of the file, and so is
-/// that a list has no strip.
+/// that a list has no strip. Where the file is live, so that more of it may come while it is read, each line is printed at once.
+/// Else many are printed together, which is faster.
 pub fn show<S: Source, K: Sink, E: Sink>(
     alloc: Global,
     name: &str,
     form: Form,
     filter: Filter,
+    is_live: bool,
     source: &mut S,
     out: &mut K,
     err: &mut E,
@@ -132,7 +135,15 @@ pub fn show<S: Source, K: Sink, E: Sink>(
         print_want_of_memory(err);
         return FAILURE;
     };
-    match show_to(form, source, filter, room.as_mut_slice(), &mut text, out) {
+    match show_to(
+        form,
+        source,
+        filter,
+        is_live,
+        room.as_mut_slice(),
+        &mut text,
+        out,
+    ) {
         Ok(Shown::Whole) => SUCCESS,
         Ok(Shown::NoStrip) => {
             print_no_strip(alloc, name, err);

@@ -33,7 +33,7 @@ fn expect(
     expect_in(rt, Form::Listing, file, count, filter, status, out, err)
 }
 
-/// A file, as far as it is there, is shown so in a form.
+/// A file, as far as it is there, is shown so in a form, whether its lines wait for one another or not.
 fn expect_in(
     rt: &(impl Abort + AllocGlobal),
     form: Form,
@@ -46,21 +46,24 @@ fn expect_in(
 ) -> Result<(), Fail> {
     let alloc = rt.alloc();
     let octets = hex::decode(alloc, file.as_bytes())?;
-    let mut source = FromRead::new(octets.get(..count).unwrap_or(octets.as_slice()));
-    let mut output = ToWrite::new(Vec::new(alloc));
-    let mut errors = ToWrite::new(Vec::new(alloc));
-    let ended = show(
-        alloc,
-        "cut.dmru",
-        form,
-        filter,
-        &mut source,
-        &mut output,
-        &mut errors,
-    );
-    assert!(rt; output.into_inner().as_slice() == out.as_bytes());
-    assert!(rt; errors.into_inner().as_slice() == err.as_bytes());
-    assert_eq!(rt; ended, status);
+    for is_live in [false, true] {
+        let mut source = FromRead::new(octets.get(..count).unwrap_or(octets.as_slice()));
+        let mut output = ToWrite::new(Vec::new(alloc));
+        let mut errors = ToWrite::new(Vec::new(alloc));
+        let ended = show(
+            alloc,
+            "cut.dmru",
+            form,
+            filter,
+            is_live,
+            &mut source,
+            &mut output,
+            &mut errors,
+        );
+        assert!(rt; output.into_inner().as_slice() == out.as_bytes());
+        assert!(rt; errors.into_inner().as_slice() == err.as_bytes());
+        assert_eq!(rt; ended, status);
+    }
     Ok(())
 }
 
@@ -151,6 +154,7 @@ fn the_longest_line(rt: HostRuntime) -> Result<(), Fail> {
         name,
         form,
         ALL,
+        false,
         &mut source,
         &mut output,
         &mut errors,
@@ -171,7 +175,16 @@ fn sinks_that_fail(rt: HostRuntime) -> Result<(), Fail> {
     let mut full = ToWrite::new(&mut room[..]);
     let mut errors = ToWrite::new(Vec::new(alloc));
     let form = Form::Listing;
-    let ended = show(alloc, "it", form, ALL, &mut source, &mut full, &mut errors);
+    let ended = show(
+        alloc,
+        "it",
+        form,
+        ALL,
+        false,
+        &mut source,
+        &mut full,
+        &mut errors,
+    );
     assert_eq!(rt; ended, 1);
     assert!(rt; errors.into_inner().is_empty());
     Ok(())

@@ -6,7 +6,7 @@ ghost use Rattle.dmr_show.specs.Showing.{TellsFault};
 ghost use Rattle.dmr_tools.specs.Request.{IsShow};
 
 use crate::request::{Request, request_of};
-use dmr_files::{OpenFault, Place, System, open_source};
+use dmr_files::{Open, OpenFault, Place, System, open_source};
 use dmr_lines::{FAILURE, ToldName, USAGE, line_of, print_error};
 use dmr_options::{print_answer, print_elsewhere};
 use dmr_record::Sink;
@@ -48,7 +48,10 @@ fn show_file<S: System, K: Sink, E: Sink>(
     ensures err_failed { E.has_failed err.new ≡ true → result ≡ failure }
 {
     match open_source(system, alloc, Place::named(name)) {
-        Ok(mut source) => show(alloc, name, form, filter, &mut source, out, err),
+        Ok(Open { mut file, identity }) => {
+            let is_live = identity.is_live();
+            show(alloc, name, form, filter, is_live, &mut file, out, err)
+        }
         Err(OpenFault::CannotOpen) => {
             print_cannot_open(alloc, name, err);
             FAILURE

@@ -180,10 +180,7 @@ fn places_that_are_left_out(rt: HostRuntime) -> Result<(), Fail> {
     assert!(rt; places.outgoing.is_none());
     assert!(rt; places.received.is_none());
     assert!(rt; places.take_output());
-    for (first, second, shared) in [
-        (3, 5, SharedStream::Input),
-        (7, 9, SharedStream::Output),
-    ] {
+    for (first, second, shared) in [(3, 5, SharedStream::Input), (7, 9, SharedStream::Output)] {
         let mut words = RUN;
         for at in [first, second] {
             if let Some(word) = words.get_mut(at) {

@@ -97,7 +97,10 @@ fn lists_that_are_left_out(rt: HostRuntime) {
             received: received.map(Place::Path),
         };
         let ended = run_places(&system, rt.alloc(), config, &places);
-        assert!(rt; ended == RunEnd::Done(SUMMARY), "{outgoing:?}, {received:?}");
+        assert!(rt;
+            ended == RunEnd::Done(SUMMARY),
+            "{outgoing:?}, {received:?}"
+        );
     }
 }
 
