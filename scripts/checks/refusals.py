@@ -203,6 +203,10 @@ def check_words(report):
     for command in ("slot", "show"):
         ran = report.call(command, b"\xff".decode(errors="surrogateescape"))
         report.expect(f"words of {command} that are no text", ran.is_error("the command line is not UTF-8 text", 2), ran)
+    ran = report.call("show", "nowhere", "--from", 9, "--to", 8)
+    report.expect("a listing that begins beyond its end", ran.is_error("--from is beyond --to", 2), ran)
+    ran = report.call("show", "no\x1b[31mwhere\x7f\x9b")
+    report.expect("a name with control characters", ran.is_error("no?[31mwhere??: cannot open"), ran)
 
 
 def check_elsewhere(report):

@@ -28,7 +28,53 @@ esac
 COMPLETE = 'source "$1"; shift; COMP_WORDS=("$@"); COMP_CWORD=$(($# - 1)); _dmrgate; printf "%s\\n" "${COMPREPLY[@]}"'
 
 
-HELP_OF_SLOT = """Says what one burst is
+# What help says, of the programs and of each command. A page of a terminal has 80 columns.
+HELP = {
+    "": """A two-slot DMR repeater with an IP data gateway, run on recordings
+
+Usage: dmrgate <COMMAND>
+
+Commands:
+  run   Repeats a recording of the uplink into the downlink
+  slot  Says what one burst is
+  show  Lists what a file holds
+  help  Print this message or the help of the given subcommand(s)
+
+Options:
+  -h, --help     Print help
+  -V, --version  Print version
+""",
+    "run": """Repeats a recording of the uplink into the downlink
+
+Usage: dmrgate run [OPTIONS] --uplink <FILE> --downlink <FILE> --llid <N>
+
+Options:
+      --uplink <FILE>     The uplink recording, to read; - is standard input
+      --outgoing <FILE>   The datagrams to send, to read; none without it
+      --downlink <FILE>   The downlink, to write; - is standard output
+      --received <FILE>   The datagrams received, to write; not kept without it
+      --llid <N>          The gateway's address on the air (LLID), 1 to 16777215
+      --colour <N>        The colour code, 0 to 15 [default: 1]
+      --call-hang <N>     Frames that a call is held behind its end [default: 3]
+      --channel-hang <N>  Frames that the channel stays on the air [default: 5]
+      --queue <N>         Datagrams waiting in a slot, 1 to 64 [default: 9]
+  -h, --help              Print help
+
+A frame is slot 1 and slot 2, 60 ms. The downlink is six frames behind the
+uplink. A call hang and a channel hang have 0 to 65535 frames, the call hang at
+most as many as the channel hang. No output may be another file of the run.
+Where an input is a pipe, each frame is written as soon as it is decided.
+
+Status 0: done, and the numbers of the run are printed, to standard error where
+a file goes to standard output; 1: a fault, which is told on standard error;
+2: the command line.
+
+Example:
+  dmrgate run --uplink in.dmru --downlink out.dmrd --llid 1
+
+The files are described in docs/protocol.md.
+""",
+    "slot": """Says what one burst is
 
 Usage: dmrgate slot <HEX>
 
@@ -39,8 +85,41 @@ Options:
   -h, --help  Print help
 
 Example:
-  dmrgate slot 53C25EABA8671DC7383BD936065DFF57D75DF5D92BF6E465171B48CA6D4FC610B4
-"""
+ dmrgate slot 53C25EABA8671DC7383BD936065DFF57D75DF5D92BF6E465171B48CA6D4FC610B4
+""",
+    "show": """Lists what a file holds
+
+Usage: dmrgate show [OPTIONS] <FILE>
+
+Arguments:
+  <FILE>  The file to list; - is standard input
+
+Options:
+      --strip         A picture: a letter a slot, 50 frames a line
+      --json          An object a line, for programs
+      --slot <N>      The slot alone, 1 or 2
+      --from <FRAME>  The first frame that has lines
+      --to <FRAME>    The last frame that has lines
+  -h, --help          Print help
+
+A file is one of the four of a run, told by its first octets. Each burst or
+record has a line: seconds, frame and slot, and what it is; silence has none.
+The last line counts all that the file holds.
+
+The letters of a strip: . silence, H voice header, P PI header, A to F places
+of a superframe, v a voice burst in no place, T terminator, c CSBK, D data
+header, b data block, m multi block control or unified block, i idle,
+? unreadable. A list has no strip.
+
+Status 0: the file is whole; 1: it is at fault, which is told on standard error
+with the octet at which its record begins; 2: the command line.
+
+Example:
+  dmrgate show uplink.dmru --slot 1 --from 100 --to 199
+
+The files are described in docs/protocol.md.
+""",
+}
 
 
 def options_in(text):
@@ -75,28 +154,16 @@ def check_alike(report):
 
 
 def check_help(report):
-    """The options of the programs, of run, of slot and of show."""
-    top, run, slot, show = (help_of(report, *words) for words in ([], ["run"], ["slot"], ["show"]))
-    report.expect("help of slot to the octet", slot == HELP_OF_SLOT, slot)
-    wanted = "dmrgate run [OPTIONS] --uplink <FILE> --downlink <FILE> --llid <N>"
-    usages = "dmrgate <COMMAND>", wanted, "dmrgate slot <HEX>", "dmrgate show [OPTIONS] <FILE>"
-    for text, usage in zip((top, run, slot, show), usages):
-        report.expect(f"help has the usage {usage}", f"\nUsage: {usage}\n" in text, text)
-    commands = set(re.findall(r"^  ([a-z]+)  ", top, re.MULTILINE))
-    report.expect("the commands", commands == {"run", "slot", "show", "help"}, commands)
-    defaults = {"--colour": "1", "--call-hang": "3", "--channel-hang": "5", "--queue": "9"}
-    report.expect("the defaults", defaults_in(run) == defaults, defaults_in(run))
-    ranges = "1 to 16777215", "0 to 15", "1 to 64", "0 to 65535"
-    left_out = "none without it", "not kept without it"
-    hyphens = "- is standard input", "- is standard output"
-    for words in ("60 ms", *ranges, *left_out, *hyphens, "Status 0", "Example", "docs/protocol.md"):
-        report.expect(f"help of run has {words!r}", words in run, run)
-    report.expect("--color is hidden", "--color " not in run, run)
-    for words, text in ((["help"], top), (["help", "run"], run), (["help", "slot"], slot), (["help", "show"], show)):
-        ran = report.call(*words)
-        report.expect(f"{words} is --help", (ran.status, ran.out.decode(), ran.err) == (0, text, b""), ran)
+    """Help says what it says, within the columns of a page; answers the options of the programs, of run, of slot and of show."""
+    for command, text in HELP.items():
+        had = help_of(report, *command.split())
+        report.expect(f"help of {command or 'the programs'}", had == text, had)
+        wide = [line for line in had.splitlines() if len(line) > 80]
+        report.expect(f"help of {command or 'the programs'} has 80 columns", not wide, wide)
+        ran = report.call("help", *command.split())
+        report.expect(f"help {command} is {command} --help", (ran.status, ran.out.decode(), ran.err) == (0, text, b""), ran)
     options = re.compile(r"^Options:\n((?: .*\n)+)", re.MULTILINE)
-    return [options_in(options.search(text)[1]) for text in (top, run, slot, show)]
+    return [options_in(options.search(text)[1]) for text in HELP.values()]
 
 
 def check_manual(report, wanted, version):

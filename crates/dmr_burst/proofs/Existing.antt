@@ -1,7 +1,6 @@
 -- Any burst has an encoding, and any fields of a CACH have its bits.
-use Rattle.std.proofs.Common.{◌≡◌, ℕ, ◌+◌, ◌-◌, ◌*◌, ◌^◌, ◌<◌, ◌≤◌, Bool, true, false, List, [], ◌∷◌, ◌++◌, length, take}
-use Rattle.std.proofs.Common.{drop, map, get_or}
-use Rattle.std.proofs.Common.{refl, sym, ◌∙◌, ap, subst, arith, length-append, append_assoc, append-nil, lit≤}
+use Rattle.std.proofs.Common.{◌≡◌, ℕ, ◌+◌, ◌-◌, ◌<◌, Bool, true, false, List, [], ◌∷◌, ◌++◌, length, take, drop, map, get_or, sym}
+use Rattle.std.proofs.Common.{◌∙◌, ap, subst, arith, length-append, append_assoc, append-nil}
 use Rattle.std.specs.List.{All}
 use Rattle.std.proofs.lemmas.List.{take_at, take-take, drop-take, length-take-le, length-drop, length-map, take-append-drop}
 use Rattle.std.proofs.lemmas.List.{get_or-take, get_or-append_right}
@@ -24,7 +23,7 @@ use Rattle.dmr_burst.specs.declared.burst.Burst.{Burst}
 use Rattle.dmr_burst.specs.declared.burst.Burst.TheVariants.{Data, VoiceSync, Voice}
 use Rattle.dmr_burst.specs.declared.emb.Emb.{Emb}
 use Rattle.dmr_burst.specs.declared.sync.Side.{Side}
-use Rattle.dmr_burst.proofs.Interleaving.{fragment_field, tact_in_order, fragment_in_order}
+use Rattle.dmr_burst.proofs.Interleaving.{tact_in_order, fragment_in_order}
 use Rattle.dmr_burst.proofs.Pieces.{outer_field, data_fields, voice_fields}
 use Rattle.dmr_burst.proofs.Said.{slot_type_said}
 

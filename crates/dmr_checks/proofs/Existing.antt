@@ -1,7 +1,6 @@
 -- Any message has a check, and any ten octets are sealed by two more.
-use Rattle.std.proofs.Common.{◌≡◌, ℕ, ◌+◌, ◌*◌, ◌/◌, ◌%◌, ◌^◌, ◌<◌, Bool, false, List, [], ◌∷◌, ◌++◌, length, take, replicate}
-use Rattle.std.proofs.Common.{map, not}
-use Rattle.std.proofs.Common.{refl, sym, ◌∙◌, ap, subst, arith, lit<}
+use Rattle.std.proofs.Common.{◌≡◌, ℕ, ◌+◌, ◌/◌, ◌%◌, ◌^◌, ◌<◌, Bool, false, List, [], ◌∷◌, ◌++◌, length, take, replicate, map, not}
+use Rattle.std.proofs.Common.{sym, ◌∙◌, ap, subst, arith, lit<}
 use Rattle.std.specs.Prelude.{bit_xor}
 use Rattle.std.specs.List.{All}
 use Rattle.std.proofs.lemmas.List.{length-replicate, length-map, length-append, take_at}

@@ -1,5 +1,5 @@
 //! What the words of a command line ask for.
-ghost use Rattle.std.specs.Prelude.{◌≡◌, Some, codes, option_map};
+ghost use Rattle.std.specs.Prelude.{Some, codes, option_map};
 ghost use Rattle.clap.specs.Words.{found_of};
 ghost use Rattle.dmr_command.specs.Request.{ArePlacesOf, AreSettingsOf, IsAskedBy, IsPlaceIfGiven, IsPlaceOf};
 ghost use Rattle.dmr_options.specs.Found.{IsNumberOf};

@@ -1,5 +1,5 @@
 -- Any control signalling block whose fields fit has its 96 bits.
-use Rattle.std.proofs.Common.{◌≡◌, ℕ, List, Bool, ◌∷◌, ◌++◌, length, ◌∙◌, arith, length-append}
+use Rattle.std.proofs.Common.{◌≡◌, List, Bool, ◌++◌, length, arith, length-append}
 use Rattle.dmr_bits.specs.Bits.{bits_of, bits_of_octets}
 use Rattle.dmr_bits.proofs.Lists.{length-bits_of}
 use Rattle.dmr_bits.proofs.OctetFronts.{length-bits_of_octets}

@@ -1,18 +1,16 @@
 -- Any octets of a link control are embedded in some fields, and any short link control has its fragments.
 use Rattle.std.proofs.Common.{◌≡◌, ℕ, zero, suc, ◌+◌, ◌-◌, ◌*◌, ◌/◌, ◌%◌, ◌^◌, ◌<◌, ◌≤◌, Bool, true, false, cond, List, [], ◌∷◌}
-use Rattle.std.proofs.Common.{◌++◌}
-use Rattle.std.proofs.Common.{All, length, take, drop, map, get_or, refl, sym, ◌∙◌, ap, subst, arith, length-append, lit≤, lit<}
-use Rattle.std.proofs.Common.{inl, inr}
+use Rattle.std.proofs.Common.{◌++◌, All, length, take, map, get_or, refl, sym, ◌∙◌, ap, subst, arith, length-append, lit≤, lit<}
 use Rattle.std.specs.Prelude.{nat_lt}
 use Rattle.std.specs.List.{range_with_len}
-use Rattle.std.proofs.lemmas.Bool.{cases_lt, lt-ltb, le-ltb}
+use Rattle.std.proofs.lemmas.Bool.{lt-ltb}
 use Rattle.std.proofs.lemmas.List.{take_at, drop_at, get_or-take, get_or_append_left, get_or-append_right, append-nil}
 use Rattle.std.proofs.lemmas.List.Concat.{flat_map-cons}
 use Rattle.std.proofs.lemmas.List.FromFn.{length-map-range_with_len, get_or-map-range_with_len}
 use Rattle.std.specs.List.{flat_map}
 use Rattle.dmr_bits.specs.Bits.{bits_of, bits_of_octets, number_of, octets_of, part, xor, xor_bits}
 use Rattle.dmr_bits.specs.Polynomials.{binary_field, IsMultiple}
-use Rattle.dmr_bits.proofs.Lists.{length-bits_of, number_of-bits_of, number_of-lt, bits_of_spelled, length-xor_bits}
+use Rattle.dmr_bits.proofs.Lists.{length-bits_of, number_of-bits_of, number_of-lt, bits_of_spelled}
 use Rattle.dmr_bits.proofs.OctetFronts.{length-bits_of_octets}
 use Rattle.dmr_bits.proofs.Octets.{octets_of-bits_of_octets}
 use Rattle.dmr_bits.proofs.Parts.{length-part}
@@ -21,7 +19,7 @@ use Rattle.dmr_checks.proofs.Existing.{crc8_somehow}
 use Rattle.dmr_codes.proofs.Completing.{word_somehow}
 use Rattle.dmr_codes.specs.Seven.{IsHamming16, IsHamming17, hamming16_columns, hamming16_shaped, hamming17_columns}
 use Rattle.dmr_codes.specs.Seven.{hamming17_shaped}
-use Rattle.dmr_embedded.specs.EmbeddedWord.{bits_of_fields, cell, row, column, IsEven, is_odd, lc_bits, lc_octets, checksum_bits}
+use Rattle.dmr_embedded.specs.EmbeddedWord.{bits_of_fields, cell, column, IsEven, is_odd, lc_bits, lc_octets, checksum_bits}
 use Rattle.dmr_embedded.specs.EmbeddedWord.{checksum_of, IsEmbeddedWord, IsEmbedded, message_cell}
 use Rattle.dmr_embedded.specs.ShortLc.{bits_of_fragments, short_cell, short_row, short_column, message as short_message, IsShortLc}
 use Rattle.dmr_embedded.proofs.Cells.{row_from, length-column, get_or-column}

@@ -1,5 +1,5 @@
 -- Which files must not be one.
-use Rattle.std.specs.Prelude.{◌≡◌, ◌==◌, ◌&&◌, Bool, true, false, not, Option, Some, None}
+use Rattle.std.specs.Prelude.{◌==◌, ◌&&◌, Bool, true, false, not, Option, Some, None}
 use Rattle.dmr_files.specs.declared.identity.FileKind.{FileKind}
 use Rattle.dmr_files.specs.declared.identity.FileKind.TheVariants.{Regular, Device, Other}
 use Rattle.dmr_files.specs.declared.identity.Identity.{Identity}

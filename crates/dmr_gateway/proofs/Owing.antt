@@ -9,7 +9,7 @@ use Rattle.dmr_arq.specs.declared.serials.Selection.{Selection}
 use Rattle.dmr_gateway.specs.declared.answers.Due.{Due}
 use Rattle.dmr_gateway.specs.Answers.{flag_count}
 use Rattle.dmr_gateway.specs.AttemptMeaning.{Stage, Ready, Begun, Awaits, Hand, Owing, Ledger, Goes, Brings, attempts, goes}
-use Rattle.dmr_gateway.specs.AttemptMeaning.{goes_on, try_stands, due_try, rests, waiting_goes, ledger_owes}
+use Rattle.dmr_gateway.specs.AttemptMeaning.{goes_on, try_stands, due_try, rests, ledger_owes}
 use Rattle.dmr_gateway.specs.Courses.{begins_try, ends_answer, still_due_after, AnswersGoFirst}
 use Rattle.dmr_gateway.proofs.Attempting.{FitsLedger, joined, heard, readied, readied_fits, hand_fits, owing_fits, answer_from}
 use Rattle.dmr_gateway.proofs.Attempting.{cut_answer, cut_in_stage}

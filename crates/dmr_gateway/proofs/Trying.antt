@@ -1,6 +1,6 @@
 -- A packet has four tries at most.
-use Rattle.std.proofs.Common.{◌≡◌, ℕ, suc, ◌+◌, ◌<◌, ◌≤◌, ltb, eqb, Bool, true, false, cond, List, [], ◌∷◌, length, Option, Some}
-use Rattle.std.proofs.Common.{None, unwrap_or, refl, sym, ◌∙◌, ap, subst, arith, inl, inr, lit≤, lit<}
+use Rattle.std.proofs.Common.{◌≡◌, ℕ, ◌+◌, ◌<◌, ◌≤◌, ltb, eqb, Bool, true, false, cond, List, [], ◌∷◌, length, Option, Some}
+use Rattle.std.proofs.Common.{None, unwrap_or, refl, subst, arith, inl, inr, lit≤, lit<}
 use Rattle.std.proofs.lemmas.Bool.{ltb-true, lt-ltb}
 use Rattle.std.proofs.lemmas.Bool.Decides.{eqb_tells}
 use Rattle.std.specs.Prelude.{is_some}
@@ -15,7 +15,7 @@ use Rattle.dmr_gateway.specs.declared.answers.Due.{Due}
 use Rattle.dmr_gateway.specs.declared.answers.HeardAnswer.{HeardAnswer}
 use Rattle.dmr_gateway.specs.declared.queue.Queued.{Queued}
 use Rattle.dmr_gateway.specs.AttemptMeaning.{Stage, Ready, Begun, Awaits, Hand, Owing, Ledger, Goes, Brings, attempts, goes}
-use Rattle.dmr_gateway.specs.AttemptMeaning.{goes_on, try_stands, due_try, over, rests, told, judged, waits, ledger_owes}
+use Rattle.dmr_gateway.specs.AttemptMeaning.{goes_on, due_try, over, rests, told, judged, waits, ledger_owes}
 use Rattle.dmr_gateway.specs.AttemptMeaning.{ledger_takes}
 use Rattle.dmr_gateway.specs.Courses.{begins_try, tries_since_told, HasFourTries}
 use Rattle.dmr_gateway.proofs.Attempting.{FitsLedger, joined, heard, readied, readied_fits, hand_fits, answer_from, cut_answer}

@@ -1,7 +1,5 @@
 -- Any link control whose fields fit has a sealed form.
-use Rattle.std.proofs.Common.{◌≡◌, ℕ, ◌*◌, ◌<◌, List, Bool, ◌∷◌, ◌++◌, length, take, refl, sym, ap, ◌∙◌, subst, arith}
-use Rattle.std.proofs.Common.{length-append}
-use Rattle.std.specs.List.{All}
+use Rattle.std.proofs.Common.{◌≡◌, ℕ, List, Bool, ◌++◌, length, refl, ap, ◌∙◌, arith, length-append}
 use Rattle.std.proofs.lemmas.List.{take_at}
 use Rattle.dmr_bits.specs.Bits.{bits_of, bits_of_octets, octets_of}
 use Rattle.dmr_bits.proofs.Lists.{length-bits_of}

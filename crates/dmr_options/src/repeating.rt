@@ -31,7 +31,7 @@ fn hang<'a>(alloc: Global, name: &'a str, help: &'a str, frames: &'a str) -> Arg
 
 /// How many datagrams may wait.
 fn queue<'a>(alloc: Global) -> Arg<'a> {
-    number(alloc, "queue", "Datagrams that may wait in a slot, 1 to 64")
+    number(alloc, "queue", "Datagrams waiting in a slot, 1 to 64")
         .value_parser(value_parser!(u8).range(1..65))
         .default_value("9")
 }
@@ -42,7 +42,7 @@ fn files<'a>(alloc: Global) -> Result<Vec<Arg<'a>>, AllocError> {
         file(
             alloc,
             "uplink",
-            "The recording of the uplink, to read; - is standard input",
+            "The uplink recording, to read; - is standard input",
         )
         .required(true),
         file(
@@ -73,13 +73,13 @@ fn settings<'a>(alloc: Global) -> Result<Vec<Arg<'a>>, AllocError> {
         hang(
             alloc,
             "call-hang",
-            "Frames of 60 ms that a call is held behind its last burst, at most the channel hang",
+            "Frames that a call is held behind its end",
             "3",
         ),
         hang(
             alloc,
             "channel-hang",
-            "Frames of 60 ms that the channel stays on the air behind its last traffic, 0 to 65535",
+            "Frames that the channel stays on the air",
             "5",
         ),
         queue(alloc),

@@ -1,5 +1,5 @@
 //! The files of a run, opened and told apart.
-ghost use Rattle.std.specs.Prelude.{◌≡◌, ◌↔◌, false, true, IsTrue, IfOk, IfErr, IfSome, option_map};
+ghost use Rattle.std.specs.Prelude.{◌≡◌, ◌↔◌, false, IsTrue, IfOk, IfErr, IfSome};
 ghost use Rattle.dmr_files.specs.Identity.{clashes};
 ghost use Rattle.dmr_program.specs.Apart.{IsApart, clashes_if_any, is_any_live};
 

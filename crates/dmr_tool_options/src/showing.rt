@@ -9,7 +9,7 @@ use std::alloc::{AllocError, Global};
 fn strip<'a>(alloc: Global) -> Arg<'a> {
     Arg::new(alloc, "strip")
         .long("strip")
-        .help("A letter for each slot of a recording, 50 frames a line, in place of its listing")
+        .help("A picture: a letter a slot, 50 frames a line")
         .action(ArgAction::SetTrue)
 }
 
@@ -17,7 +17,7 @@ fn strip<'a>(alloc: Global) -> Arg<'a> {
 fn json<'a>(alloc: Global) -> Result<Arg<'a>, AllocError> {
     Arg::new(alloc, "json")
         .long("json")
-        .help("An object a line, for programs, in place of the listing for people")
+        .help("An object a line, for programs")
         .action(ArgAction::SetTrue)
         .conflicts_with("strip")
 }

@@ -4,6 +4,7 @@ use dmr_record::ToWrite;
 use dmr_show::{Filter, Form};
 use dmr_tools::{Request, obey, request_of};
 use std::io::{self, ErrorKind, Sink};
+use std::process::Abort;
 use std::test::Fail;
 
 /// A system with a recording of no frames, by its name and on standard input.
@@ -66,18 +67,18 @@ fn lines_that_are_asked_for(rt: HostRuntime) -> Result<(), Fail> {
         "dmrgate",
         "show",
         "--to",
-        "9",
+        "4294967295",
         "--slot",
         "2",
         "-",
         "--strip",
         "--from",
-        "4294967295",
+        "9",
     ];
     let some = Filter {
         slot: Some(2),
-        from: Some(4_294_967_295),
-        to: Some(9),
+        from: Some(9),
+        to: Some(4_294_967_295),
     };
     let Request::Show { name, form, filter } = request_of(rt.alloc(), &words)? else {
         return Err(Fail::from("no listing"));
@@ -95,9 +96,25 @@ fn lines_that_are_asked_for(rt: HostRuntime) -> Result<(), Fail> {
     Ok(())
 }
 
+/// These words end with this status, and print so to either sink.
+fn expect_printed(
+    rt: &(impl Abort + AllocGlobal),
+    words: &[&str],
+    status: u8,
+    out: &str,
+    err: &str,
+) {
+    let alloc = rt.alloc();
+    let mut output = ToWrite::new(Vec::new(alloc));
+    let mut errors = ToWrite::new(Vec::new(alloc));
+    let ended = obey(alloc, words, &OneFile, &mut output, &mut errors);
+    assert_eq!(rt; ended, status);
+    assert!(rt; output.into_inner().as_slice() == out.as_bytes());
+    assert!(rt; errors.into_inner().as_slice() == err.as_bytes());
+}
+
 #[test]
 fn what_is_printed(rt: HostRuntime) {
-    let alloc = rt.alloc();
     let listed =
         "uplink recording, version 1\nframes 0 seconds 0.00 slot-1 0 slot-2 0 unreadable 0\n";
     for (name, status, out, err) in [
@@ -105,14 +122,11 @@ fn what_is_printed(rt: HostRuntime) {
         ("-", 0, listed, ""),
         ("nowhere", 1, "", "error: nowhere: cannot open\n"),
     ] {
-        let mut output = ToWrite::new(Vec::new(alloc));
-        let mut errors = ToWrite::new(Vec::new(alloc));
         let words = ["dmrgate", "show", name];
-        assert_eq!(rt;
-            obey(alloc, &words, &OneFile, &mut output, &mut errors),
-            status
-        );
-        assert!(rt; output.into_inner().as_slice() == out.as_bytes());
-        assert!(rt; errors.into_inner().as_slice() == err.as_bytes());
+        expect_printed(&rt, &words, status, out, err);
     }
+    let backwards = ["dmrgate", "show", "up", "--from", "9", "--to", "8"];
+    expect_printed(&rt, &backwards, 2, "", "error: --from is beyond --to\n");
+    let one_frame = ["dmrgate", "show", "up", "--from", "9", "--to", "9"];
+    expect_printed(&rt, &one_frame, 0, listed, "");
 }
