@@ -136,9 +136,9 @@ def check_faults(report):
 
 
 def check_names(report):
-    """A fault is told in one line, whatever the name: of one with line feeds the first line is told."""
+    """A fault is told in one line, whatever the name: a control character of it, a line feed too, as a question mark."""
     with Room(report) as room:
-        for name, told in (("one\ntwo.dmru", "one"), ("\nthree", ""), ("four\n\nerror: \n", "four")):
+        for name, told in (("one\ntwo.dmru", "one?two.dmru"), ("\nthree", "?three"), ("four\n\nerror: \n", "four??error: ?")):
             ran = report.call("show", name, cwd=room.path)
             report.expect(f"no file {name!r}", ran.is_error(f"{told}: cannot open"), ran)
             file = room.path / name
@@ -196,7 +196,8 @@ def check_filters(report):
         (["--slot", 1], lambda frame, slot: slot == 1),
         (["--from", 8], lambda frame, slot: frame >= 8),
         (["--to", 7, "--slot", 2], lambda frame, slot: frame <= 7 and slot == 2),
-        (["--from", 9, "--to", 8], lambda frame, slot: False),
+        (["--from", 9, "--to", 9], lambda frame, slot: frame == 9),
+        (["--from", 1000], lambda frame, slot: False),
     ):
         lines = [line for line in whole[1:-1] if is_shown(*map(int, line.split()[1:3]))]
         ran = report.call("show", file, *words)
@@ -223,7 +224,7 @@ def check_strips(report):
         (["--from", 30, "--to", 80, "--slot", 1], [(30, 1, "." * 50), (80, 1, ".")]),
         (["--from", 99], [(99, 1, ".."), (99, 2, "cc")]),
         (["--from", 101], []),
-        (["--from", 9, "--to", 8], []),
+        (["--from", 8, "--to", 8], [(8, 1, "."), (8, 2, "c")]),
     ):
         ran = report.call("show", "-", "--strip", *words, given=slots)
         is_so = (ran.status, ran.err) == (0, b"") and strips_in(ran) == wanted
