@@ -49,7 +49,11 @@ pub enum ReceivedFile<O> {
 
 impl<O> ReceivedFile<O> {
     /// This file, or nothing where there is none.
-    pub(crate) fn of(file: Option<O>) -> ReceivedFile<O> {
+    pub(crate) fn of(file: Option<O>) -> ReceivedFile<O>
+        ensures none { (contents : O → Option (List ℕ)) → file ≡ None → file_contents contents result ≡ None }
+        ensures some { (contents : O → Option (List ℕ)) → (given : O) → file ≡ Some given
+            → file_contents contents result ≡ contents given }
+    {
         match file {
             Some(file) => ReceivedFile::File(file),
             None => ReceivedFile::Nowhere,

@@ -2,7 +2,7 @@
 ghost use Rattle.std.specs.Prelude.{◌≡◌, ◌≤◌, ◌⊎◌, false, true};
 ghost use Rattle.dmr_lines.specs.Line.{PutsLine};
 ghost use Rattle.dmr_lines.specs.Status.{failure, success, usage};
-ghost use Rattle.dmr_program.specs.Summary.{is_beside};
+ghost use Rattle.dmr_program.specs.Summary.{IsDoneHere, is_beside};
 
 use crate::run_end::{RunEnd, print_end, print_end_beside};
 use crate::running::run_places;
@@ -58,6 +58,10 @@ pub fn fulfil<S: System, K: Sink, E: Sink>(
     // Where a file of the run goes to the first, all that is printed goes to the second.
     ensures beside { is_beside request.entry ≡ true → out.new ≡ out.old }
     ensures beside_line { is_beside request.entry ≡ true → result ≡ success → PutsLine (E.held err.old) (E.held err.new) }
+    // Else a success is a line that is printed to the first.
+    ensures line { result ≡ success → is_beside request.entry ≡ false → PutsLine (K.held out.old) (K.held out.new) }
+    // What isn't done here is refused.
+    ensures refused { (IsDoneHere request.entry → ⊥) → E.has_failed err.new ≡ false → result ≡ usage }
     ensures usage { result ≡ usage → out.new ≡ out.old }
     ensures status { result ≤ 2 }
     ensures out_failed { K.has_failed out.new ≡ true → result ≡ failure }

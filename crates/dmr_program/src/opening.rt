@@ -1,7 +1,8 @@
 //! The files of a run, opened and told apart.
-ghost use Rattle.std.specs.Prelude.{◌≡◌, ◌↔◌, false, IsTrue, IfOk, IfErr, IfSome};
+ghost use Rattle.std.specs.Prelude.{◌≡◌, ◌↔◌, false, true, IsTrue, IfOk, IfErr, IfSome};
 ghost use Rattle.dmr_files.specs.Identity.{clashes};
 ghost use Rattle.dmr_program.specs.Apart.{IsApart, clashes_if_any, is_any_live};
+ghost use Rattle.dmr_program.specs.Summary.{is_sent_out};
 
 use dmr_command::Places;
 use dmr_files::{Identity, Open, Place, StandardFiles, System};
@@ -189,7 +190,9 @@ pub(crate) fn open_files<S: System>(
 }
 
 /// The output that would be sent to a terminal, where one would. Octets are nothing to look at.
-pub(crate) fn sent_to_terminal<S: System>(system: &S, places: &Places<'_>) -> Option<Stream> {
+pub(crate) fn sent_to_terminal<S: System>(system: &S, places: &Places<'_>) -> Option<Stream>
+    ensures sent { IfSome result (λ stream. is_sent_out places.now stream ≡ true) }
+{
     if !places.take_output() || !system.prints_to_terminal() {
         return None;
     }

@@ -3,7 +3,8 @@ ghost use Rattle.std.specs.Prelude.{◌≡◌, ◌≤◌, ◌+◌, ◌^◌, true
 ghost use Rattle.std.specs.Io.Buffered.{writer_capacity};
 ghost use Rattle.std.specs.Io.KnownBytes.{Keeps};
 ghost use Rattle.dmr_repeater.specs.Runs.{is_of_its_stream};
-ghost use Rattle.dmr_program.specs.Ending.{IfDone, IfFault, IsRefused};
+ghost use Rattle.dmr_program.specs.Ending.{IfDone, IfFault, IsRefused, IfTerminal};
+ghost use Rattle.dmr_program.specs.Summary.{is_sent_out};
 
 use crate::devices::{OutgoingList, ReceivedFile};
 use crate::opening::{Opened, open_files, sent_to_terminal};
@@ -40,6 +41,8 @@ pub fn run_places<S: System>(
     ensures few { IfDone result (λ summary. summary.frames ≤ 2 ^ 20 + 6) }
     // A fault is one that its file can have.
     ensures kind { IfFault result (λ fault. is_of_its_stream fault ≡ true) }
+    // What isn't sent to a terminal is an output that is standard output.
+    ensures terminal { IfTerminal result (λ stream. is_sent_out places.now stream ≡ true) }
     // The settings are none that are refused.
     ensures set { IsRefused result → ⊥ }
 {
@@ -66,6 +69,7 @@ fn run_files<I: Read + Drop, O: Write + Drop>(
     config: Config,
     files: Opened<I, O>,
 ) -> RunEnd
+    ensures here { IfTerminal result (λ stream. ⊥) }
     ensures few { IfDone result (λ summary. summary.frames ≤ 2 ^ 20 + 6) }
     ensures kind { IfFault result (λ fault. is_of_its_stream fault ≡ true) }
     ensures set { IsRefused result → ⊥ }

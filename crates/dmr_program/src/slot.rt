@@ -32,6 +32,7 @@ pub fn print_slot<K: Sink, E: Sink>(text: &str, out: &mut K, err: &mut E) -> u8
     ensures error_alone { (IsBurstText text.now → ⊥) → out.new ≡ out.old }
     ensures alone { (out.new ≡ out.old) ⊎ (err.new ≡ err.old) }
     ensures success { result ≡ success → err.new ≡ err.old }
+    ensures printed { result ≡ success → PutsLine (K.held out.old) (K.held out.new) }
     ensures usage { result ≡ usage → out.new ≡ out.old }
 
     ensures burst { IsBurstText text.now → K.has_failed out.new ≡ false → result ≡ success }

@@ -75,6 +75,7 @@ pub fn fulfil<S: System, K: Sink, E: Sink>(
     requires err { E.has_failed err.old ≡ false }
     // What isn't done here is told to the second sink.
     ensures elsewhere { (IsShow request.entry → ⊥) → out.new ≡ out.old }
+    ensures refused { (IsShow request.entry → ⊥) → E.has_failed err.new ≡ false → result ≡ usage }
     // A listing goes to the first; where it ends at a fault, a line of error goes to the second.
     ensures listing { IsShow request.entry → (err.new ≡ err.old)
         ⊎ TellsFault result (K.has_failed out.new) (E.has_failed err.new) (E.held err.old) (E.held err.new) }
