@@ -1,13 +1,11 @@
 """The documents are true of the sources: links lead somewhere, definitions stand in their files, words in their crates, and the
-public calls in their table."""
+public calls in their table. No sentence of theirs, or of a docstring, is longer than 40 words."""
 
 import re
 
-DOCUMENTS = (
-    "README.md", "CONTRIBUTING.md", "CHANGELOG.md", "docs/architecture.md", "docs/protocol.md", "docs/promises.md",
-    "docs/DECISIONS.md", "docs/proofs.md", "docs/testing.md", "docs/speed.md", "samples/README.md",
-)
 WIDTH = 132
+# Words that a sentence may have.
+LONGEST = 40
 
 LINK = re.compile(r"\[[^\]]+\]\(([^)\s]+)\)")
 MEANT = re.compile(r"^\[([^\]]+)\]: (\S+)$", re.MULTILINE)
@@ -44,6 +42,27 @@ OF_BLOCK = {
 TOLD_CALL = re.compile(r"`(\w+!?)`(?: \(((?:`\w+`(?:, )?)+)\))?")
 PUBLIC_CALLS = "| Crate | Functions | Types and traits, with their calls | Constants |"
 
+# A docstring, without the code in front of it.
+DOCSTRING = re.compile(r"^ *//[/!] ?(.*)$")
+# How a list item begins, in a list and in the middle of a paragraph; a heading, or what a link means; code that is indented; code
+# between fences.
+ITEM = re.compile(r"^ *(?:[-*] |\d+\. )")
+FIRST_ITEM = re.compile(r"^ *(?:[-*] |1\. )")
+ALONE = re.compile(r"#|\[[^\]]+\]: ")
+INDENTED = re.compile(r"    ")
+FENCE = re.compile(r" *```")
+# Code, and a link of a text. Both may go over several lines.
+CODE = re.compile(r"`[^`]*`")
+LINKED = re.compile(r"\[([^\]]*)\](?:\([^)\s]*\)|\[[^\]]*\])")
+# The last word of a sentence, with brackets, quotes and marks behind it.
+LAST_WORD = re.compile(r"[.!?:][)\]\"'*_]*$")
+
+
+def documents_of(report):
+    """The names of all documents."""
+    pages = [*report.top.glob("*.md"), *report.top.glob("docs/*.md"), report.top / "samples/README.md"]
+    return sorted(str(it.relative_to(report.top)) for it in pages)
+
 
 def sources_of(crate):
     return sorted((crate / "src").rglob("*.rt"))
@@ -76,7 +95,7 @@ def check_link(report, file, target):
 
 
 def check_links(report):
-    for name in DOCUMENTS:
+    for name in documents_of(report):
         file = report.top / name
         text = file.read_text()
         meant = dict(MEANT.findall(text))
@@ -194,20 +213,55 @@ def check_types(report):
 
 
 def check_crates(report):
-    """The README lists each crate, lowest first, docs/architecture.md has each in a layer, and no document names any other."""
+    """docs/architecture.md lists each crate, lowest first, and has each in a layer; no document names any other."""
     listed = re.findall(r"^(\w+):", (report.top / "crates.txt").read_text(), re.MULTILINE)
     there = {it.name for it in (report.top / "crates").iterdir() if (it / "src").is_dir()}
     report.expect("crates.txt lists each crate", set(listed) == there, set(listed) ^ there)
     wanted = [it for it in listed if not it.startswith("dmr_test_") and not it.endswith("_tests")]
-    in_readme = re.findall(r"^- \*\*(\w+)\*\*: ", (report.top / "README.md").read_text(), re.MULTILINE)
-    report.expect("README.md lists each crate, lowest first", [it for it in in_readme if it in there] == wanted, in_readme)
-    layers = tables_of((report.top / "docs/architecture.md").read_text(), "| Layer | Crates |")
+    architecture = (report.top / "docs/architecture.md").read_text()
+    in_list = re.findall(r"^- \*\*(\w+)\*\*: ", architecture, re.MULTILINE)
+    report.expect("docs/architecture.md lists each crate, lowest first", in_list == wanted, in_list)
+    layers = tables_of(architecture, "| Layer | Crates |")
     in_layers = [it for _, crates in layers for it in re.findall(r"\bdmr\w+", crates)]
     is_so = sorted(in_layers) == sorted(wanted)
     report.expect("docs/architecture.md has each crate in a layer", is_so, set(in_layers) ^ set(wanted))
-    for name in DOCUMENTS:
+    for name in documents_of(report):
         told = set(re.findall(r"\bdmr(?:_|gate_)\w+", (report.top / name).read_text()))
         report.expect(f"{name} names no crate that isn't there", told <= there, told - there)
+
+
+def picture_of(crates_txt):
+    """The picture of the crates, by the lines of crates.txt: on which floor each one stands, and on which others."""
+    lines = re.findall(r"^(\w+):(.*)$", crates_txt, re.MULTILINE)
+    libraries = [name for name, _ in lines if not name.startswith("dmr_test_") and not name.endswith("_tests")]
+    named = {name: [it for it in words.split() if it in libraries] for name, words in lines}
+    floors, below = {}, {}
+    for name in libraries:
+        floors[name] = 1 + max((floors[it] for it in named[name]), default=0)
+        below[name] = set(named[name]).union(*(below[it] for it in named[name]))
+    of_repeating, of_tools = ({program} | below[program] for program in ("dmrgate", "dmrgate_tools"))
+    wings = of_repeating - of_tools, of_repeating & of_tools, of_tools - of_repeating
+    rows = [("floor", "the program that repeats", "both programs", "the tools")]
+    for floor in range(max(floors.values()), 0, -1):
+        on_floor = [[it for it in libraries if it in wing and floors[it] == floor] for wing in wings]
+        rows.append((str(floor), *map(", ".join, on_floor)))
+    widths = [max(map(len, column)) for column in zip(*rows)]
+    picture = ["  ".join(cell.ljust(width) for cell, width in zip(row, widths)).rstrip() for row in rows] + [""]
+    for name in reversed(libraries):
+        # What these stand on themselves goes without saying.
+        at_once = [it for it in named[name] if not any(it in below[other] for other in named[name])]
+        picture += [f"{name.ljust(max(map(len, libraries)))} ── {', '.join(at_once)}"] if at_once else []
+    return "\n".join(picture)
+
+
+def check_picture(report):
+    """docs/architecture.md has the picture of the crates as crates.txt has them, with each of them."""
+    crates_txt = (report.top / "crates.txt").read_text()
+    picture = picture_of(crates_txt)
+    is_drawn = f"```\n{picture}\n```\n" in (report.top / "docs/architecture.md").read_text()
+    report.expect("the picture of the crates", is_drawn, f"it should be\n{picture}")
+    missing = {it.name for it in libraries_of(report)} - set(re.findall(r"\w+", picture))
+    report.expect("the picture has each crate", not missing, missing)
 
 
 def of_each(name, of_name):
@@ -261,11 +315,121 @@ def check_width(report):
     crates = report.top / "crates"
     files = [it for kind in ("src/**/*.rt", "specs/*.antt", "proofs/**/*.antt") for it in crates.glob(f"*/{kind}")]
     files += [it for folder in ("scripts", "bench") for it in (report.top / folder).rglob("*.py")]
-    documents = [report.top / it for it in DOCUMENTS]
+    documents = [report.top / it for it in documents_of(report)]
     wide = [f"{file.relative_to(report.top)}:{at}" for file in files + documents
             for at, line in enumerate(file.read_text().splitlines(), 1)
             if len(line) > WIDTH and (file not in documents or is_prose(line))]
     report.expect(f"no line is wider than {WIDTH} columns", not wide, wide)
+
+
+def docstrings_in(source):
+    """The lines of a source that are docstrings, with an empty line for each other one, so that each stays where it is."""
+    found = (DOCSTRING.match(line) for line in source.splitlines())
+    return "\n".join(it[1] if it else "" for it in found)
+
+
+def passages_of(text):
+    """Where each paragraph, list item and cell of a table begins, and its text. Code and headings are none."""
+    at, passage, is_item, is_fenced, passages = 0, [], False, False, []
+
+    def end():
+        if passage:
+            passages.append((at, "\n".join(passage)))
+            passage.clear()
+
+    for number, line in enumerate(text.splitlines(), 1):
+        if FENCE.match(line):
+            end()
+            is_fenced = not is_fenced
+        elif is_fenced or not line.strip() or ALONE.match(line) or (not passage and INDENTED.match(line)):
+            end()
+        elif line.startswith("|"):
+            end()
+            passages += [(number, cell) for cell in CODE.sub("`code`", line).split("|")]
+        else:
+            if (ITEM if is_item else FIRST_ITEM).match(line):
+                end()
+            if not passage:
+                at, is_item = number, bool(ITEM.match(line))
+                line = ITEM.sub("", line)
+            passage.append(line)
+    end()
+    return passages
+
+
+def sentences_of(passage):
+    """For each sentence of a passage the number of lines before it, and its words. Code is one word; code alone is no sentence."""
+    # A line break inside of code moves in front of it, so that lines stay as many.
+    plain = CODE.sub(lambda it: "\n" * it[0].count("\n") + "`", passage)
+    plain = LINKED.sub(r"\1", plain)
+    begin, words = None, []
+    for word in re.finditer(r"\S+", plain):
+        if re.search(r"[^\W_]|`", word[0]):
+            begin = plain[: word.start()].count("\n") if begin is None else begin
+            words.append(word[0])
+        if LAST_WORD.search(word[0]) or not plain[word.end() :].strip():
+            if any(re.search(r"[^\W_]", it) for it in words):
+                yield begin, words
+            begin, words = None, []
+
+
+def lengths_in(text):
+    """Where each sentence begins, and how many words it has."""
+    return [(at + begin, len(words)) for at, passage in passages_of(text) for begin, words in sentences_of(passage)]
+
+
+def too_long_in(lengths):
+    return [(at, words) for at, words in lengths if words > LONGEST]
+
+
+def check_counting(report):
+    """What a sentence is: one with a word too many is found, wherever it stands, and no other."""
+    just, over = "word " * (LONGEST - 1) + "end.", "word " * LONGEST + "end."
+    open_end, more = just.rstrip("."), LONGEST + 1
+    source = f"fn one() {{ // {over}\n    /// {open_end}\n    /// {just}\n}}\n//! {over}"
+    for name, text, wanted in (
+        ("one that is just not too long", just, []),
+        ("two of them", f"{just} {just}", []),
+        ("one that is too long", over, [(1, more)]),
+        ("one behind a heading", f"# Title\n\n{just}\n{over}", [(4, more)]),
+        ("one over many lines", over.replace(" ", "\n", 20), [(1, more)]),
+        ("one that ends with its paragraph", f"{over[:-1]}\n\n{open_end}", [(1, more)]),
+        ("one before a colon", f"{over[:-1]}: {just}", [(1, more)]),
+        ("four kinds of ends", f"{open_end}: {open_end}! {open_end}? *{just}* {just}", []),
+        ("an end in brackets", f"(\"{just}\") {just}", []),
+        ("a point inside a word", over.replace("word", "a.b", 1), [(1, more)]),
+        ("list items", f"- {open_end}\n- {open_end}\n  - {open_end}\n1. {over}", [(4, more)]),
+        ("a number that begins a line", f"status\n2. {over}", [(2, more)]),
+        ("no list item", f"{open_end}\n2 {just}", [(1, 2 * LONGEST + 1)]),
+        ("a list item over two lines", f"- {open_end}\n      {just}", [(1, 2 * LONGEST)]),
+        ("cells", f"| {open_end} | {open_end} |", []),
+        ("a cell that is too long", f"| cell | {over} |", [(1, more)]),
+        ("code is one word", over.replace("word", "`a b. c | d`"), [(1, more)]),
+        ("code over two lines is one word", over.replace("word word", "`a\nb`", 1), []),
+        ("links have the words of their texts", over.replace("word word", "[word word](of.md)"), [(1, more)]),
+        ("bold words", over.replace("word", "**word**"), [(1, more)]),
+        ("marks are no words", over.replace("word", "-", 1), []),
+        ("code alone is no sentence", "`code`, " * more, []),
+        ("indented code is none", f"    {over}", []),
+        ("fenced code is none", f"```\n{over}\n```\n{over}", [(4, more)]),
+        ("what a link means is none", f"[{over}]: there.md", []),
+        ("docstrings", docstrings_in(source), [(2, 2 * LONGEST), (5, more)]),
+    ):
+        had = too_long_in(lengths_in(text))
+        report.expect(f"sentences: {name}", had == wanted, had)
+
+
+def check_sentences(report):
+    """No sentence of a document or of a docstring has more than 40 words."""
+    check_counting(report)
+    lengths = {name: lengths_in((report.top / name).read_text()) for name in documents_of(report)}
+    for source in sorted(report.top.glob("crates/*/src/**/*.rt")):
+        lengths[source.relative_to(report.top)] = lengths_in(docstrings_in(source.read_text()))
+    count = sum(map(len, lengths.values()))
+    report.expect("sentences are found", count > 5000, count)
+    for name, had in lengths.items():
+        told = ", ".join(f"{name}:{at} has {words} words" for at, words in too_long_in(had))
+        report.expect(f"no sentence of {name} has more than {LONGEST} words", not told, told)
 
 
 def check(report):
@@ -277,5 +441,7 @@ def check(report):
     check_names(report)
     check_types(report)
     check_crates(report)
+    check_picture(report)
     check_public_calls(report)
     check_width(report)
+    check_sentences(report)

@@ -10,6 +10,7 @@ import tempfile
 from checks import recordings as it
 from checks.bursts import CONTROL_BLOCK, data_burst, information_of, sealed
 from checks.program import Room, summary
+from checks.text_lines import text_of
 
 # Calls that never fail, as far as a count goes.
 MANY = 2000
@@ -22,10 +23,14 @@ QUEUE = 9
 LEAST = ["--colour", 0, "--llid", 1, "--call-hang", 0, "--channel-hang", 0, "--queue", 1]
 GREATEST = ["--colour", 15, "--llid", 16_777_215, "--call-hang", 65_535, "--channel-hang", 65_535, "--queue", 64]
 
-# Words that are answered with no run: listings and faults, one burst, help and the version, and mistakes.
+# Words that are answered with no run: listings and faults, texts, one burst, help and the version, and mistakes.
 ANSWERED = [
     ["show", "one.dmru"], ["show", "one.dmru", "--json"], ["show", "one.dmru", "--strip"], ["show", "cut.dmru"],
     ["show", "nowhere"], ["show", "long.dmri"], ["show", "long.dmri", "--json"], ["show", "long.dmri", "--strip"],
+    ["export", "text", "one.dmru", "-"], ["export", "text", "cut.dmru", "-"], ["export", "text", "long.dmri", "made"],
+    ["export", "text", "nowhere", "made"], ["export", "text", "one.dmru", "one.dmru"],
+    ["import", "text", "one.txt", "-"], ["import", "text", "cut.txt", "-"], ["import", "text", "one.txt", "made"],
+    ["import", "text", "nowhere", "made"], ["import", "text", "one.txt", "one.txt"], ["import", "--help"], ["export", "text"],
     ["show", "--help"], ["show", "-", "--slot", 3], ["slot", it.IDLE], ["--help"], ["help"], ["run", "--help"],
     [], ["run", "--colours", 1], ["run", "--colour", 16],
 ]
@@ -181,6 +186,9 @@ def check_answers(report, shim):
     with Room(report) as room:
         for name, octets in (("one.dmru", it.ONE_CSBK), ("cut.dmru", it.ONE_CSBK[:42]), ("long.dmri", it.RECEIVED_HEAD + longest)):
             (room.path / name).write_bytes(octets)
+        text, _ = text_of(it.ONE_CSBK)
+        (room.path / "one.txt").write_bytes(text)
+        (room.path / "cut.txt").write_bytes(text[:-9])
         for words in ANSWERED:
             expect_answer(report, shim, words, room.path)
 

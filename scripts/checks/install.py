@@ -5,6 +5,7 @@ import subprocess
 from checks.standin import WORDS, in_trees
 
 SHARED = "man/man1/dmrgate.1", "bash-completion/completions/dmrgate", "zsh/site-functions/_dmrgate"
+BRIDGE = "bin/dmrgate-bridge"
 
 
 def install(tree, *words, **environment):
@@ -41,16 +42,20 @@ def check_install(tree):
     for it in SHARED:
         tree.put(f"share/{it}", f"{it}\n")
     tree.put("share/man/man1/.dmrgate.1.swp", "")
+    for it in ("dmrgate-bridge", "dmrgate-bridge~", "radio", "parts/of_radio.py"):
+        tree.put(f"share/bridge/{it}", "a script\n")
     ran = install(tree, prefix)
     told = ran.stdout.splitlines()
     tree.expect("installed", ran.returncode == 0 and told[:1] == [f"dmrgate is in {prefix}/bin"], ran)
     tree.expect("how to get it on the path", told[1:] == [f"which isn't on the path: PATH='{prefix}/bin':$PATH"], ran)
-    wanted = {"bin/dmrgate", *(f"share/{it}" for it in SHARED)}
+    wanted = {"bin/dmrgate", BRIDGE, *(f"share/{it}" for it in SHARED)}
     wanted |= {f"libexec/dmrgate/{it}" for it in ("dmrgate", "dmrgate_tools", "installed")}
     tree.expect("what is there", files_below(prefix) == wanted, files_below(prefix) ^ wanted)
     same = all((prefix / "share" / it).read_text() == f"{it}\n" for it in SHARED)
-    modes = [(prefix / it).stat().st_mode & 0o777 for it in ("bin/dmrgate", "libexec/dmrgate/dmrgate", f"share/{SHARED[0]}")]
-    tree.expect("the texts, and who may do what", same and modes == [0o755, 0o755, 0o644], modes)
+    files = "bin/dmrgate", BRIDGE, "libexec/dmrgate/dmrgate", f"share/{SHARED[0]}"
+    modes = [(prefix / it).stat().st_mode & 0o777 for it in files]
+    tree.expect("the texts, and who may do what", same and modes == [0o755, 0o755, 0o755, 0o644], modes)
+    tree.expect("the script is as it was", (prefix / BRIDGE).read_text() == "a script\n")
     expect_commands(tree, "installed", prefix / "bin/dmrgate")
     link, second = tree.folder / "link", tree.folder / "second"
     link.symlink_to(prefix / "bin/dmrgate")
@@ -88,6 +93,7 @@ def check_remove(tree):
     """What was installed is taken out, and nothing else."""
     prefix = tree.folder / "prefix"
     tree.put("share/man/man1/dmrgate.1", "manual\n")
+    tree.put("share/bridge/dmrgate-bridge", "a script\n")
     ran = install(tree, "--remove", prefix)
     is_told = ran.stderr == f"install: there is no dmrgate that was put below {prefix}\n"
     tree.expect("nothing to remove", (ran.returncode, ran.stdout) == (1, "") and is_told and not prefix.exists(), ran)

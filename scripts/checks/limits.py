@@ -40,6 +40,50 @@ def check_listings(report):
         report.expect(f"an octet past the longest {file}, listed", is_so, ran)
 
 
+def expect_carried(report, name, room, command, given, wanted, line):
+    """What stands in a file is carried into another one."""
+    (room.path / "given").write_bytes(given)
+    ran = report.call(command, "text", "given", "made", cwd=room.path)
+    is_so = (ran.status, ran.out, ran.err) == (0, f"{line}\n".encode(), b"")
+    report.expect(f"{command} of {name}", is_so and (room.path / "made").read_bytes() == wanted, ran)
+
+
+def check_texts(report):
+    """The longest files as text and back, and texts of longer ones, which are refused at the line past the limit."""
+    frames = it.LIMIT + 6
+    records = "".join(f"{{0}} {slot} {kind} 1 -\n" for slot in (1, 2) for kind in ("status", "short-data"))
+    sending, burst = "7 1 unconfirmed half -", "00" * 33
+    # A file's name and octets, the lines between the first and the last one, what it counts, and the line of one record more.
+    for file, octets, lines, counts, more in (
+        ("uplink", it.UPLINK_HEAD + bytes(2 * it.LIMIT), "", ("frames", it.LIMIT), f"{it.LIMIT} 1 {burst}"),
+        ("downlink", it.DOWNLINK_HEAD + bytes(2 * frames), "", ("frames", frames), f"{frames} 1 000000 {burst}"),
+        (
+            "outgoing",
+            it.OUTGOING_HEAD + it.LIMIT * it.outgoing_record(7, octets=b""),
+            f"{sending}\n" * it.LIMIT,
+            ("records", it.LIMIT),
+            sending,
+        ),
+        (
+            "received",
+            it.RECEIVED_HEAD + received_records(frames),
+            "".join(map(records.format, range(frames))),
+            ("records", 4 * frames),
+            f"{frames} 1 status 1 -",
+        ),
+    ):
+        word, count = counts
+        front, last = f"dmrgate {file} 1\n{lines}", f"{word} {count}"
+        text, line = f"{front}{last}\n".encode(), f"{last} records {2 * count}" if word == "frames" else last
+        with Room(report) as room:
+            expect_carried(report, f"the longest {file}", room, "export", octets, text, line)
+            expect_carried(report, f"the longest {file}", room, "import", text, octets, line)
+            (room.path / "given").write_bytes(f"{front}{more}\n{last}\n".encode())
+            ran = report.call("import", "text", "given", "made", cwd=room.path)
+            told = f"given: line {front.count(chr(10)) + 1}: too long"
+            report.expect(f"a record past the longest {file}, in a text", ran.is_error(told), ran)
+
+
 def check(report):
     silence = it.UPLINK_HEAD + bytes(2 * it.LIMIT)
     records = it.OUTGOING_HEAD + it.LIMIT * it.outgoing_record(2**32 - 1, octets=b"")
@@ -64,3 +108,4 @@ def check(report):
         endless.wait()
         report.expect("silence without end", ran.is_error("uplink: too long"), ran)
     check_listings(report)
+    check_texts(report)

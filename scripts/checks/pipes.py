@@ -17,8 +17,11 @@ PATIENCE, QUIET = 20, 0.1
 # How many octets a burst has with its tag.
 OF_UPLINK, OF_DOWNLINK = 34, 37
 
+SILENT_FRAME = b"\0\0"
+
 LINE = summary(7, 1)
-FILES = "uplink", "outgoing", "downlink", "received"
+INPUTS = "uplink", "outgoing"
+FILES = *INPUTS, "downlink", "received"
 
 # Two files that can't be one standard stream, and what is told of them.
 SHARED = [
@@ -102,10 +105,10 @@ class Reader:
 class Live:
     """A program that runs. A file of it that is no named pipe is a standard stream."""
 
-    def __init__(self, report, words, inputs=(), outputs=()):
+    def __init__(self, report, words, inputs=(), outputs=(), pass_fds=()):
         words = [str(word) for word in words]
         streams = dict.fromkeys(("stdin", "stdout", "stderr"), subprocess.PIPE)
-        self.process = subprocess.Popen([report.started_for(words), *words], bufsize=0, **streams)
+        self.process = subprocess.Popen([report.started_for(words), *words], bufsize=0, pass_fds=pass_fds, **streams)
         self.inputs, self.outputs = dict(inputs), dict(outputs)
         self.out, self.err = Reader(self.process.stdout), Reader(self.process.stderr)
 
@@ -151,11 +154,27 @@ def live(room, *named, **places):
         places[name] = room.path / f"{name}-pipe"
         os.mkfifo(places[name])
         # Open before the program opens it, and without waiting for that. An input is open at both ends, and ends when it is closed.
-        if name in ("uplink", "outgoing"):
+        if name in INPUTS:
             inputs[name] = open(os.open(places[name], os.O_RDWR), "wb", buffering=0)
         else:
             outputs[name] = Reader(open(os.open(places[name], os.O_RDONLY | os.O_NONBLOCK), "rb", buffering=0))
     return Live(room.report, room.words(**places), inputs, outputs)
+
+
+def live_by_descriptors(room):
+    """Starts a run whose four files are pipes without names, which it opens by their descriptors."""
+    inputs, outputs, its = {}, {}, {}
+    for name in FILES:
+        read_end, write_end = os.pipe()
+        if name in INPUTS:
+            its[name], inputs[name] = read_end, open(write_end, "wb", buffering=0)
+        else:
+            its[name], outputs[name] = write_end, Reader(open(read_end, "rb", buffering=0))
+    words = room.words(**{name: f"/dev/fd/{end}" for name, end in its.items()})
+    run = Live(room.report, words, inputs, outputs, its.values())
+    for end in its.values():
+        os.close(end)
+    return run
 
 
 def check_left_out(report):
@@ -205,14 +224,19 @@ def check_shared(report):
             report.expect(f"{files} are hyphens, and other files are nowhere", ran.is_error(text, 2), ran)
 
 
-def on_terminal(room, *more, **places):
-    """A run whose standard output is a terminal: how it ended, and what the terminal got."""
+def on_terminal(started):
+    """What is started with a terminal as its standard output: how it ended, and what the terminal got."""
     ours, its = os.openpty()
     with open(ours, "rb", buffering=0) as end:
         tty.setraw(its)
-        ran = room.run(*more, streams={"stdout": its}, **places)
+        ran = started(its)
         os.close(its)
         return ran, Reader(end).rest()
+
+
+def run_on_terminal(room, *more, **places):
+    """A run whose standard output is a terminal."""
+    return on_terminal(lambda its: room.run(*more, streams={"stdout": its}, **places))
 
 
 def check_terminal(report):
@@ -221,13 +245,13 @@ def check_terminal(report):
     for output, octets in (("downlink", downlink), ("received", it.RECEIVED_HEAD)):
         with Room(report, it.ONE_CSBK, it.OUTGOING_HEAD) as room:
             for places in ({}, {"uplink": room.path / "nowhere"}):
-                ran, got = on_terminal(room, **places, **{output: "-"})
+                ran, got = run_on_terminal(room, **places, **{output: "-"})
                 is_so = ran.is_error(f"{output}: standard output is a terminal") and got == b""
                 report.expect(f"{output} - on a terminal, {places}", is_so, (ran, got))
-            ran, got = on_terminal(room, "--call-hang", 6, **{output: "-"})
+            ran, got = run_on_terminal(room, "--call-hang", 6, **{output: "-"})
             report.expect("settings are tested before that", ran.is_error("call hang is longer than channel hang", 2), ran)
             report.expect(f"{output} - on a terminal: the outputs", room.outputs() == [None, None], room.outputs())
-            ran, got = on_terminal(room, **{output: "/dev/stdout"})
+            ran, got = run_on_terminal(room, **{output: "/dev/stdout"})
             is_so = (ran.status, ran.err, got) == (0, b"", octets + LINE)
             report.expect(f"{output} /dev/stdout on a terminal", is_so, (ran, got))
 
@@ -256,6 +280,20 @@ def check_closed_reader(report):
             head, *frames = in_frames(sample.uplink, OF_UPLINK)
             run.put("uplink", head)
             expect_no_reader(report, f"of a live run, {named}", run, *frames[:9])
+
+
+def check_closed_reader_of_received(report):
+    """Where nobody reads what is received any more, the run ends."""
+    sample = Sample(report, "status_received")
+    with sample.room(report) as room, live_by_descriptors(room) as run:
+        run.put("uplink", sample.uplink)
+        run.put("outgoing", it.OUTGOING_HEAD)
+        reader = run.output("received")
+        report.expect("the head of what is received", reader.has(it.RECEIVED_HEAD), reader)
+        reader.end.close()
+        ran = run.at_end()
+        is_so = (ran.status, ran.out, ran.err) == (1, b"", b"error: received: write failed\n")
+        report.expect("nobody reads what is received", is_so, ran)
 
 
 def expect_frames(report, name, reader, downlink, count, quiet=QUIET):
@@ -316,6 +354,43 @@ def check_ticks(report):
             is_so = is_so and expect_frames(report, f"{name}, at that of frame {at + 2}", reader, downlink, at + 2, 0)
         if is_so:
             expect_ticks_counted(report, name, run, sample, len(frames) + 1)
+
+
+def check_descriptors(report):
+    """All four files may be pipes without names. A frame and what is received in it are out before anything else is awaited."""
+    sample, name = Sample(report, "confirmed_packet_received"), "live, by descriptors"
+    downlink = in_frames(sample.downlink, OF_DOWNLINK)
+    with sample.room(report) as room, live_by_descriptors(room) as run:
+        head, *frames = in_frames(sample.uplink, OF_UPLINK)
+        run.put("outgoing", it.OUTGOING_HEAD)
+        front, is_so = downlink[0], True
+        for at, piece in enumerate([head, *frames]):
+            run.put("uplink", piece)
+            run.put("outgoing", tick(at + 1))
+            front += downlink[at + 1]
+            is_so = is_so and run.output("downlink").has(front)
+            is_so = is_so and run.output("received").has(received_up_to(sample.received, at))
+        report.expect(f"{name}: each frame with what is received in it", is_so, (run.output("downlink"), run.output("received")))
+        if is_so:
+            expect_ticks_counted(report, name, run, sample, len(frames) + 1)
+            report.expect(f"{name}: what is received", run.output("received").octets == sample.received, run.output("received"))
+
+
+def check_order(report):
+    """For a frame the uplink is awaited first, and then the outgoing list."""
+    for faulty, piece, other in (("outgoing", b"\7", SILENT_FRAME), ("uplink", b"\7", b"")):
+        with Room(report) as room, live_by_descriptors(room) as run:
+            run.put("uplink", it.UPLINK_HEAD)
+            run.put("outgoing", it.OUTGOING_HEAD + tick(1))
+            reader = run.output("downlink")
+            report.expect("the first frame comes", reader.has(it.DOWNLINK_HEAD + SILENT_FRAME), reader)
+            run.put(faulty, piece)
+            if other:
+                report.expect("the uplink is awaited first", not run.err.takes(QUIET), run.err)
+                run.put("uplink", other)
+            ran = run.ended()
+            is_so = (ran.status, ran.err) == (1, f"error: {faulty}: bad tag\n".encode())
+            report.expect(f"a fault of the {faulty}, and no more of the other", is_so, ran)
 
 
 def check_ticks_alone(report):
@@ -394,11 +469,15 @@ def check(report):
     check_hyphens(report)
     check_shared(report)
     check_terminal(report)
+    # Nothing else may be started meanwhile: it would have these pipes open for a moment.
+    check_closed_reader(report)
+    check_closed_reader_of_received(report)
     side_by_side(
         report,
-        check_closed_reader,
         check_frames_of_named_pipes,
         check_frames_of_standard_streams,
+        check_descriptors,
+        check_order,
         check_ticks,
         check_ticks_alone,
         check_received,

@@ -22,10 +22,10 @@ class Ran:
 
 
 class Report:
-    """Counts what passed and what failed, and names what failed."""
+    """Counts what passed and what failed, and names what failed. What can't be tried here is skipped."""
 
     def __init__(self, top):
-        self.top, self.passed, self.failed = top, 0, 0
+        self.top, self.passed, self.failed, self.skipped = top, 0, 0, 0
         # What the gate took most time for, line by line.
         self.longest = []
         self.script, self.programs = top / "dmrgate", {}
@@ -51,6 +51,10 @@ class Report:
             self.failed += 1
             # In one piece, where others are told beside it.
             print(f"FAILED {name}: {why}\n", end="", flush=True)
+
+    def counted(self):
+        """All counts in a line, with what was skipped where anything was."""
+        return f"{self.passed} passed, {self.failed} failed" + (f", {self.skipped} skipped" if self.skipped else "")
 
     def call(self, *words, program=None, given=b"", cwd=None, env=None, **streams):
         """Runs what does these words, or the program of this name, with this on its standard input."""

@@ -212,7 +212,8 @@ def check_words(report):
 def check_elsewhere(report):
     """A program refuses the commands of the other one, past the command that chooses between them."""
     text = "another program of dmrgate does this: start it by the command dmrgate"
-    for program, command in (("dmrgate", "show"), ("dmrgate_tools", "run"), ("dmrgate_tools", "slot")):
+    elsewhere = [("dmrgate", it) for it in ("show", "import", "export")] + [("dmrgate_tools", it) for it in ("run", "slot")]
+    for program, command in elsewhere:
         ran = report.call(command, program=program)
         report.expect(f"{program} doesn't do {command}", ran.is_error(text, 2), ran)
 

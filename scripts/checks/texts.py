@@ -35,10 +35,12 @@ HELP = {
 Usage: dmrgate <COMMAND>
 
 Commands:
-  run   Repeats a recording of the uplink into the downlink
-  slot  Says what one burst is
-  show  Lists what a file holds
-  help  Print this message or the help of the given subcommand(s)
+  run     Repeats a recording of the uplink into the downlink
+  slot    Says what one burst is
+  show    Lists what a file holds
+  import  Makes a file of a run from another format
+  export  Writes a file of a run in another format
+  help    Print this message or the help of the given subcommand(s)
 
 Options:
   -h, --help     Print help
@@ -119,6 +121,92 @@ Example:
 
 The files are described in docs/protocol.md.
 """,
+    "import": """Makes a file of a run from another format
+
+Usage: dmrgate import <COMMAND>
+
+Commands:
+  text  Makes any of the four files from lines of text
+  help  Print this message or the help of the given subcommand(s)
+
+Options:
+  -h, --help  Print help
+""",
+    "import text": """Makes any of the four files from lines of text
+
+Usage: dmrgate import text <TEXT> <OUT>
+
+Arguments:
+  <TEXT>  The text, to read; - is standard input
+  <OUT>   The file to make of it; - is standard output
+
+Options:
+  -h, --help  Print help
+
+The first line is `dmrgate`, then `uplink`, `downlink`, `outgoing` or
+`received`, then 1. The last line is `frames N` of a recording, silence among
+them, or `records N` of a list. Each line between has a frame, a slot, and:
+
+  uplink    a burst, of 66 hexadecimal digits
+  downlink  a CACH, of 6 digits, and a burst
+  outgoing  unconfirmed or confirmed, half or full, and octets
+  received  datagram, short-data or status, the source, and octets
+
+Octets are hexadecimal digits, or - where there are none. Slots without a line
+are silent. Words are parted by spaces or tabs. Empty lines, lines that begin
+with # and carriage returns at the ends of lines are passed over. Where the
+text is a pipe, each record is written as soon as it is known.
+
+Status 0: done, and frames and records are counted in a line on standard
+output, or on standard error where the file goes to standard output; 1: a
+fault, which is told on standard error with the number of its line; 2: the
+command line.
+
+Example, of silence in frame 0, and a burst in slot 1 of frame 1:
+  dmrgate uplink 1
+  1 1 0062008201900100042004E004CD5D7F77FD757AC81800280250028000C0120022
+  frames 2
+
+The text is described in docs/protocol.md.
+""",
+    "export": """Writes a file of a run in another format
+
+Usage: dmrgate export <COMMAND>
+
+Commands:
+  text  Writes any of the four files as lines of text
+  help  Print this message or the help of the given subcommand(s)
+
+Options:
+  -h, --help  Print help
+""",
+    "export text": """Writes any of the four files as lines of text
+
+Usage: dmrgate export text <FILE> <OUT>
+
+Arguments:
+  <FILE>  The file to write as text; - is standard input
+  <OUT>   The text, to write; - is standard output
+
+Options:
+  -h, --help  Print help
+
+A file is one of the four of a run, told by its first octets. Its text has a
+first line, then a line for each burst or record, and a last line that counts
+frames or records. Silent slots have no line. `dmrgate import text --help`
+explains the lines, and that command makes the file again, octet for octet.
+Where the file is a pipe, each line is written as soon as it is known.
+
+Status 0: done, and frames and records are counted in a line on standard
+output, or on standard error where the text goes to standard output; 1: a
+fault, which is told on standard error, and the text of what stands before it
+is written; 2: the command line.
+
+Example:
+  dmrgate export text uplink.dmru - | grep " 2 "
+
+The text is described in docs/protocol.md.
+""",
 }
 
 
@@ -154,7 +242,7 @@ def check_alike(report):
 
 
 def check_help(report):
-    """Help says what it says, within the columns of a page; answers the options of the programs, of run, of slot and of show."""
+    """Help says what it says, within the columns of a page; answers the options of each command by its name."""
     for command, text in HELP.items():
         had = help_of(report, *command.split())
         report.expect(f"help of {command or 'the programs'}", had == text, had)
@@ -163,7 +251,7 @@ def check_help(report):
         ran = report.call("help", *command.split())
         report.expect(f"help {command} is {command} --help", (ran.status, ran.out.decode(), ran.err) == (0, text, b""), ran)
     options = re.compile(r"^Options:\n((?: .*\n)+)", re.MULTILINE)
-    return [options_in(options.search(text)[1]) for text in HELP.values()]
+    return {command: options_in(options.search(text)[1]) for command, text in HELP.items()}
 
 
 def check_manual(report, wanted, version):
@@ -186,9 +274,10 @@ def offered(report, *words):
     return set(ran.stdout.split())
 
 
-def check_completions(report, top, run, slot, show):
+def check_completions(report, top, run, slot, show, carrying):
+    commands = {"run", "slot", "show", "import", "export"}
     for words, wanted in (
-        (["dmrgate", ""], {"run", "slot", "show", "help"} | top),
+        (["dmrgate", ""], {*commands, "help"} | top),
         (["dmrgate", "-"], top),
         (["dmrgate", "s"], {"slot", "show"}),
         (["dmrgate", "run", ""], run),
@@ -210,14 +299,23 @@ def check_completions(report, top, run, slot, show):
         (["dmrgate", "show", "--from", ""], set()),
         (["dmrgate", "show", "--", "-"], set()),
         (["dmrgate", "show", "--", "READ"], {"README.md"}),
-        (["dmrgate", "help", ""], {"run", "slot", "show"}),
+        (["dmrgate", "help", ""], commands),
+        (["dmrgate", "help", "show", ""], set()),
+        (["dmrgate", "help", "import", ""], {"text"}),
+        (["dmrgate", "import", ""], {"text", "help"} | carrying),
+        (["dmrgate", "export", "t"], {"text"}),
+        (["dmrgate", "export", "text", "-"], carrying),
+        (["dmrgate", "export", "text", "READ"], {"README.md"}),
+        (["dmrgate", "import", "text", "README.md", "CHANGE"], {"CHANGELOG.md"}),
+        (["dmrgate", "import", "text", "--", "READ"], {"README.md"}),
     ):
         had = offered(report, *words)
         report.expect(f"bash offers for {words}", had == wanted, had ^ wanted)
     text = (report.top / ZSH).read_text()
     begin = text.index("    run)")
-    parts = [text[:begin], *re.split(r"^    (?:slot|show|help)\)$", text[begin:], flags=re.MULTILINE)]
-    for name, part, wanted in zip(("the program", "run", "slot", "show"), parts, (top, run, slot, show)):
+    parts = [text[:begin], *re.split(r"^    (?:slot|show|import \| export|help)\)$", text[begin:], flags=re.MULTILINE)]
+    names = "the program", "run", "slot", "show", "import and export"
+    for name, part, wanted in zip(names, parts, (top, run, slot, show, carrying)):
         report.expect(f"zsh's options of {name}", options_in(part) == wanted, options_in(part) ^ wanted)
         is_so = name == "the program" or part.count("_arguments -S ") == 1
         report.expect(f"zsh offers no option of {name} behind --", is_so, part)
@@ -320,7 +418,8 @@ def check_readme(report):
 
 def check(report):
     check_alike(report)
-    top, run, slot, show = check_help(report)
+    options = check_help(report)
+    top, run, slot, show, carrying = (options[it] for it in ("", "run", "slot", "show", "import text"))
     ran = report.call("--version")
     version = ran.out.decode().strip()
     is_version = re.fullmatch(r"dmrgate \d+\.\d+\.\d+", version) and ran.status == 0 and ran.err == b""
@@ -329,5 +428,5 @@ def check(report):
     report.expect("-V is --version", (short.status, short.out, short.err) == (ran.status, ran.out, ran.err), short)
     check_manual(report, top | run | slot | show, version)
     check_examples(report)
-    check_completions(report, top, run, slot, show)
+    check_completions(report, top, run, slot, show, carrying)
     check_readme(report)

@@ -112,6 +112,14 @@ decoded_somehow bits =
       | inr none ↦ (None, record { middle = middle; last = last; columns = columns; rows = rows; outcome = none })
     ]
 
+-- What is decoded is 96 bits.
+length-information : (bits : List Bool) → length (information bits) ≡ 96
+unfolding information
+length-information bits = length-map-range_with_len (λ k. cell bits ((k + 3) / 11) ((k + 3) % 11)) 0 96
+
+pub length-decoded : (bits message : List Bool) → IsDecoded bits (Some message) → length message ≡ 96
+length-decoded bits message decoded = ap length decoded.outcome.1 ∙ length-information decoded.last
+
 -- ---- what is written
 -- The upper rows: eleven cells of the information, and the four checks of the code behind them.
 record IsUpperRow (message : List Bool) (r : ℕ) (word : List Bool) : Type 0 where

@@ -1,16 +1,16 @@
--- Any message has a check, and any ten octets are sealed by two more.
-use Rattle.std.proofs.Common.{◌≡◌, ℕ, ◌+◌, ◌/◌, ◌%◌, ◌^◌, ◌<◌, Bool, false, List, [], ◌∷◌, ◌++◌, length, take, replicate, map, not}
-use Rattle.std.proofs.Common.{sym, ◌∙◌, ap, subst, arith, lit<}
+-- Any message has a check, and any ten octets are sealed by two more; and whether octets are sealed can be told.
+use Rattle.std.proofs.Common.{◌≡◌, ℕ, ◌+◌, ◌/◌, ◌%◌, ◌^◌, ◌<◌, ◌⊎◌, Bool, true, false, List, [], ◌∷◌, ◌++◌, length, take, drop}
+use Rattle.std.proofs.Common.{replicate, map, not, refl, sym, ◌∙◌, ap, subst, arith, lit<, inl, inr}
 use Rattle.std.specs.Prelude.{bit_xor}
 use Rattle.std.specs.List.{All}
-use Rattle.std.proofs.lemmas.List.{length-replicate, length-map, length-append, take_at}
+use Rattle.std.proofs.lemmas.List.{length-replicate, length-map, length-append, length-drop, take_at}
 use Rattle.std.proofs.lemmas.List.Elements.{All-nil, All-cons, All-append}
 use Rattle.std.proofs.lemmas.Nat.{xor_lt}
-use Rattle.dmr_bits.specs.Bits.{bits_of, bits_of_octets, number_of, octets_of}
+use Rattle.dmr_bits.specs.Bits.{bits_of, bits_of_octets, number_of, octets_of, xor_bits}
 use Rattle.dmr_bits.specs.Polynomials.{binary_field, IsMultiple}
 use Rattle.dmr_bits.specs.Register.{register_after}
-use Rattle.dmr_bits.proofs.Dividing.{binary_laws, all_bits, completes, length-run}
-use Rattle.dmr_bits.proofs.Lists.{length-bits_of, number_of-lt, bits_of_spelled}
+use Rattle.dmr_bits.proofs.Dividing.{binary_laws, all_bits, completes, only_completion, length-run}
+use Rattle.dmr_bits.proofs.Lists.{length-bits_of, number_of-lt, bits_of_spelled, length-xor_bits}
 use Rattle.dmr_bits.proofs.OctetFronts.{length-bits_of_octets, bits_of_octets-take, length-octets_of, octets_of-small}
 use Rattle.dmr_bits.proofs.Octets.{octets_of-bits_of_octets, bits_of_octets-octets_of}
 use Rattle.dmr_checks.specs.Generators.{Completes, ccitt_generator, crc8_generator, crc9_generator, crc32_generator}
@@ -104,3 +104,54 @@ message_somehow mask fields eighty =
         sealed = subst (IsSealed mask) (sym back) is.sealed;
       },
     )
+
+-- ---- whether a check is right
+-- Bits are equal, or they aren't.
+pub same_or_not : (a b : List Bool) → (a ≡ b) ⊎ (a ≡ b → ⊥)
+same_or_not [] [] = inl refl
+same_or_not [] (y ∷ b) = inr (λ e. cc)
+same_or_not (x ∷ a) [] = inr (λ e. cc)
+same_or_not (true ∷ a) (true ∷ b) =
+    elim (same_or_not a b) [
+      | inl same ↦ inl (ap (λ l. true ∷ l) same)
+      | inr other ↦ inr (λ e. other (cc))
+    ]
+same_or_not (false ∷ a) (false ∷ b) =
+    elim (same_or_not a b) [
+      | inl same ↦ inl (ap (λ l. false ∷ l) same)
+      | inr other ↦ inr (λ e. other (cc))
+    ]
+same_or_not (true ∷ a) (false ∷ b) = inr (λ e. cc)
+same_or_not (false ∷ a) (true ∷ b) = inr (λ e. cc)
+
+-- A check is the one of its message, or it completes nothing.
+completes_or_not : (width low : ℕ) (g message check : List Bool) → generator width low ≡ g → 0 < width → length check ≡ width
+    → Completes g message check ⊎ (Completes g message check → ⊥)
+completes_or_not width low g message check generates some long =
+    let bits : List Bool = bits_of width low in
+    let wide : length check ≡ length bits = long ∙ sym (length-bits_of width low) in
+    let filled : 0 < length bits = omega (arith, long, wide) in
+    let right : List Bool = register_after binary_field bits (replicate (length bits) false) message in
+    elim (same_or_not check right) [
+      | inl same ↦ inl (subst (λ h. IsMultiple binary_field h (message ++ check)) generates
+          (subst (λ c. IsMultiple binary_field (true ∷ bits) (message ++ c)) (sym same)
+          (completes binary_laws bits message filled (all_bits message))))
+      | inr other ↦ inr (λ is. other (only_completion binary_laws bits message check filled wide
+          (subst (λ h. IsMultiple binary_field h (message ++ check)) (sym generates) is)))
+    ]
+
+pub crc9_or_not : (message check : List Bool) → length check ≡ 9
+    → Completes crc9_generator message check ⊎ (Completes crc9_generator message check → ⊥)
+crc9_or_not message check nine = completes_or_not 9 0x59 crc9_generator message check crc9_is (lit< tt) nine
+
+-- Twelve octets are sealed under a mask, or they aren't.
+pub sealed_or_not : (mask : Mask) (octets : List ℕ) → length octets ≡ 12 → IsSealed mask octets ⊎ (IsSealed mask octets → ⊥)
+unfolding IsSealed
+sealed_or_not mask octets long =
+    let veil : List Bool = bits_of 16 (check_mask mask) in
+    let end : List Bool = bits_of_octets (drop 10 octets) in
+    let sixteen : length veil ≡ length end =
+    length-bits_of 16 (check_mask mask)
+    ∙ sym (length-bits_of_octets (drop 10 octets) ∙ (let two = length-drop 10 octets in omega arith)) in
+    completes_or_not 16 0x1021 ccitt_generator (bits_of_octets (take 10 octets)) (map not (xor_bits veil end)) ccitt_is (lit< tt)
+    (length-map (xor_bits veil end) not ∙ length-xor_bits veil end sixteen ∙ length-bits_of 16 (check_mask mask))

@@ -58,8 +58,9 @@ pub(crate) fn sum_of_words<
     high_word.xor(&low_word)
 }
 
-/// The word within `reach` places of what was received, where `words` has for each information its word, and `wrong` tells
-/// by what is left once the word with the received information is taken off which bits of the information are wrong.
+/// The word within `reach` places of what was received, by two tables. `words` has the word of each information. The word of the
+/// received information is taken off what was received, and the check bits that are left are looked up in `wrong`. It tells which
+/// bits of the information are wrong.
 #[inline(always)]
 pub(crate) fn nearest<const N: usize, const K: usize, const W: usize, const S: usize>(
     words: &[u32; W],

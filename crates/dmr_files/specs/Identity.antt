@@ -1,8 +1,9 @@
 -- Which files must not be one.
-use Rattle.std.specs.Prelude.{◌==◌, ◌&&◌, Bool, true, false, not, Option, Some, None}
+use Rattle.std.specs.Prelude.{◌==◌, ◌&&◌, ◌||◌, Bool, true, false, not, Option, Some, None}
 use Rattle.dmr_files.specs.declared.identity.FileKind.{FileKind}
 use Rattle.dmr_files.specs.declared.identity.FileKind.TheVariants.{Regular, Device, Other}
 use Rattle.dmr_files.specs.declared.identity.Identity.{Identity}
+use Rattle.dmr_files.specs.declared.system.StandardFiles.{StandardFiles}
 
 -- one file, by its device and its number
 abbrev pub is_one_file : Identity → Identity → Bool
@@ -32,3 +33,8 @@ clashes output other = not (is_device output.kind) && is_one_file output other
 abbrev pub is_behind : Identity → Option Identity → Bool
 is_behind output (Some stream) = is_regular output.kind && is_one_file output stream
 is_behind output None = false
+
+-- an output that is this file gets into what any standard stream reads or prints
+abbrev pub is_behind_any : Identity → StandardFiles → Bool
+is_behind_any output standard =
+    is_behind output standard.input || is_behind output standard.output || is_behind output standard.error

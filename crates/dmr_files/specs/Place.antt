@@ -16,3 +16,8 @@ IsNamed name (Path path) = (IsStandardName name → ⊥) × (path.now ≡ name)
 abbrev pub is_standard : Place → Bool
 is_standard Standard = true
 is_standard (Path path) = false
+
+-- the name of a place
+abbrev pub name_of : Place → List ℕ
+name_of Standard = codes "-"
+name_of (Path path) = path.now

@@ -1,6 +1,8 @@
 //! Which file a file is, whatever its name.
 ghost use Rattle.std.specs.Prelude.{◌≡◌};
-ghost use Rattle.dmr_files.specs.Identity.{clashes, is_behind, is_live, is_one_file};
+ghost use Rattle.dmr_files.specs.Identity.{clashes, is_behind, is_behind_any, is_live, is_one_file};
+
+use crate::system::StandardFiles;
 
 /// What a file is, as far as it matters whether two may write to it.
 #[derive(Clone, Copy, Debug, Drop, PartialEq, Eq)]
@@ -52,5 +54,14 @@ impl Identity {
             Some(stream) => self.kind == FileKind::Regular && self.is_one_file(stream),
             None => false,
         }
+    }
+
+    /// Whether what is written to this file would get into what any of the standard streams reads or prints.
+    pub fn is_behind_any(&self, standard: &StandardFiles) -> bool
+        ensures behind { result ≡ is_behind_any self.now standard.now }
+    {
+        self.is_behind(&standard.input)
+            || self.is_behind(&standard.output)
+            || self.is_behind(&standard.error)
     }
 }

@@ -1,6 +1,6 @@
 //! Where files are.
 ghost use Rattle.std.specs.Prelude.{◌≡◌};
-ghost use Rattle.dmr_files.specs.Place.{IsNamed, is_standard};
+ghost use Rattle.dmr_files.specs.Place.{IsNamed, is_standard, name_of};
 
 /// Where a file is.
 #[derive(Clone, Copy)]
@@ -29,6 +29,16 @@ impl<'a> Place<'a> {
         match self {
             Place::Standard => true,
             Place::Path(_) => false,
+        }
+    }
+
+    /// Its name: a hyphen of a standard stream, and else its path.
+    pub fn name(&self) -> &'a str
+        ensures name { result.now ≡ name_of self.now }
+    {
+        match *self {
+            Place::Standard => "-",
+            Place::Path(path) => path,
         }
     }
 }

@@ -1,6 +1,7 @@
 //! A file that is only read.
 ghost use Rattle.std.specs.Prelude.{◌≡◌, false, IfOk};
 
+use crate::buffering::buffered_source;
 use crate::place::Place;
 use crate::system::{Open, System};
 use dmr_record::{FromRead, Source};
@@ -27,11 +28,8 @@ pub fn open_source<S: System>(
     let Ok(Open { file, identity }) = system.open_input(place) else {
         return Err(OpenFault::CannotOpen);
     };
-    match BufReader::new(alloc, file) {
-        Ok(reader) => Ok(Open {
-            file: FromRead::new(reader),
-            identity,
-        }),
+    match buffered_source(alloc, file) {
+        Ok(file) => Ok(Open { file, identity }),
         Err(_) => Err(OpenFault::Memory),
     }
 }

@@ -10,3 +10,4 @@ mod ip;
 mod link;
 mod record;
 mod texts;
+mod words;

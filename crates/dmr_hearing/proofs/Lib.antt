@@ -1,4 +1,5 @@
 pub mod Damaged
+pub mod Existing
 pub mod HeardAsBoth
 pub mod HeardFit
 pub mod OneField
@@ -9,3 +10,4 @@ pub mod ReadSomehow
 pub mod SlotTypes
 pub mod Syncs
 pub mod Undamaged
+pub mod Whole

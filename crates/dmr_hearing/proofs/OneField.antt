@@ -46,7 +46,7 @@ one_sync bits u v long p q =
     ap (λ (s : Sync). s.voice) (same_sync _ _ found)
 
 -- two parts, one behind the other
-length-parts : (bits : List Bool) (a b c d : ℕ) → a ≤ b → b ≤ length bits → c ≤ d → d ≤ length bits
+pub length-parts : (bits : List Bool) (a b c d : ℕ) → a ≤ b → b ≤ length bits → c ≤ d → d ≤ length bits
     → length (part bits a b ++ part bits c d) + (a + c) ≡ b + d
 length-parts bits a b c d h k l m =
     omega (arith, length-append (part bits a b) (part bits c d), length-part bits a b h k, length-part bits c d l m)

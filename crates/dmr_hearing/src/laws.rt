@@ -12,6 +12,11 @@ ghost use Rattle.dmr_hearing.specs.Slots.{SentSlot, Data, VoiceSync, Voice, Fore
 ghost use Rattle.dmr_hearing.specs.declared.heard.Heard.{Heard};
 ghost use Rattle.dmr_link.specs.declared.full_lc.FullLc.{FullLc};
 
+/// Whatever a slot is recorded as, silence or any 33 octets, it is heard as something.
+pub fn every_slot_is_heard()
+    ensures law { (colour : ℕ) (slot : Option (List ℕ)) → IsSilenceOr33Octets slot → (heard : Heard) × Hears colour slot heard }
+{}
+
 /// A slot is heard in one way: what `Hears` says pins the answer.
 pub fn one_hearing()
     ensures law { (colour : ℕ) (slot : Option (List ℕ)) (a b : Heard) → Hears colour slot a → Hears colour slot b → a ≡ b }

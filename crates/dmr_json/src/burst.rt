@@ -7,8 +7,9 @@ use crate::values::{Hex, Known};
 use crate::wrong::WrongObject;
 use dmr_burst::{Emb, Side};
 use dmr_link::FullLc;
-use dmr_listing::{BurstLine, BurstName, RecordedBurst, VoicePlace};
+use dmr_listing::{BurstLine, BurstName, VoicePlace};
 use dmr_reading::Reading;
+use dmr_recording::RecordedBurst;
 use std::fmt;
 
 /// The object of a burst of a recording.

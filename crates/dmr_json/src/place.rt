@@ -1,5 +1,5 @@
 //! Where a burst or a record stands.
-use dmr_listing::Place;
+use dmr_recording::Place;
 use std::fmt;
 
 /// Frame, slot and milliseconds, the first keys of an object.

@@ -1,8 +1,8 @@
 //! The objects of the two lists.
 use crate::place::PlaceKeys;
 use crate::values::Hex;
-use dmr_listing::Place;
 use dmr_record::{Outgoing, Received, ReceivedKind};
+use dmr_recording::Place;
 use std::fmt;
 
 /// The object of a record of an outgoing list: how many octets it has, and those that are kept.

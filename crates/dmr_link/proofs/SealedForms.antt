@@ -149,8 +149,8 @@ same_message lc_use lc a b p q =
     sym (word_form lc_use a p.sealed.long) ∙ ap (λ l. bits_of_octets (masked lc_use l)) words ∙ word_form lc_use b q.sealed.long
 
 -- one sealed message is within one octet of any
-one_sealed_near : (lc_use : LcUse) (a b message : List Bool) → IsSealedLc lc_use a → IsSealedLc lc_use b → IsWithinOctet a message
-    → IsWithinOctet b message → a ≡ b
+pub one_sealed_near : (lc_use : LcUse) (a b message : List Bool) → IsSealedLc lc_use a → IsSealedLc lc_use b
+    → IsWithinOctet a message → IsWithinOctet b message → a ≡ b
 one_sealed_near lc_use a b message is too near close =
     let middle : List ℕ = octets_of 12 message in
     let twelve : (x : List Bool) → length (octets_of 12 x) ≡ 12 = length-octets_of 12 in

@@ -5,19 +5,19 @@ use Rattle.std.proofs.Common.{eq-or-lt_of_le, ne_eqb}
 use Rattle.std.proofs.lemmas.List.{drop-append-le, drop_all, length-append, length-drop, length-map, length_push, map-append}
 use Rattle.std.proofs.lemmas.List.{take-append-le}
 use Rattle.std.specs.Io.KnownBytes.{Consumes}
-use Rattle.dmr_listing.specs.ListingMeaning.{place_by_number}
+use Rattle.dmr_recording.specs.Places.{place_by_number}
 use Rattle.dmr_listing.specs.ListingRules.{GivenInTurn, IsRead, Lists, ListingTurn, begun, turn_after, turn_passed}
 use Rattle.dmr_listing.specs.Marks.{mark_of}
-use Rattle.dmr_listing.specs.Recordings.{IsSlotOf, RecordedSlot, spelling}
+use Rattle.dmr_recording.specs.Recordings.{IsSlotOf, RecordedSlot, spelling}
 use Rattle.dmr_listing.specs.Strips.{AreStrips, IsGivenWhereFull, IsMarkAt, IsStripOf, IsStripped, Picture, IsStrippedUpToStrip}
 use Rattle.dmr_listing.specs.Strips.{has, shown_marks, most_marks, pushed, pushed_in, shown, unless_empty}
 use Rattle.dmr_listing.specs.declared.burst_line.BurstLine.{BurstLine}
 use Rattle.dmr_listing.specs.declared.frames.Frames.{Frames}
 use Rattle.dmr_listing.specs.declared.mark.Mark.{Mark}
 use Rattle.dmr_listing.specs.declared.mark.Mark.TheVariants.{Silence}
-use Rattle.dmr_listing.specs.declared.place.Place.{Place}
-use Rattle.dmr_listing.specs.declared.recording.RecordedBurst.{RecordedBurst}
-use Rattle.dmr_listing.specs.declared.recording.Recording.{Recording}
+use Rattle.dmr_recording.specs.declared.place.Place.{Place}
+use Rattle.dmr_recording.specs.declared.recording.RecordedBurst.{RecordedBurst}
+use Rattle.dmr_recording.specs.declared.recording.Recording.{Recording}
 use Rattle.dmr_listing.proofs.Listings.{given_then, read_burst, read_none, read_part, read_silence}
 
 -- They were read, and a taker was given the strips that are full; one with the marks of the last slots waits.

@@ -7,15 +7,16 @@ use Rattle.std.proofs.lemmas.List.Concat.{flat_map-append}
 use Rattle.std.specs.List.{flat_map}
 use Rattle.std.specs.Io.KnownBytes.{Consumes}
 use Rattle.std.proofs.KnownBytes.{Consumes-trans, Consumes-nil}
+use Rattle.dmr_recording.proofs.Spelled.{spelled_more}
 use Rattle.dmr_listing.specs.ListingRules.{GivenInTurn, IsLineAt, IsListed, IsRead, Lists, ListingTurn, begun, turn_after}
 use Rattle.dmr_listing.specs.ListingRules.{turn_passed}
-use Rattle.dmr_listing.specs.ListingMeaning.{entries, octet_behind}
-use Rattle.dmr_listing.specs.declared.place.Place.{Place}
-use Rattle.dmr_listing.specs.Recordings.{IsBurstOf, IsSlotOf, RecordedSlot, slot_limit_of, spelling}
+use Rattle.dmr_recording.specs.Places.{entries, octet_behind}
+use Rattle.dmr_recording.specs.declared.place.Place.{Place}
+use Rattle.dmr_recording.specs.Recordings.{IsBurstOf, IsSlotOf, RecordedSlot, slot_limit_of, spelling}
 use Rattle.dmr_listing.specs.declared.burst_line.BurstLine.{BurstLine}
-use Rattle.dmr_listing.specs.declared.recording.RecordedBurst.{RecordedBurst}
-use Rattle.dmr_listing.specs.declared.recording.Recording.{Recording}
-use Rattle.dmr_listing.specs.declared.recording.Recording.TheVariants.{Uplink, Downlink}
+use Rattle.dmr_recording.specs.declared.recording.RecordedBurst.{RecordedBurst}
+use Rattle.dmr_recording.specs.declared.recording.Recording.{Recording}
+use Rattle.dmr_recording.specs.declared.recording.Recording.TheVariants.{Uplink, Downlink}
 
 -- some were given in turn, and then more
 pub given_then : {S X : Type 0} (Takes : S → X → S → Type 0) (old between new : S) (xs ys : List X)
@@ -72,16 +73,6 @@ slots_counted turn (Some b ∷ slots) [] end lists = absurd lists
 slots_counted turn (Some b ∷ slots) (line ∷ lines) end (first, lists) =
     let rest = slots_counted (turn_after line b turn) slots lines end lists in
     omega arith
-
-pub spelled_more : (recording : Recording) (slots : List RecordedSlot) (slot : RecordedSlot) (a b c : Option (List ℕ))
-    → Consumes a b (flat_map (spelling recording) slots ++ []) → Consumes b c (spelling recording slot)
-    → Consumes a c (flat_map (spelling recording) (slots ++ slot ∷ []) ++ [])
-spelled_more recording slots slot a b c first next =
-    let one : flat_map (spelling recording) (slots ++ slot ∷ []) ≡ flat_map (spelling recording) slots ++ spelling recording slot =
-    flat_map-append (spelling recording) slots (slot ∷ []) ∙ ap (λ l. flat_map (spelling recording) slots ++ l) (append-nil
-    (spelling recording slot)) in
-    subst (Consumes a c) (sym (append-nil (flat_map (spelling recording) (slots ++ slot ∷ [])) ∙ one))
-    (Consumes-trans a b c _ _ (subst (Consumes a b) (append-nil (flat_map (spelling recording) slots)) first) next)
 
 pub read_none : (recording : Recording) (left : Option (List ℕ)) → IsRead recording [] [] [] begun left left
 read_none recording left = record { each = tt; octets = Consumes-nil left; listed = (refl, refl) }
@@ -148,14 +139,6 @@ listed_part Takes recording slots part end a b c d e listed octets = record {
   read = read_part recording slots listed.lines part end a b c listed.read octets;
   given = listed.given;
 }
-
-pub octets_more : (recording : Recording) (slots : List RecordedSlot) (slot : RecordedSlot) (octet : ℕ)
-    → octet ≡ octet_behind (spelling recording)
-    slots → octet + length (spelling recording slot) ≡ octet_behind (spelling recording) (slots ++ slot ∷ [])
-octets_more recording slots slot octet e =
-    let whole = ap length (flat_map-append (spelling recording) slots (slot ∷ []) ∙ ap (λ l. flat_map (spelling recording) slots
-    ++ l) (append-nil (spelling recording slot))) in
-    omega (arith, e, whole, length-append (flat_map (spelling recording) slots) (spelling recording slot))
 
 pub most_few : (recording : Recording) → slot_limit_of recording ≤ 2097164
 most_few Uplink = omega arith

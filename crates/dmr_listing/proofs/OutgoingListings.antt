@@ -8,7 +8,7 @@ use Rattle.std.specs.Io.KnownBytes.{Consumes}
 use Rattle.std.proofs.KnownBytes.{Consumes-trans, Consumes-nil}
 use Rattle.dmr_record.specs.Outgoing.{AreInFrameOrder, IsSending, Keeps, Sending, sending_octets, sending_of, sendings_octets}
 use Rattle.dmr_record.specs.declared.outgoing.Outgoing.{Outgoing}
-use Rattle.dmr_listing.specs.ListingMeaning.{octet_behind}
+use Rattle.dmr_recording.specs.Places.{octet_behind}
 use Rattle.dmr_record.specs.Outgoing.{IsReadOutgoing, AreReadFrom, last_frame}
 use Rattle.dmr_listing.specs.OutgoingListings.{AreSendingsListed, AreSendingsRead}
 use Rattle.dmr_listing.proofs.Listings.{given_one_more}

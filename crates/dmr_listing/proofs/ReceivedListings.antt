@@ -8,8 +8,9 @@ use Rattle.std.specs.Io.KnownBytes.{Consumes}
 use Rattle.std.proofs.KnownBytes.{Consumes-trans, Consumes-nil}
 use Rattle.dmr_record.specs.Received.{FollowEachOther, ReceivedFields, Follows, IsReadable, Receipt, received_fields}
 use Rattle.dmr_record.specs.Received.{receipt_octets, receipts_octets}
-use Rattle.dmr_listing.specs.ListingMeaning.{octet_behind}
-use Rattle.dmr_listing.specs.ReceivedListings.{AreReceiptsListed, AreReceiptsRead, last_fields}
+use Rattle.dmr_recording.specs.Places.{octet_behind}
+use Rattle.dmr_listing.specs.ReceivedListings.{AreReceiptsListed, AreReceiptsRead}
+use Rattle.dmr_record.specs.Received.{last_fields}
 use Rattle.dmr_listing.proofs.Listings.{given_one_more}
 
 order_more : (last : Option ReceivedFields) (receipts : List Receipt) (next : Receipt) → FollowEachOther last receipts

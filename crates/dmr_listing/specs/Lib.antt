@@ -1,14 +1,11 @@
 pub mod AccessType
 pub mod Contents
-pub mod Endings
 pub mod Fragments
 pub mod Lines
-pub mod ListingMeaning
 pub mod ListingRules
 pub mod Marks
 pub mod OutgoingListings
 pub mod ReceivedListings
-pub mod Recordings
 pub mod Strips
 pub mod Summaries
 pub mod VoicePlace

@@ -3,14 +3,14 @@ use Rattle.std.specs.Prelude.{◌≡◌, ℕ, ◌+◌, List, [], ◌∷◌, ◌+
 use Rattle.std.specs.Io.KnownBytes.{Consumes}
 use Rattle.std.specs.List.{AllByRecursion, flat_map}
 use Rattle.dmr_bits.specs.Bits.{bits_of_octets}
-use Rattle.dmr_listing.specs.ListingMeaning.{octet_behind, place_by_number}
+use Rattle.dmr_recording.specs.Places.{octet_behind, place_by_number}
 use Rattle.dmr_listing.specs.Lines.{IsCachAccessType, IsLine, SlotPast, after_burst, no_past, passed}
-use Rattle.dmr_listing.specs.Recordings.{IsSlotOf, ShowsSlotFaultOf, RecordedSlot, spelling}
+use Rattle.dmr_recording.specs.Recordings.{IsSlotOf, ShowsSlotFaultOf, RecordedSlot, spelling}
 use Rattle.dmr_listing.specs.Summaries.{counted_line, none_counted}
 use Rattle.dmr_listing.specs.declared.burst_line.BurstLine.{BurstLine}
-use Rattle.dmr_listing.specs.declared.fault_line.FaultLine.{FaultLine}
-use Rattle.dmr_listing.specs.declared.recording.RecordedBurst.{RecordedBurst}
-use Rattle.dmr_listing.specs.declared.recording.Recording.{Recording}
+use Rattle.dmr_recording.specs.declared.fault_line.FaultLine.{FaultLine}
+use Rattle.dmr_recording.specs.declared.recording.RecordedBurst.{RecordedBurst}
+use Rattle.dmr_recording.specs.declared.recording.Recording.{Recording}
 use Rattle.dmr_listing.specs.declared.summary.BurstCounts.{BurstCounts}
 
 -- Where a listing is: how many slots came, what is kept of the slot of a frame whose turn is next and of the other one, and what

@@ -6,9 +6,9 @@ use Rattle.dmr_record.specs.Outgoing.{AreInFrameOrder, AreReadFrom, IsReadOutgoi
 use Rattle.dmr_record.specs.Outgoing.{last_frame, sending_octets, sendings_octets}
 use Rattle.dmr_record.specs.declared.outgoing.Outgoing.{Outgoing}
 use Rattle.dmr_record.specs.Head.{record_limit}
-use Rattle.dmr_listing.specs.ListingMeaning.{octet_behind}
+use Rattle.dmr_recording.specs.Places.{octet_behind}
 use Rattle.dmr_listing.specs.ListingRules.{GivenInTurn}
-use Rattle.dmr_listing.specs.declared.fault_line.FaultLine.{FaultLine}
+use Rattle.dmr_recording.specs.declared.fault_line.FaultLine.{FaultLine}
 
 -- These records of the list were read behind its head, and these octets of the next one.
 pub record AreSendingsRead (sendings : List Sending) (part : List ℕ) (left_old left_new : Option (List ℕ)) : Type 0 where

@@ -3,16 +3,11 @@ use Rattle.std.specs.Prelude.{◌≡◌, ℕ, List, [], ◌∷◌, ◌++◌, Opt
 use Rattle.std.specs.Io.KnownBytes.{Consumes}
 use Rattle.std.specs.List.{AllByRecursion}
 use Rattle.dmr_record.specs.Received.{FollowEachOther, ReceivedFields, IsReadable, Receipt, ShowsReceivedFault, received_fields}
-use Rattle.dmr_record.specs.Received.{received_limit}
+use Rattle.dmr_record.specs.Received.{last_fields, received_limit}
 use Rattle.dmr_record.specs.Received.{receipt_octets, receipts_octets}
-use Rattle.dmr_listing.specs.ListingMeaning.{octet_behind}
+use Rattle.dmr_recording.specs.Places.{octet_behind}
 use Rattle.dmr_listing.specs.ListingRules.{GivenInTurn, IsRefusedBehind}
-use Rattle.dmr_listing.specs.declared.fault_line.FaultLine.{FaultLine}
-
--- the fields of the last record, or these of none
-abbrev pub last_fields : Option ReceivedFields → List Receipt → Option ReceivedFields
-last_fields last [] = last
-last_fields last (receipt ∷ receipts) = last_fields (Some (received_fields receipt)) receipts
+use Rattle.dmr_recording.specs.declared.fault_line.FaultLine.{FaultLine}
 
 -- These records of the list were read behind its head, and these octets of the next one.
 pub record AreReceiptsRead (receipts : List Receipt) (part : List ℕ) (left_old left_new : Option (List ℕ)) : Type 0 where

@@ -1,18 +1,18 @@
 -- What strips show of a recording: what stands in each slot, frame by frame, and each once.
 use Rattle.std.specs.Prelude.{◌≡◌, ◌==◌, ℕ, ◌+◌, ◌/◌, ◌<◌, ◌&&◌, Bool, List, [], ◌∷◌, ◌++◌, Option, Some, None, take}
 use Rattle.std.specs.Prelude.{length, map, drop, nat_le, if◌then◌else◌}
-use Rattle.dmr_listing.specs.ListingMeaning.{place_by_number}
+use Rattle.dmr_recording.specs.Places.{place_by_number}
 use Rattle.dmr_listing.specs.ListingRules.{GivenInTurn, IsLineAt, IsRead, IsReadUpToFault, IsRefusedBehind, ListingTurn, turn_after}
 use Rattle.dmr_listing.specs.ListingRules.{turn_passed}
 use Rattle.dmr_listing.specs.Marks.{mark_of}
-use Rattle.dmr_listing.specs.Recordings.{RecordedSlot}
+use Rattle.dmr_recording.specs.Recordings.{RecordedSlot}
 use Rattle.dmr_listing.specs.declared.burst_line.BurstLine.{BurstLine}
-use Rattle.dmr_listing.specs.declared.fault_line.FaultLine.{FaultLine}
+use Rattle.dmr_recording.specs.declared.fault_line.FaultLine.{FaultLine}
 use Rattle.dmr_listing.specs.declared.frames.Frames.{Frames}
 use Rattle.dmr_listing.specs.declared.mark.Mark.{Mark}
 use Rattle.dmr_listing.specs.declared.mark.Mark.TheVariants.{Silence}
-use Rattle.dmr_listing.specs.declared.place.Place.{Place}
-use Rattle.dmr_listing.specs.declared.recording.Recording.{Recording}
+use Rattle.dmr_recording.specs.declared.place.Place.{Place}
+use Rattle.dmr_recording.specs.declared.recording.Recording.{Recording}
 
 -- What a strip shows: its first frame, and the marks of slot 1 and slot 2 of its frames in turn.
 pub record Picture : Type 0 where

@@ -2,13 +2,13 @@
 use crate::access_type::AccessType;
 use crate::contents::Contents;
 use crate::link_control::LinkControl;
-use crate::place::Place;
 use crate::voice_place::VoicePlace;
 use crate::wrong::Wrong;
 use arrayvec::ArrayString;
 use dmr_burst::{Emb, Side, SlotType, data_type};
 use dmr_link::FullLc;
 use dmr_reading::Reading;
+use dmr_recording::Place;
 use std::fmt;
 use std::fmt::Write;
 

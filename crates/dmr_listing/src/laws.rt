@@ -1,8 +1,8 @@
 //! Laws of what a listing shows, as the contracts of functions that do nothing.
 ghost use Rattle.std.specs.Prelude.{◌≡◌, ◌↔◌, List, Option, Some, map};
-ghost use Rattle.dmr_listing.specs.ListingMeaning.{entries};
+ghost use Rattle.dmr_recording.specs.Places.{entries};
 ghost use Rattle.dmr_listing.specs.ListingRules.{Lists, ListingTurn, begun};
-ghost use Rattle.dmr_listing.specs.Recordings.{RecordedSlot};
+ghost use Rattle.dmr_recording.specs.Recordings.{RecordedSlot};
 ghost use Rattle.dmr_listing.specs.VoicePlace.{voice_place_of, StandsIn};
 ghost use Rattle.dmr_listing.specs.declared.burst_line.BurstLine.{BurstLine};
 ghost use Rattle.dmr_listing.specs.declared.voice_place.VoicePlace.{VoicePlace};

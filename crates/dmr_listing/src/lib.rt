@@ -1,12 +1,12 @@
 //! What a listing shows of a file: a line for each burst or record.
 //!
 //! `SlotView` makes the lines of one slot of a recording, frame by frame. A `BurstLine` has all that the line of a burst shows, and
-//! prints it: what the burst is read as (`Reading` of `dmr_reading`), in which place of a superframe it stands (`VoicePlaces`),
-//! what its information holds (`Contents`), the link control that four voice bursts carry, what its CACH announces (`AccessType`),
-//! and how many of its bits are wrong (`Wrong`). `read_tact` reads all fields of a CACH (`Tact`). `OutgoingLine` and `ReceivedLine`
-//! print the records of the two lists. All of it comes from the readers that a run stands on. Octets that came over the air are
-//! printed as digits, never as text. `RecordingSummary` is the last line of a listing, of what `BurstCounts` counts line by line,
-//! and `FaultLine` tells where a file is at fault.
+//! prints it. It shows what the burst is read as (`Reading` of `dmr_reading`), in which place of a superframe it stands
+//! (`VoicePlaces`), and what its information holds (`Contents`). It also shows the link control that four voice bursts carry, what
+//! its CACH announces (`AccessType`), and how many of its bits are wrong (`Wrong`). `read_tact` reads all fields of a CACH
+//! (`Tact`). `OutgoingLine` and `ReceivedLine` print the records of the two lists. All of it comes from the readers that a run
+//! stands on. Octets that came over the air are printed as digits, never as text. `RecordingSummary` is the last line of a listing,
+//! of what `BurstCounts` counts line by line.
 //!
 //! `list_recording`, `list_outgoing` and `list_received` go through a whole file behind its head, and give the lines one by one to
 //! whoever takes them (`BurstLines`, `OutgoingLines`, `ReceivedLines`), in constant memory.
@@ -14,13 +14,17 @@
 //! `strip_recording` gives the picture of a recording in place of its lines: a `Strip` has a `Mark` for each slot of 50 `Frames`,
 //! and prints a line for each slot (`StripLine`). The marks are those of the lines that the listing has.
 //!
-//! Contracts say what a line shows (`specs/Lines.antt`): by which place follows (`specs/VoicePlace.antt`, and what a place
-//! means over all that a slot was read as), what a burst of a type holds (`specs/Contents.antt`), what four frames carry
-//! (`specs/Fragments.antt`), what a CACH announces (`specs/AccessType.antt`), which bits are wrong (`specs/Wrong.antt`), and
-//! what is counted (`specs/Summaries.antt`). Of a whole file they say that each burst or record has a line, in order and once,
-//! and that a fault is told exactly where the octets show it (`specs/Recordings.antt` and `ListingRules`, `OutgoingListings`,
-//! `ReceivedListings`; `laws` has the places of the lines, by `ListingMeaning`), and of strips that each slot has its mark, in
-//! order and once (`specs/Marks.antt` and `Strips`). What the texts are is left open by them, and is tested.
+//! Contracts say what a line shows (`specs/Lines.antt`), in these words:
+//!
+//! - which place follows, and what a place means over all that a slot was read as (`specs/VoicePlace.antt`);
+//! - what a burst of a type holds (`specs/Contents.antt`), and what four frames carry (`specs/Fragments.antt`);
+//! - what a CACH announces (`specs/AccessType.antt`), and which bits are wrong (`specs/Wrong.antt`);
+//! - what is counted (`specs/Summaries.antt`).
+//!
+//! Of a whole file they say that each burst or record has a line, in order and once, and that a fault is told exactly where the
+//! octets show it (`specs/ListingRules.antt`, `OutgoingListings`, `ReceivedListings`). `laws` has the places of the lines. Of
+//! strips they say that each slot has its mark, in order and once (`specs/Marks.antt`, `Strips`). What the texts are is left open
+//! by contracts, and is tested.
 #![tactic(auto)]
 
 mod access_type;
@@ -31,7 +35,6 @@ mod counted;
 mod data_header;
 mod datagram;
 mod digits;
-mod fault_line;
 mod fragments;
 mod frames;
 pub mod laws;
@@ -39,10 +42,8 @@ mod link_control;
 mod listing;
 mod mark;
 mod outgoing_listing;
-mod place;
 mod received_listing;
 mod record_line;
-mod recording;
 mod recording_view;
 mod slot_view;
 mod strip;
@@ -56,15 +57,12 @@ pub use access_type::{AccessType, Tact, read_tact};
 pub use burst_line::{BurstLine, BurstName};
 pub use contents::Contents;
 pub use digits::Digits;
-pub use fault_line::FaultLine;
 pub use frames::Frames;
-pub use listing::{BurstLines, ListingEnd, list_recording};
+pub use listing::{BurstLines, list_recording};
 pub use mark::Mark;
 pub use outgoing_listing::{OutgoingLines, list_outgoing};
-pub use place::Place;
 pub use received_listing::{ReceivedLines, list_received};
 pub use record_line::{OutgoingLine, ReceivedLine};
-pub use recording::{RecordedBurst, Recording};
 pub use slot_view::SlotView;
 pub use strip::{Strip, StripLine};
 pub use strips::{StripLines, strip_recording};

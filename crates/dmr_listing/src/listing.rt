@@ -3,25 +3,25 @@ ghost use Rattle.std.specs.Prelude.{◌≡◌, ◌*◌, [], ℕ, List, Bool, fal
 ghost use Rattle.std.specs.Io.KnownBytes.{IsAtEnd};
 ghost use Rattle.dmr_record.specs.Devices.{failed_after};
 ghost use Rattle.dmr_record.specs.Faults.{is_of_end, is_device_fault};
-ghost use Rattle.dmr_listing.specs.Endings.{IfFile, IfNotWritten};
+ghost use Rattle.dmr_recording.specs.Endings.{IfFile, IfNotWritten};
 ghost use Rattle.dmr_listing.specs.ListingRules.{IsListed, IsListedUpToFault, IsListedUpToLine, ListingTurn};
-ghost use Rattle.dmr_listing.specs.Recordings.{RecordedSlot};
+ghost use Rattle.dmr_recording.specs.Recordings.{RecordedSlot};
 ghost use Rattle.dmr_listing.specs.declared.burst_line.BurstLine.{BurstLine as Line};
 
 use crate::burst_line::BurstLine;
-use crate::fault_line::FaultLine;
-use crate::place::Place;
-use crate::recording::{RecordedBurst, Recording, read_recording, record_octets};
 use crate::recording_view::RecordingView;
 use crate::summary::RecordingSummary;
 use dmr_record::{DeviceFault, Source};
+use dmr_recording::{
+    FaultLine, HEAD_OCTETS, Place, RecordedBurst, Recording, Stop, read_recording, record_octets,
+};
 
 /// Where the lines of a recording go.
 pub trait BurstLines {
-    /// What it makes of a line that it takes: how it stands behind that.
+    /// What it makes of a line that it takes: how it was before, the line, and how it is after.
     ghost Takes: { Self → Line → Self → Type 0 };
 
-    /// How it stands behind a line that it refuses.
+    /// What becomes of it where it refuses a line: how it was before, the line, and how it is after.
     ghost Refuses: { Self → Line → Self → Type 0 };
 
     /// Whether it has failed.
@@ -39,25 +39,13 @@ pub trait BurstLines {
         ensures kept { kept self.new ≡ kept self.old };
 }
 
-/// Why a listing stopped.
-#[derive(Clone, Copy, Drop, PartialEq, Eq)]
-pub enum ListingEnd {
-    /// The file is at fault.
-    File(FaultLine),
-    /// A line could not be given.
-    Output,
-}
-
-/// How many octets the head of a file has.
-pub(crate) const HEAD_OCTETS: u64 = 8;
-
 /// Gives the line of each burst of a recording, in their order, as far as the recording can be read. The source stands behind the
 /// head. A fault tells the slot that shows it, and the octet at which its record begins.
 pub fn list_recording<S: Source, L: BurstLines>(
     source: &mut S,
     recording: Recording,
     lines: &mut L,
-) -> Result<RecordingSummary, ListingEnd>
+) -> Result<RecordingSummary, Stop>
     requires source { S.has_failed source.old ≡ false }
     requires lines { L.has_failed lines.old ≡ false }
     // All slots were read to the end, and their lines given.
@@ -91,7 +79,7 @@ pub fn list_recording<S: Source, L: BurstLines>(
             }
             Err(fault) => {
                 let place = Some(Place::of_slot(view.slots()));
-                return Err(ListingEnd::File(FaultLine {
+                return Err(Stop::File(FaultLine {
                     fault,
                     octet,
                     place,
@@ -104,7 +92,7 @@ pub fn list_recording<S: Source, L: BurstLines>(
             Some(burst) => {
                 let line = view.line(&burst);
                 if lines.put(&burst, &line).is_err() {
-                    return Err(ListingEnd::Output);
+                    return Err(Stop::Output);
                 }
             }
         }

@@ -5,19 +5,18 @@ ghost use Rattle.dmr_record.specs.Devices.{failed_after};
 ghost use Rattle.dmr_record.specs.Faults.{is_of_end, is_device_fault};
 ghost use Rattle.dmr_record.specs.Outgoing.{Sending};
 ghost use Rattle.dmr_record.specs.declared.outgoing.Outgoing.{Outgoing as OutgoingRecord};
-ghost use Rattle.dmr_listing.specs.Endings.{IfFile, IfNotWritten};
+ghost use Rattle.dmr_recording.specs.Endings.{IfFile, IfNotWritten};
 ghost use Rattle.dmr_listing.specs.OutgoingListings.{AreSendingsListed, AreSendingsListedUpToFault, AreSendingsListedUpToLine};
 
-use crate::fault_line::FaultLine;
-use crate::listing::{HEAD_OCTETS, ListingEnd};
 use dmr_record::{DeviceFault, Outgoing, Source, read_outgoing};
+use dmr_recording::{FaultLine, HEAD_OCTETS, Stop};
 
 /// Where the lines of an outgoing list go.
 pub trait OutgoingLines {
-    /// What it makes of a record that it takes: how it stands behind that.
+    /// What it makes of a record that it takes: how it was before, the record, and how it is after.
     ghost Takes: { Self → OutgoingRecord → Self → Type 0 };
 
-    /// How it stands behind a record that it refuses.
+    /// What becomes of it where it refuses a record: how it was before, the record, and how it is after.
     ghost Refuses: { Self → OutgoingRecord → Self → Type 0 };
 
     /// Whether it has failed.
@@ -43,7 +42,7 @@ const FIELD_OCTETS: u64 = 9;
 pub fn list_outgoing<S: Source, L: OutgoingLines>(
     source: &mut S,
     lines: &mut L,
-) -> Result<u32, ListingEnd>
+) -> Result<u32, Stop>
     requires source { S.has_failed source.old ≡ false }
     requires lines { L.has_failed lines.old ≡ false }
     // All records were read to the end, and their lines given.
@@ -73,7 +72,7 @@ pub fn list_outgoing<S: Source, L: OutgoingLines>(
             Ok(Some(record)) => record,
             Ok(None) => return Ok(count),
             Err(fault) => {
-                return Err(ListingEnd::File(FaultLine {
+                return Err(Stop::File(FaultLine {
                     fault,
                     octet,
                     place: None,
@@ -81,7 +80,7 @@ pub fn list_outgoing<S: Source, L: OutgoingLines>(
             }
         };
         if lines.put(&record).is_err() {
-            return Err(ListingEnd::Output);
+            return Err(Stop::Output);
         }
         count += 1;
         last = record.frame;

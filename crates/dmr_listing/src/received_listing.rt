@@ -4,19 +4,18 @@ ghost use Rattle.std.specs.Io.KnownBytes.{IsAtEnd};
 ghost use Rattle.dmr_record.specs.Devices.{failed_after};
 ghost use Rattle.dmr_record.specs.Faults.{is_of_end, is_device_fault};
 ghost use Rattle.dmr_record.specs.Received.{Receipt, receipt_of};
-ghost use Rattle.dmr_listing.specs.Endings.{IfFile, IfNotWritten};
+ghost use Rattle.dmr_recording.specs.Endings.{IfFile, IfNotWritten};
 ghost use Rattle.dmr_listing.specs.ReceivedListings.{AreReceiptsListed, AreReceiptsListedUpToFault, AreReceiptsListedUpToLine};
 
-use crate::fault_line::FaultLine;
-use crate::listing::{HEAD_OCTETS, ListingEnd};
 use dmr_record::{DeviceFault, Received, Source, read_received};
+use dmr_recording::{FaultLine, HEAD_OCTETS, Stop};
 
 /// Where the lines of a received list go.
 pub trait ReceivedLines {
-    /// What it makes of a record that it takes: how it stands behind that.
+    /// What it makes of a record that it takes: how it was before, the record, and how it is after.
     ghost Takes: { Self → Receipt → Self → Type 0 };
 
-    /// How it stands behind a record that it refuses.
+    /// What becomes of it where it refuses a record: how it was before, the record, and how it is after.
     ghost Refuses: { Self → Receipt → Self → Type 0 };
 
     /// Whether it has failed.
@@ -44,7 +43,7 @@ pub fn list_received<S: Source, L: ReceivedLines>(
     source: &mut S,
     room: &mut [u8],
     lines: &mut L,
-) -> Result<u32, ListingEnd>
+) -> Result<u32, Stop>
     requires source { S.has_failed source.old ≡ false }
     requires lines { L.has_failed lines.old ≡ false }
     requires room { 65535 ≤ length room.old }
@@ -75,7 +74,7 @@ pub fn list_received<S: Source, L: ReceivedLines>(
             Ok(Some(received)) => received,
             Ok(None) => return Ok(count),
             Err(fault) => {
-                return Err(ListingEnd::File(FaultLine {
+                return Err(Stop::File(FaultLine {
                     fault,
                     octet,
                     place: None,
@@ -86,7 +85,7 @@ pub fn list_received<S: Source, L: ReceivedLines>(
             .put(received, &room[..received.length as usize])
             .is_err()
         {
-            return Err(ListingEnd::Output);
+            return Err(Stop::Output);
         }
         count += 1;
         last = Some(received);

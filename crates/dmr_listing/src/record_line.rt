@@ -3,9 +3,9 @@
 use crate::counted::Counted;
 use crate::datagram::DatagramText;
 use crate::digits::Digits;
-use crate::place::Place;
 use byteorder::{BigEndian, ByteOrder};
 use dmr_record::{Outgoing, Received, ReceivedKind};
+use dmr_recording::Place;
 use std::fmt;
 
 /// The line of a record of an outgoing list.

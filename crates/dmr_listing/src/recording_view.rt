@@ -5,10 +5,9 @@ ghost use Rattle.dmr_listing.specs.Strips.{IsMarkAt};
 
 use crate::burst_line::BurstLine;
 use crate::mark::Mark;
-use crate::place::Place;
-use crate::recording::RecordedBurst;
 use crate::slot_view::SlotView;
 use crate::summary::BurstCounts;
+use dmr_recording::{Place, RecordedBurst};
 use std::marker::Model;
 use std::mem;
 

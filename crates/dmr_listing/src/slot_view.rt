@@ -8,11 +8,11 @@ use crate::access_type::AccessType;
 use crate::burst_line::BurstLine;
 use crate::contents::{Contents, contents_of};
 use crate::fragments::{Fragment, Fragments};
-use crate::place::Place;
 use crate::voice_place::VoicePlaces;
 use crate::wrong::wrong_of;
 use dmr_burst::read_embedded;
 use dmr_reading::{Reading, read_burst};
+use dmr_recording::Place;
 use std::marker::Model;
 
 /// What the lines of a slot need of the frames before: where superframes stand, and what was carried of a link control.

@@ -3,8 +3,8 @@ ghost use Rattle.std.specs.Prelude.{◌≡◌, ◌↔◌, ◌≤◌, ◌<◌, �
 ghost use Rattle.dmr_listing.specs.Strips.{pushed};
 
 use crate::mark::Mark;
-use crate::place::Place;
 use arrayvec::ArrayVec;
+use dmr_recording::Place;
 use std::fmt;
 use std::marker::Model;
 

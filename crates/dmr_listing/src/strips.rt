@@ -4,29 +4,28 @@ ghost use Rattle.std.specs.Prelude.{IfOk, IfErr, OnOk, OnErr};
 ghost use Rattle.std.specs.Io.KnownBytes.{IsAtEnd};
 ghost use Rattle.dmr_record.specs.Devices.{failed_after};
 ghost use Rattle.dmr_record.specs.Faults.{is_of_end, is_device_fault};
-ghost use Rattle.dmr_listing.specs.Endings.{IfFile, IfNotWritten};
+ghost use Rattle.dmr_recording.specs.Endings.{IfFile, IfNotWritten};
 ghost use Rattle.dmr_listing.specs.ListingRules.{GivenInTurn, ListingTurn};
-ghost use Rattle.dmr_listing.specs.Recordings.{RecordedSlot};
+ghost use Rattle.dmr_recording.specs.Recordings.{RecordedSlot};
 ghost use Rattle.dmr_listing.specs.Strips.{IsGivenWhereFull, IsStripped, IsStrippedUpToFault, IsStrippedUpToStrip};
 ghost use Rattle.dmr_listing.specs.Strips.{Picture, pushed_in, unless_empty};
 
-use crate::fault_line::FaultLine;
 use crate::frames::Frames;
-use crate::listing::{HEAD_OCTETS, ListingEnd};
 use crate::mark::Mark;
-use crate::place::Place;
-use crate::recording::{Recording, read_recording, record_octets};
 use crate::recording_view::RecordingView;
 use crate::strip::Strip;
 use crate::summary::RecordingSummary;
 use dmr_record::{DeviceFault, Source};
+use dmr_recording::{
+    FaultLine, HEAD_OCTETS, Place, Recording, Stop, read_recording, record_octets,
+};
 
 /// Where the strips of a recording go.
 pub trait StripLines {
-    /// What it makes of a strip that it takes: how it stands behind that.
+    /// What it makes of a strip that it takes: how it was before, the strip, and how it is after.
     ghost Takes: { Self → Picture → Self → Type 0 };
 
-    /// How it stands behind a strip that it refuses.
+    /// What becomes of it where it refuses a strip: how it was before, the strip, and how it is after.
     ghost Refuses: { Self → Picture → Self → Type 0 };
 
     /// Whether it has failed.
@@ -95,7 +94,7 @@ pub fn strip_recording<S: Source, L: StripLines>(
     recording: Recording,
     frames: Frames,
     lines: &mut L,
-) -> Result<RecordingSummary, ListingEnd>
+) -> Result<RecordingSummary, Stop>
     requires source { S.has_failed source.old ≡ false }
     requires lines { L.has_failed lines.old ≡ false }
     // All slots were read to the end, and their strips given.
@@ -125,7 +124,7 @@ pub fn strip_recording<S: Source, L: StripLines>(
             Ok(Some(slot)) => slot,
             Ok(None) => {
                 if put_rest(&strip, lines).is_err() {
-                    return Err(ListingEnd::Output);
+                    return Err(Stop::Output);
                 }
                 let frames = view.slots() / 2;
                 let bursts = view.bursts();
@@ -133,10 +132,10 @@ pub fn strip_recording<S: Source, L: StripLines>(
             }
             Err(fault) => {
                 if put_rest(&strip, lines).is_err() {
-                    return Err(ListingEnd::Output);
+                    return Err(Stop::Output);
                 }
                 let place = Some(Place::of_slot(view.slots()));
-                return Err(ListingEnd::File(FaultLine {
+                return Err(Stop::File(FaultLine {
                     fault,
                     octet,
                     place,
@@ -147,7 +146,7 @@ pub fn strip_recording<S: Source, L: StripLines>(
         let place = Place::of_slot(view.slots());
         let mark = view.mark(&slot);
         if add(&mut strip, frames, place, mark, lines).is_err() {
-            return Err(ListingEnd::Output);
+            return Err(Stop::Output);
         }
     }
 }

@@ -3,8 +3,8 @@ ghost use Rattle.std.specs.Prelude.{◌≡◌};
 ghost use Rattle.dmr_listing.specs.Summaries.{counted_line};
 
 use crate::burst_line::BurstLine;
-use crate::place::{Place, Seconds};
 use dmr_reading::Reading;
+use dmr_recording::{Place, Seconds};
 use std::fmt;
 
 /// What a listing of a recording counts.

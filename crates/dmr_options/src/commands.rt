@@ -26,6 +26,16 @@ impl Listed {
         name: "show",
         about: "Lists what a file holds",
     };
+
+    pub const IMPORT: Listed = Listed {
+        name: "import",
+        about: "Makes a file of a run from another format",
+    };
+
+    pub const EXPORT: Listed = Listed {
+        name: "export",
+        about: "Writes a file of a run in another format",
+    };
 }
 
 /// A command with its line of help and no options, which is all that a program knows of another program's.

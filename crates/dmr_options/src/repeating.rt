@@ -113,6 +113,8 @@ pub fn repeating_commands<'a>(alloc: Global) -> Result<Command<'a>, AllocError> 
     let run = run_command(alloc)?;
     let slot = slot_command(alloc)?;
     let show = bare_command(alloc, Listed::SHOW);
-    let commands = vec![in alloc; run, slot, show]?;
+    let import = bare_command(alloc, Listed::IMPORT);
+    let export = bare_command(alloc, Listed::EXPORT);
+    let commands = vec![in alloc; run, slot, show, import, export]?;
     command(alloc, commands)
 }

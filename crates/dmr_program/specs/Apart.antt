@@ -1,6 +1,6 @@
 -- Which outputs of a run may be written, and which inputs are live.
 use Rattle.std.specs.Prelude.{◌≡◌, ◌||◌, Bool, false, Option, Some, None}
-use Rattle.dmr_files.specs.Identity.{clashes, is_behind, is_live}
+use Rattle.dmr_files.specs.Identity.{clashes, is_behind_any, is_live}
 use Rattle.dmr_files.specs.declared.identity.Identity.{Identity}
 use Rattle.dmr_program.specs.declared.opening.Taken.{Taken}
 
@@ -13,9 +13,7 @@ clashes_if_any output None = false
 pub record IsApart (taken : Taken) (output : Identity) : Type 0 where
   pub from_uplink : clashes output taken.uplink ≡ false
   pub from_outgoing : clashes_if_any output taken.outgoing ≡ false
-  pub from_standard_input : is_behind output taken.standard.input ≡ false
-  pub from_standard_output : is_behind output taken.standard.output ≡ false
-  pub from_standard_error : is_behind output taken.standard.error ≡ false
+  pub from_standard : is_behind_any output taken.standard ≡ false
 
 -- More of an input may come while it is read.
 abbrev pub is_any_live : Identity → Option Identity → Bool

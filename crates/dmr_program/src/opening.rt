@@ -94,9 +94,7 @@ fn is_apart(output: &Identity, taken: &Taken) -> bool
 {
     !output.clashes(&taken.uplink)
         && !clashes_if_any(output, &taken.outgoing)
-        && !output.is_behind(&taken.standard.input)
-        && !output.is_behind(&taken.standard.output)
-        && !output.is_behind(&taken.standard.error)
+        && !output.is_behind_any(&taken.standard)
 }
 
 /// Opens a file that is to be written, and refuses one that is in use.

@@ -1,7 +1,5 @@
 //! A run over files at their places, with buffers between.
-ghost use Rattle.std.specs.Prelude.{◌≡◌, ◌≤◌, ◌+◌, ◌^◌, true, false, IfOk, IfErr, IsOk};
-ghost use Rattle.std.specs.Io.Buffered.{writer_capacity};
-ghost use Rattle.std.specs.Io.KnownBytes.{Keeps};
+ghost use Rattle.std.specs.Prelude.{◌≡◌, ◌≤◌, ◌+◌, ◌^◌, true, Ok, IfOk, IfErr};
 ghost use Rattle.dmr_repeater.specs.Runs.{is_of_its_stream};
 ghost use Rattle.dmr_program.specs.Ending.{IfDone, IfFault, IsRefused, IfTerminal};
 ghost use Rattle.dmr_program.specs.Summary.{is_sent_out};
@@ -10,24 +8,12 @@ use crate::devices::{OutgoingList, ReceivedFile};
 use crate::opening::{Opened, open_files, sent_to_terminal};
 use crate::run_end::RunEnd;
 use dmr_command::Places;
-use dmr_files::{Open, System};
+use dmr_files::{Open, System, buffered_sink, buffered_source, kept_back, write_out};
 use dmr_gateway::Config;
-use dmr_record::{FromRead, RecordFault, Sink, Source, ToWrite};
+use dmr_record::{DeviceFault, RecordFault};
 use dmr_repeater::{RunFault, Stream, Summary, run};
-use std::alloc::Global;
-use std::io::{BufReader, BufWriter, Read, Write};
-
-/// How many octets a buffer holds, so that there are few calls of the system.
-const BUFFER: usize = 65_536;
-
-/// How many octets of an output are kept back: none where more of an input may come, so that each record is written as soon as it
-/// is decided.
-fn kept_back(is_live: bool) -> usize
-    ensures none { is_live ≡ true → result ≡ 0 }
-    ensures some { is_live ≡ false → result ≡ 65536 }
-{
-    if is_live { 0 } else { BUFFER }
-}
+use std::alloc::{AllocError, Global};
+use std::io::{Read, Write};
 
 /// Opens the files at these places, runs over them, and answers how the run ended. Where an input is no regular file, there is no
 /// buffer in front of the outputs. No output is sent to a terminal.
@@ -109,10 +95,10 @@ fn run_buffered<U: Read + Drop, O: Read + Drop, D: Write + Drop, R: Write + Drop
     ensures few { IfOk result (λ summary. summary.frames ≤ 2 ^ 20 + 6) }
     ensures kind { IfErr result (λ e. is_of_its_stream e ≡ true) }
 {
-    let mut uplink = buffered_source(alloc, uplink)?;
-    let mut outgoing = buffered_source(alloc, outgoing)?;
-    let mut downlink = buffered_sink(alloc, capacity, downlink)?;
-    let mut received = buffered_sink(alloc, capacity, received)?;
+    let mut uplink = with_memory(buffered_source(alloc, uplink))?;
+    let mut outgoing = with_memory(buffered_source(alloc, outgoing))?;
+    let mut downlink = with_memory(buffered_sink(alloc, capacity, downlink))?;
+    let mut received = with_memory(buffered_sink(alloc, capacity, received))?;
     let end = run(
         alloc,
         config,
@@ -121,64 +107,31 @@ fn run_buffered<U: Read + Drop, O: Read + Drop, D: Write + Drop, R: Write + Drop
         &mut downlink,
         &mut received,
     );
-    let downlink_end = write_out(downlink, Stream::Downlink);
-    let received_end = write_out(received, Stream::Received);
+    let downlink_end = with_octets(write_out(downlink), Stream::Downlink);
+    let received_end = with_octets(write_out(received), Stream::Received);
     let summary = end?;
     downlink_end?;
     received_end?;
     Ok(summary)
 }
 
-/// A source that reads through a buffer.
-fn buffered_source<R: Read + Drop>(
-    alloc: Global,
-    reader: R,
-) -> Result<FromRead<BufReader<R>>, RunFault>
-    ensures well { IfOk result (λ source. ⟦<FromRead<BufReader<R>> as Source>⟧.has_failed source ≡ false) }
-    ensures octets { IfOk result (λ source. ⟦<FromRead<BufReader<R>> as Source>⟧.left source ≡ R.remaining reader) }
+/// What a run ends with where there is no memory for a buffer.
+fn with_memory<T>(made: Result<T, AllocError>) -> Result<T, RunFault>
+    ensures value { IfOk result (λ value. made ≡ Ok value) }
     ensures fault { IfErr result (λ e. e ≡ RunFault.Memory) }
 {
-    match BufReader::with_capacity(alloc, BUFFER, reader) {
-        Ok(reader) => Ok(FromRead::new(reader)),
+    match made {
+        Ok(value) => Ok(value),
         Err(_) => Err(RunFault::Memory),
     }
 }
 
-/// A writer behind a buffer of this capacity.
-fn buffered_writer<W: Write + Drop>(
-    alloc: Global,
-    capacity: usize,
-    writer: W,
-) -> Result<BufWriter<W>, RunFault>
-    ensures capacity { IfOk result (λ buffered. writer_capacity buffered ≡ capacity) }
-    ensures fault { IfErr result (λ e. e ≡ RunFault.Memory) }
-    ensures none { capacity ≡ 0 → IsOk result }
-{
-    match BufWriter::with_capacity(alloc, capacity, writer) {
-        Ok(buffered) => Ok(buffered),
-        Err(_) => Err(RunFault::Memory),
-    }
-}
-
-/// A sink that writes through a buffer of this capacity.
-fn buffered_sink<W: Write + Drop>(
-    alloc: Global,
-    capacity: usize,
-    writer: W,
-) -> Result<ToWrite<BufWriter<W>>, RunFault>
-    ensures well { IfOk result (λ sink. ⟦<ToWrite<BufWriter<W>> as Sink>⟧.has_failed sink ≡ false) }
-    ensures fault { IfErr result (λ e. e ≡ RunFault.Memory) }
-{
-    Ok(ToWrite::new(buffered_writer(alloc, capacity, writer)?))
-}
-
-/// Writes out what a buffer still holds, and hands back the writer, which then has all that the sink has.
-fn write_out<W: Write + Drop>(sink: ToWrite<BufWriter<W>>, stream: Stream) -> Result<W, RunFault>
-    ensures octets { IfOk result (λ writer. Keeps (⟦<ToWrite<BufWriter<W>> as Sink>⟧.held sink) (W.contents writer)) }
+/// What a run ends with where a file can't be written out.
+fn with_octets<W: Drop>(written: Result<W, DeviceFault>, stream: Stream) -> Result<(), RunFault>
     ensures fault { IfErr result (λ e. e ≡ RunFault.File stream RecordFault.Write) }
 {
-    match sink.into_inner().into_inner() {
-        Ok(writer) => Ok(writer),
+    match written {
+        Ok(_) => Ok(()),
         Err(_) => Err(RunFault::File(stream, RecordFault::Write)),
     }
 }

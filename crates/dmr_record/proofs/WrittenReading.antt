@@ -1,4 +1,4 @@
--- A downlink file and a received file have one reading.
+-- What is written has one reading: a slot of an uplink or a downlink file, and a record of a received file.
 use Rattle.std.proofs.Common.{◌≡◌, ℕ, List, [], ◌++◌, length, get_or, drop, Option, Some, None, refl, sym, ap, ◌∙◌, append_assoc}
 use Rattle.byteorder.specs.Endian.{big_number}
 use Rattle.byteorder.specs.Numbers.{big_number-reads_back}
@@ -7,6 +7,7 @@ use Rattle.dmr_record.specs.declared.received.ReceivedKind.TheVariants.{Datagram
 use Rattle.dmr_record.specs.Downlink.{IsSent, sent_octets}
 use Rattle.dmr_record.specs.Received.{Receipt, IsReceipt, kind_octet, receipt_octets}
 use Rattle.dmr_record.specs.Spelling.{IsPrefixCode}
+use Rattle.dmr_record.specs.Uplink.{IsSilenceOrBurst, slot_octets}
 use Rattle.dmr_record.proofs.Spellings.{same_fronts}
 
 -- two fronts of two pieces each
@@ -16,6 +17,20 @@ same_pieces xs xs' ys ys' a b l l' e =
     let (first, behind) = same_fronts xs ys (xs' ++ a) (ys' ++ b) l (sym (append_assoc xs xs' a) ∙ e ∙ append_assoc ys ys' b) in
     let (second, rest) = same_fronts xs' ys' a b l' behind in
     (first, second, rest)
+
+one_slot : (x y : Option (List ℕ)) (a b : List ℕ) → IsSilenceOrBurst x → IsSilenceOrBurst y
+    → slot_octets x ++ a ≡ slot_octets y ++ b → (x ≡ y) × (a ≡ b)
+one_slot None None a b p q e = (refl, (cc))
+one_slot None (Some y) a b p q e = absurd (cc)
+one_slot (Some x) None a b p q e = absurd (cc)
+one_slot (Some x) (Some y) a b p q e =
+    let (burst, rest) = same_fronts x y a b (p ∙ sym q) (ap (drop 1) e) in (ap (λ (u : List ℕ). Some u) burst, rest)
+
+pub slot_code : IsPrefixCode IsSilenceOrBurst slot_octets
+slot_code = record {
+  begins = λ x rest p e. (cc);
+  one = one_slot;
+}
 
 one_sent : (x y : Option (List ℕ × List ℕ)) (a b : List ℕ) → IsSent x → IsSent y → sent_octets x ++ a ≡ sent_octets y ++ b → (x ≡
     y) × (a ≡ b)

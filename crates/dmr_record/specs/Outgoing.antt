@@ -7,6 +7,7 @@ use Rattle.dmr_record.specs.Received.{IsSlot}
 use Rattle.dmr_record.specs.declared.fault.RecordFault.{RecordFault}
 use Rattle.dmr_record.specs.declared.fault.RecordFault.TheVariants.{CutRecord, BadTag, FrameOrder, TooLong, Read}
 use Rattle.dmr_record.specs.declared.outgoing.Outgoing.{Outgoing}
+use Rattle.dmr_record.specs.declared.outgoing.OutgoingRecord.{OutgoingRecord}
 
 -- What stands between the tag of a record and its datagram: the frame, the slot, the mode, and how many octets
 -- the datagram has.
@@ -77,6 +78,15 @@ last_frame last (s ∷ rest) = last_frame s.frame rest
 abbrev pub sending_of : Outgoing → List ℕ → Sending
 sending_of o datagram =
     record { frame = o.frame; slot = o.slot; confirmed = o.confirmed; full = o.full; datagram = datagram }
+
+-- the fields of a record that was read without its octets
+abbrev pub record_fields : OutgoingRecord → OutgoingFields
+record_fields r = record { frame = r.frame; slot = r.slot; mode = mode_of r.confirmed r.full; count = r.length }
+
+-- the record that was read, where these are all its octets
+abbrev pub whole_sending : OutgoingRecord → List ℕ → Sending
+whole_sending r octets =
+    record { frame = r.frame; slot = r.slot; confirmed = r.confirmed; full = r.full; datagram = octets }
 
 -- What was read keeps the length of the datagram, and the first of its octets.
 pub record Keeps (o : Outgoing) (datagram : List ℕ) : Type 0 where

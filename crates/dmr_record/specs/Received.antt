@@ -103,6 +103,11 @@ abbrev pub FollowEachOther : Option ReceivedFields → List Receipt → Type 0
 FollowEachOther last [] = Unit {0}
 FollowEachOther last (r ∷ rest) = Follows last (received_fields r) × FollowEachOther (Some (received_fields r)) rest
 
+-- the fields of the last of these records, or these of none
+abbrev pub last_fields : Option ReceivedFields → List Receipt → Option ReceivedFields
+last_fields last [] = last
+last_fields last (receipt ∷ receipts) = last_fields (Some (received_fields receipt)) receipts
+
 -- the fields of a record that was read
 abbrev pub fields_read : Received → ReceivedFields
 fields_read r = record { frame = r.frame; slot = r.slot; kind = kind_octet r.kind; source = r.source; count = r.length }

@@ -115,6 +115,17 @@ pub fn received_faults()
         → HasFault (ShowsReceivedFault limit before last) (receipts_octets receipts) e → e ≡ RecordFault.Read }
 {}
 
+/// A slot that was written to an uplink file is read back: no other slot's octets begin a text that its own begin.
+pub fn uplink_is_read_back()
+    ensures back { IsPrefixCode IsSilenceOrBurst slot_octets }
+{}
+
+/// A record that was written to an outgoing file is read back: no other record's octets begin a text that its own
+/// begin.
+pub fn outgoing_is_read_back()
+    ensures back { IsPrefixCode IsSending sending_octets }
+{}
+
 /// A slot that was written to a downlink file is read back: no other slot's octets begin a text that its own begin.
 pub fn downlink_is_read_back()
     ensures back { IsPrefixCode IsSent sent_octets }

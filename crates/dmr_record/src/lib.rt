@@ -30,9 +30,12 @@ pub use head::{
     DOWNLINK_MAGIC, FileFormat, OUTGOING_MAGIC, RECEIVED_MAGIC, UPLINK_MAGIC, read_any_head,
     read_head, write_head,
 };
-pub use outgoing::{Outgoing, RECORD_LIMIT, read_outgoing, read_outgoing_into};
+pub use outgoing::{
+    Outgoing, OutgoingRecord, RECORD_LIMIT, read_outgoing, read_outgoing_into, read_whole_outgoing,
+    write_outgoing,
+};
 pub use received::{
     OCTET_LIMIT, RECEIVED_LIMIT, Received, ReceivedKind, read_received, write_received,
 };
 pub use transfer::put;
-pub use uplink::{FRAME_LIMIT, read_frame, read_uplink_slot};
+pub use uplink::{FRAME_LIMIT, read_frame, read_uplink_slot, write_uplink_slot};

@@ -20,7 +20,7 @@ use byteorder::{BigEndian, ByteOrder};
 /// How many records a received file has at most: a status and a packet in each slot of the longest downlink file.
 pub const RECEIVED_LIMIT: u32 = 2 * SLOT_LIMIT;
 
-/// How many octets a record of the received file has at most.
+/// How many octets a record has at most, in the received file and in the outgoing file.
 pub const OCTET_LIMIT: usize = 65_535;
 
 /// What the octets of a received packet are.

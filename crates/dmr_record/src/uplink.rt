@@ -1,17 +1,19 @@
 //! The uplink file, frame by frame.
 
-ghost use Rattle.std.specs.Prelude.{◌≡◌, ◌%◌, ◌<◌, [], ◌∷◌, List, ℕ, false, true, IfOk, IfErr, OnOk, IfSome, IfNone};
-ghost use Rattle.std.specs.Io.KnownBytes.{Consumes, IsAtEnd};
+ghost use Rattle.std.specs.Prelude.{◌≡◌, ◌%◌, ◌<◌, [], ◌∷◌, List, ℕ, false, true, Some};
+ghost use Rattle.std.specs.Prelude.{IfOk, IfErr, OnOk, OnErr, IfSome, IfNone};
+ghost use Rattle.std.specs.Io.KnownBytes.{Consumes, Appends, IsAtEnd};
+ghost use Rattle.dmr_record.specs.Devices.{Tears};
 ghost use Rattle.dmr_record.specs.Faults.{is_of_end, is_device_fault};
 ghost use Rattle.dmr_record.specs.Uplink.{IsSilenceOrBurst, IsFrame, ShowsSlotFault, ShowsUplinkFault, slot_tag, slot_body};
 ghost use Rattle.dmr_record.specs.Uplink.{frame_octets};
 ghost use Rattle.dmr_record.specs.Uplink.{ShowsUplinkSlotFault, uplink_slot_limit, slot_octets};
 ghost use Rattle.dmr_record.specs.Head.{frame_limit};
 
-use crate::device::Source;
+use crate::device::{Sink, Source};
 use crate::fault::RecordFault;
 use crate::tag::{BURST, SILENCE};
-use crate::transfer::{fill, read_octet};
+use crate::transfer::{fill, put, read_octet};
 
 /// How many frames an uplink file has at most.
 pub const FRAME_LIMIT: u32 = 1 << 20;
@@ -120,4 +122,29 @@ pub fn read_uplink_slot<S: Source>(
     }
     let slot = read_slot(source, tag)?;
     Ok(Some(slot))
+}
+
+/// The record of a burst.
+fn burst_record(burst: [u8; 33]) -> [u8; 34]
+    ensures octets { result ≡ slot_octets (Some burst) }
+{
+    let mut record = [BURST; 34];
+    record[1..].copy_from_slice(&burst);
+    record
+}
+
+/// Writes a slot of the uplink file: silence or a burst. At an `Err` the sink failed with a front of the record out.
+/// The format is this project's own.
+pub fn write_uplink_slot<K: Sink>(sink: &mut K, slot: Option<[u8; 33]>) -> Result<(), RecordFault>
+    requires well { K.has_failed sink.old ≡ false }
+    ensures slot { OnOk result (Appends (K.held sink.old) (K.held sink.new) (slot_octets slot)) }
+    ensures well { OnOk result (K.has_failed sink.new ≡ false) }
+    ensures fault { IfErr result (λ e. e ≡ RecordFault.Write) }
+    ensures failed { OnErr result (K.has_failed sink.new ≡ true) }
+    ensures torn { OnErr result (Tears (K.held sink.old) (K.held sink.new) (slot_octets slot)) }
+{
+    match slot {
+        None => put(sink, &[SILENCE]),
+        Some(burst) => put(sink, &burst_record(burst)),
+    }
 }

@@ -6,20 +6,20 @@ use Rattle.dmr_listing.proofs.Listings.{lines_placed}
 use Rattle.dmr_listing.specs.ListingRules as recording
 use Rattle.dmr_listing.specs.OutgoingListings as outgoing
 use Rattle.dmr_listing.specs.ReceivedListings as received
-use Rattle.dmr_listing.specs.Recordings.{RecordedSlot}
-use Rattle.dmr_listing.specs.Endings.{IfFile}
+use Rattle.dmr_recording.specs.Recordings.{RecordedSlot}
+use Rattle.dmr_recording.specs.Endings.{IfFile}
 use Rattle.dmr_listing.specs.Strips.{AreStrips, IsStripped, IsStrippedUpToFault, Picture, shown_marks}
 use Rattle.dmr_listing.specs.declared.frames.Frames.{Frames}
-use Rattle.dmr_listing.specs.declared.listing.ListingEnd.{ListingEnd}
-use Rattle.dmr_listing.specs.declared.listing.ListingEnd.TheVariants.{File, Output}
+use Rattle.dmr_recording.specs.declared.stop.Stop.{Stop}
+use Rattle.dmr_recording.specs.declared.stop.Stop.TheVariants.{File, Output}
 use Rattle.std.specs.Prelude.{Result, Ok, Err, IfOk, IfErr, OnOk}
 use Rattle.dmr_show.specs.declared.file_listing.Shown.{Shown}
 use Rattle.dmr_show.specs.declared.file_listing.Shown.TheVariants.{NoStrip, Whole}
 use Rattle.dmr_listing.specs.declared.burst_line.BurstLine.{BurstLine}
-use Rattle.dmr_listing.specs.declared.fault_line.FaultLine.{FaultLine}
-use Rattle.dmr_listing.specs.declared.place.Place.{Place}
-use Rattle.dmr_listing.specs.declared.recording.Recording.{Recording}
-use Rattle.dmr_listing.specs.declared.recording.Recording.TheVariants.{Uplink, Downlink}
+use Rattle.dmr_recording.specs.declared.fault_line.FaultLine.{FaultLine}
+use Rattle.dmr_recording.specs.declared.place.Place.{Place}
+use Rattle.dmr_recording.specs.declared.recording.Recording.{Recording}
+use Rattle.dmr_recording.specs.declared.recording.Recording.TheVariants.{Uplink, Downlink}
 use Rattle.dmr_listing.specs.declared.summary.RecordingSummary.{RecordingSummary}
 use Rattle.dmr_record.specs.Outgoing.{Sending, AreReadFrom}
 use Rattle.dmr_record.specs.Received.{Receipt}
@@ -243,12 +243,12 @@ strip_shown_up_to_fault old new Takes filter_of held_of of frames fault a b aske
     }
 
 -- what follows of a fault that is told
-pub told : (end : ListingEnd) (P Q : FaultLine → Type 0) → IfFile end P → ((fault : FaultLine) → P fault → Q fault) → IfFile end Q
+pub told : (end : Stop) (P Q : FaultLine → Type 0) → IfFile end P → ((fault : FaultLine) → P fault → Q fault) → IfFile end Q
 told (File fault) P Q holds follows = follows fault holds
 told Output P Q holds follows = tt
 
 -- the strips of a recording, where that succeeds
-pub strip_whole : {L : Type 0} (r : Result RecordingSummary ListingEnd) (old new : L) (Takes : L → Picture → L → Type 0)
+pub strip_whole : {L : Type 0} (r : Result RecordingSummary Stop) (old new : L) (Takes : L → Picture → L → Type 0)
     (filter_of : L → Filter) (held_of : L → Option (List ℕ)) (of : Recording) (frames : Frames) (a b : Option (List ℕ))
     → frames ≡ frames_of (filter_of old)
     → IfOk r (λ summary. (slots : List RecordedSlot) × (end : recording.ListingTurn)
@@ -261,7 +261,7 @@ strip_whole (Ok summary) old new Takes filter_of held_of of frames a b asked (sl
 strip_whole (Err e) old new Takes filter_of held_of of frames a b asked all each = tt
 
 -- and where it doesn't
-pub strip_fault : {L : Type 0} (r : Result RecordingSummary ListingEnd) (old new : L) (Takes : L → Picture → L → Type 0)
+pub strip_fault : {L : Type 0} (r : Result RecordingSummary Stop) (old new : L) (Takes : L → Picture → L → Type 0)
     (filter_of : L → Filter) (held_of : L → Option (List ℕ)) (of : Recording) (frames : Frames) (a b : Option (List ℕ))
     → frames ≡ frames_of (filter_of old)
     → IfErr r (λ e. IfFile e (λ fault. IsStrippedUpToFault Takes of frames fault a b old new))
@@ -384,19 +384,19 @@ no_strip asked (inl listing) strip = cc
 no_strip asked (inr json) strip = cc
 
 -- a form that is no strip tells nothing of one
-pub no_strip_asked : (r : Result Shown ListingEnd) (asked : Form) (P : Type 0) → (asked ≡ form.Strip → ⊥)
+pub no_strip_asked : (r : Result Shown Stop) (asked : Form) (P : Type 0) → (asked ≡ form.Strip → ⊥)
     → IfOk r (λ shown. shown ≡ Whole → asked ≡ form.Strip → P)
 no_strip_asked (Ok x) asked P listing = λ whole strip. absurd (listing strip)
 no_strip_asked (Err e) asked P listing = tt
 
 -- what is shown whole isn't left without a strip
-pub whole_alone : (r : Result Shown ListingEnd) (P : Type 0) → IfOk r (λ shown. shown ≡ Whole)
+pub whole_alone : (r : Result Shown Stop) (P : Type 0) → IfOk r (λ shown. shown ≡ Whole)
     → IfOk r (λ shown. shown ≡ NoStrip → P)
 whole_alone (Ok x) P whole = λ none. cc
 whole_alone (Err e) P whole = tt
 
 -- a file in a form that is no strip
-pub file_listed : (r : Result Shown ListingEnd) (asked : Form) (filter : Filter) (of : FileFormat) (a b c h k : Option (List ℕ))
+pub file_listed : (r : Result Shown Stop) (asked : Form) (filter : Filter) (of : FileFormat) (a b c h k : Option (List ℕ))
     → (asked ≡ form.Strip → ⊥) → Consumes a b (head_octets (magic_of of))
     → OnOk r ((summary : FileSummary) × IsRestShown form.Listing filter of summary 1 1 b c h k) → OnOk r (IsAtEnd c)
     → IfOk r (λ shown. shown ≡ Whole → IsShownWhole asked filter a c h k)
@@ -413,7 +413,7 @@ file_listed (Ok x) asked filter of a b c h k listing head (summary, rest) end = 
     ) end
 file_listed (Err e) asked filter of a b c h k listing head rest end = tt
 
-pub file_listed_up_to_fault : (r : Result Shown ListingEnd) (asked : Form) (filter : Filter) (of : FileFormat)
+pub file_listed_up_to_fault : (r : Result Shown Stop) (asked : Form) (filter : Filter) (of : FileFormat)
     (a b c h k : Option (List ℕ)) → (asked ≡ form.Strip → ⊥) → Consumes a b (head_octets (magic_of of))
     → IfErr r (λ e. IfFile e (λ fault. IsRestShownUpToFault form.Listing filter of fault 1 b c h k))
     → IfErr r (λ e. IfFile e (λ fault. IsAtFault asked filter fault a c h k))
@@ -429,7 +429,7 @@ file_listed_up_to_fault (Err (File fault)) asked filter of a b c h k listing hea
     })
 
 -- the strip of a file
-pub file_stripped : (r : Result Shown ListingEnd) (asked : Form) (filter : Filter) (of : FileFormat) (a b c h k : Option (List ℕ))
+pub file_stripped : (r : Result Shown Stop) (asked : Form) (filter : Filter) (of : FileFormat) (a b c h k : Option (List ℕ))
     → asked ≡ form.Strip → Consumes a b (head_octets (magic_of of))
     → IfOk r (λ shown. shown ≡ Whole → (summary : FileSummary) × IsRestShown form.Strip filter of summary 0 0 b c h k)
     → IfOk r (λ shown. shown ≡ Whole → IsAtEnd c)
@@ -439,7 +439,7 @@ file_stripped (Ok x) asked filter of a b c h k strip head rest end = λ whole.
     (whole_shown form.Strip filter of a b c h k head (rest whole) (end whole))
 file_stripped (Err e) asked filter of a b c h k strip head rest end = tt
 
-pub file_stripped_up_to_fault : (r : Result Shown ListingEnd) (asked : Form) (filter : Filter) (of : FileFormat)
+pub file_stripped_up_to_fault : (r : Result Shown Stop) (asked : Form) (filter : Filter) (of : FileFormat)
     (a b c h k : Option (List ℕ)) → asked ≡ form.Strip → Consumes a b (head_octets (magic_of of))
     → IfErr r (λ e. IfFile e (λ fault. IsRestShownUpToFault form.Strip filter of fault 0 b c h k))
     → IfErr r (λ e. IfFile e (λ fault. IsAtFault asked filter fault a c h k))

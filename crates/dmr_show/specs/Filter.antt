@@ -1,6 +1,6 @@
 -- Which bursts and records have a line.
 use Rattle.std.specs.Prelude.{◌≡◌, ◌==◌, ◌&&◌, ℕ, ◌≤◌, Bool, true, Option, Some, None, IfSome, nat_le}
-use Rattle.dmr_listing.specs.declared.place.Place.{Place}
+use Rattle.dmr_recording.specs.declared.place.Place.{Place}
 use Rattle.dmr_show.specs.declared.filter.Filter.{Filter}
 
 -- a slot is among those that are asked for

@@ -4,7 +4,7 @@ use Rattle.std.specs.Io.KnownBytes.{Appends}
 use Rattle.std.specs.List.{All, flat_map, sum_by}
 use Rattle.dmr_listing.specs.Strips.{AreStrips, Picture, shown_marks}
 use Rattle.dmr_listing.specs.declared.frames.Frames.{Frames}
-use Rattle.dmr_listing.specs.declared.place.Place.{Place}
+use Rattle.dmr_recording.specs.declared.place.Place.{Place}
 use Rattle.dmr_lines.specs.Line.{IsOneLine, line_octets}
 use Rattle.dmr_show.specs.Filter.{is_in_slot, lets_pass}
 use Rattle.dmr_show.specs.Records.{Records, Slots, places_of}

@@ -1,10 +1,10 @@
 -- What was read of a file behind its head, and where it stands.
 use Rattle.std.specs.Prelude.{List, map}
-use Rattle.dmr_listing.specs.ListingMeaning.{entries}
-use Rattle.dmr_listing.specs.Recordings.{RecordedSlot}
+use Rattle.dmr_recording.specs.Places.{entries}
+use Rattle.dmr_recording.specs.Recordings.{RecordedSlot}
 use Rattle.dmr_listing.specs.declared.burst_line.BurstLine.{BurstLine}
-use Rattle.dmr_listing.specs.declared.place.Place.{Place}
-use Rattle.dmr_listing.specs.declared.recording.RecordedBurst.{RecordedBurst}
+use Rattle.dmr_recording.specs.declared.place.Place.{Place}
+use Rattle.dmr_recording.specs.declared.recording.RecordedBurst.{RecordedBurst}
 use Rattle.dmr_record.specs.Outgoing.{Sending}
 use Rattle.dmr_record.specs.Received.{Receipt}
 use Rattle.dmr_record.specs.declared.outgoing.Outgoing.{Outgoing}

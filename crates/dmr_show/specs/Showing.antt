@@ -4,11 +4,11 @@ use Rattle.std.specs.Io.KnownBytes.{Consumes, IsAtEnd}
 use Rattle.dmr_listing.specs.ListingRules as recording
 use Rattle.dmr_listing.specs.OutgoingListings as outgoing
 use Rattle.dmr_listing.specs.ReceivedListings as received
-use Rattle.dmr_listing.specs.Recordings.{RecordedSlot}
+use Rattle.dmr_recording.specs.Recordings.{RecordedSlot}
 use Rattle.dmr_listing.specs.declared.burst_line.BurstLine.{BurstLine}
-use Rattle.dmr_listing.specs.declared.fault_line.FaultLine.{FaultLine}
-use Rattle.dmr_listing.specs.declared.recording.Recording.{Recording}
-use Rattle.dmr_listing.specs.declared.recording.Recording.TheVariants as kind
+use Rattle.dmr_recording.specs.declared.fault_line.FaultLine.{FaultLine}
+use Rattle.dmr_recording.specs.declared.recording.Recording.{Recording}
+use Rattle.dmr_recording.specs.declared.recording.Recording.TheVariants as kind
 use Rattle.dmr_listing.specs.declared.summary.RecordingSummary.{RecordingSummary}
 use Rattle.dmr_record.specs.Head.{head_octets, magic_of, ShowsAnyHeadFault}
 use Rattle.dmr_record.specs.Outgoing.{Sending}

@@ -2,7 +2,7 @@
 ghost use Rattle.std.specs.Prelude.{◌≡◌, ◌≤◌, true, false, None, length, IfOk, IfErr, OnOk};
 ghost use Rattle.std.specs.Io.KnownBytes.{IsAtEnd};
 ghost use Rattle.dmr_record.specs.Faults.{is_of_end, is_device_fault};
-ghost use Rattle.dmr_listing.specs.Endings.{IfFile, IfNotWritten};
+ghost use Rattle.dmr_recording.specs.Endings.{IfFile, IfNotWritten};
 ghost use Rattle.dmr_show.specs.Forms.{notation_of};
 ghost use Rattle.dmr_show.specs.Held.{held_by};
 ghost use Rattle.dmr_show.specs.Showing.{BeginsWithStrip, IsAtFault, IsRestShown, IsRestShownUpToFault, IsShownWhole};
@@ -14,10 +14,10 @@ use crate::file_summary::FileSummary;
 use crate::form::Form;
 use crate::lines::Lines;
 use dmr_listing::{
-    FaultLine, ListingEnd, Recording, RecordingSummary, list_outgoing, list_received,
-    list_recording, strip_recording,
+    RecordingSummary, list_outgoing, list_received, list_recording, strip_recording,
 };
 use dmr_record::{FileFormat, RecordFault, Sink, Source, read_any_head};
+use dmr_recording::{FaultLine, Recording, Stop};
 
 /// A fault of a head.
 fn head_fault(fault: RecordFault) -> FaultLine
@@ -38,7 +38,7 @@ fn list_behind<S: Source, K: Sink>(
     format: FileFormat,
     room: &mut [u8],
     lines: &mut Lines<'_, K>,
-) -> Result<FileSummary, ListingEnd>
+) -> Result<FileSummary, Stop>
     requires source { S.has_failed source.old ≡ false }
     requires lines { K.has_failed lines.old.sink.now ≡ false }
     requires room { 65535 ≤ length room.old }
@@ -91,7 +91,7 @@ fn list_rest<S: Source, K: Sink>(
     format: FileFormat,
     room: &mut [u8],
     lines: &mut Lines<'_, K>,
-) -> Result<Shown, ListingEnd>
+) -> Result<Shown, Stop>
     requires source { S.has_failed source.old ≡ false }
     requires lines { K.has_failed lines.old.sink.now ≡ false }
     requires room { 65535 ≤ length room.old }
@@ -111,12 +111,12 @@ fn list_rest<S: Source, K: Sink>(
     ensures same_sink { lines.new.sink.ghost_name ≡ lines.old.sink.ghost_name }
 {
     if lines.begin(format).is_err() {
-        return Err(ListingEnd::Output);
+        return Err(Stop::Output);
     }
     let summary = list_behind(source, format, room, lines)?;
     match lines.end(&summary) {
         Ok(()) => Ok(Shown::Whole),
-        Err(_) => Err(ListingEnd::Output),
+        Err(_) => Err(Stop::Output),
     }
 }
 
@@ -125,7 +125,7 @@ fn strip_behind<S: Source, K: Sink>(
     source: &mut S,
     recording: Recording,
     lines: &mut Lines<'_, K>,
-) -> Result<RecordingSummary, ListingEnd>
+) -> Result<RecordingSummary, Stop>
     requires source { S.has_failed source.old ≡ false }
     requires lines { K.has_failed lines.old.sink.now ≡ false }
     ensures whole { IfOk result (λ summary. IsRestShown Form.Strip lines.old.filter (format_of recording) (OfRecording summary) 0 0
@@ -152,7 +152,7 @@ fn strip_rest<S: Source, K: Sink>(
     source: &mut S,
     format: FileFormat,
     lines: &mut Lines<'_, K>,
-) -> Result<Shown, ListingEnd>
+) -> Result<Shown, Stop>
     requires source { S.has_failed source.old ≡ false }
     requires lines { K.has_failed lines.old.sink.now ≡ false }
     ensures whole { IfOk result (λ shown. shown ≡ Shown.Whole
@@ -193,7 +193,7 @@ fn show_file<S: Source, K: Sink>(
     source: &mut S,
     room: &mut [u8],
     lines: &mut Lines<'_, K>,
-) -> Result<Shown, ListingEnd>
+) -> Result<Shown, Stop>
     requires source { S.has_failed source.old ≡ false }
     requires lines { K.has_failed lines.old.sink.now ≡ false }
     requires notation { lines.old.notation ≡ notation_of form }
@@ -217,7 +217,7 @@ fn show_file<S: Source, K: Sink>(
 {
     let format = match read_any_head(source) {
         Ok(format) => format,
-        Err(fault) => return Err(ListingEnd::File(head_fault(fault))),
+        Err(fault) => return Err(Stop::File(head_fault(fault))),
     };
     match form {
         Form::Listing | Form::Json => list_rest(source, format, room, lines),
@@ -232,7 +232,7 @@ pub(crate) fn show_all<S: Source, K: Sink>(
     source: &mut S,
     room: &mut [u8],
     lines: &mut Lines<'_, K>,
-) -> Result<Shown, ListingEnd>
+) -> Result<Shown, Stop>
     requires source { S.has_failed source.old ≡ false }
     requires lines { K.has_failed lines.old.sink.now ≡ false }
     requires notation { lines.old.notation ≡ notation_of form }
@@ -257,10 +257,10 @@ pub(crate) fn show_all<S: Source, K: Sink>(
     let shown = show_file(form, source, room, lines);
     match shown {
         // A sink that has failed isn't used again.
-        Err(ListingEnd::Output) => Err(ListingEnd::Output),
-        Ok(_) | Err(ListingEnd::File(_)) => match lines.flush() {
+        Err(Stop::Output) => Err(Stop::Output),
+        Ok(_) | Err(Stop::File(_)) => match lines.flush() {
             Ok(()) => shown,
-            Err(_) => Err(ListingEnd::Output),
+            Err(_) => Err(Stop::Output),
         },
     }
 }

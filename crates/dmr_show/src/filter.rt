@@ -3,7 +3,8 @@ ghost use Rattle.std.specs.Prelude.{◌≡◌, ◌↔◌, ◌-◌, ◌^◌, IsTr
 ghost use Rattle.dmr_show.specs.Filter.{IsInSlot, Passes, is_in_slot, lets_pass};
 ghost use Rattle.dmr_show.specs.Printed.{frames_of};
 
-use dmr_listing::{Frames, Place};
+use dmr_listing::Frames;
+use dmr_recording::Place;
 
 /// Which bursts and records have a line: each part that is left out asks for all.
 #[derive(Clone, Copy, Debug, Drop, PartialEq, Eq)]

@@ -16,10 +16,11 @@ use crate::written::Written;
 use dmr_json::{BurstObject, FileObject, ListEnd, OutgoingObject, ReceivedObject, RecordingEnd};
 use dmr_lines::line_of;
 use dmr_listing::{
-    BurstLine, BurstLines, Frames, OutgoingLine, OutgoingLines, Place, ReceivedLine, ReceivedLines,
-    RecordedBurst, RecordingSummary, Strip, StripLines,
+    BurstLine, BurstLines, Frames, OutgoingLine, OutgoingLines, ReceivedLine, ReceivedLines,
+    RecordingSummary, Strip, StripLines,
 };
 use dmr_record::{DeviceFault, FileFormat, Outgoing, Received, Sink};
+use dmr_recording::{Place, RecordedBurst};
 use std::fmt::{Display, Write};
 
 /// Prints the lines of a file to a sink, each in a notation, as far as a filter lets them pass.

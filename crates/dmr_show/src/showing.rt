@@ -1,6 +1,6 @@
 //! A file, shown.
 ghost use Rattle.std.specs.Prelude.{◌≡◌, ◌≤◌, ◌⊎◌, false, true, length, IfOk, IfErr, OnOk};
-ghost use Rattle.dmr_listing.specs.Endings.{IfFile, IfNotWritten};
+ghost use Rattle.dmr_recording.specs.Endings.{IfFile, IfNotWritten};
 ghost use Rattle.dmr_lines.specs.Line.{PutsError};
 ghost use Rattle.dmr_lines.specs.Status.{failure, success};
 ghost use Rattle.dmr_show.specs.Showing.{BeginsWithStrip, IsAtFault, IsShownInPart, IsShownWhole, IsWithoutStrip, TellsFault};
@@ -10,8 +10,8 @@ use crate::filter::Filter;
 use crate::form::Form;
 use crate::lines::Lines;
 use dmr_lines::{FAILURE, SUCCESS, ToldName, line_of, print_error};
-use dmr_listing::{FaultLine, ListingEnd};
 use dmr_record::{OCTET_LIMIT, Sink, Source};
+use dmr_recording::{FaultLine, Stop};
 use std::alloc::{AllocError, Global};
 
 /// How many octets the longest line has at most: the JSON of a received record, whose octets stand in digits behind its other keys.
@@ -27,7 +27,7 @@ fn show_to<S: Source, K: Sink>(
     room: &mut [u8],
     text: &mut String,
     out: &mut K,
-) -> Result<Shown, ListingEnd>
+) -> Result<Shown, Stop>
     requires source { S.has_failed source.old ≡ false }
     requires out { K.has_failed out.old ≡ false }
     requires room { 65535 ≤ length room.old }
@@ -149,10 +149,10 @@ pub fn show<S: Source, K: Sink, E: Sink>(
             print_no_strip(alloc, name, err);
             FAILURE
         }
-        Err(ListingEnd::File(fault)) => {
+        Err(Stop::File(fault)) => {
             print_fault(alloc, name, &fault, err);
             FAILURE
         }
-        Err(ListingEnd::Output) => FAILURE,
+        Err(Stop::Output) => FAILURE,
     }
 }

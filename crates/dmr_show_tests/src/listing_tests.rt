@@ -3,12 +3,13 @@ use dmr_burst::{Emb, Side, lcss};
 use dmr_csbk::Csbk;
 use dmr_link::FullLc;
 use dmr_listing::{
-    BurstCounts, BurstLine, BurstLines, Contents, FaultLine, Frames, ListingEnd, Mark,
-    OutgoingLine, Place, ReceivedLine, RecordedBurst, Recording, RecordingSummary, SlotView, Strip,
-    StripLine, StripLines, VoicePlace, VoicePlaces, list_recording, strip_recording,
+    BurstCounts, BurstLine, BurstLines, Contents, Frames, Mark, OutgoingLine, ReceivedLine,
+    RecordingSummary, SlotView, Strip, StripLine, StripLines, VoicePlace, VoicePlaces,
+    list_recording, strip_recording,
 };
 use dmr_reading::Reading;
 use dmr_record::{DeviceFault, FromRead, Received, ReceivedKind, RecordFault, read_outgoing};
+use dmr_recording::{FaultLine, Place, RecordedBurst, Recording, Stop};
 use hex::FromHex;
 use std::alloc::AllocError;
 use std::fmt::Write;
@@ -354,10 +355,10 @@ fn listings_of_recordings(rt: HostRuntime) -> Result<(), Fail> {
             }),
             "",
         ),
-        (12, 9, Err(ListingEnd::File(cut)), ""),
-        (34, 9, Err(ListingEnd::File(half)), line),
+        (12, 9, Err(Stop::File(cut)), ""),
+        (34, 9, Err(Stop::File(half)), line),
         (35, 9, Ok(whole), line),
-        (35, 0, Err(ListingEnd::Output), ""),
+        (35, 0, Err(Stop::Output), ""),
     ] {
         let mut source = FromRead::new(octets.get(..count).unwrap_or(&[]));
         let mut taken = TakenLines {
@@ -457,15 +458,10 @@ fn strips_of_recordings(rt: HostRuntime) -> Result<(), Fail> {
         place: Some(Place { frame: 1, slot: 2 }),
     };
     for (first, room, want, text) in [
-        (
-            0,
-            9,
-            ListingEnd::File(half),
-            "      0 1  ..\n      0 2  c\n",
-        ),
-        (1, 9, ListingEnd::File(half), "      1 1  .\n"),
-        (2, 9, ListingEnd::File(half), ""),
-        (0, 0, ListingEnd::Output, ""),
+        (0, 9, Stop::File(half), "      0 1  ..\n      0 2  c\n"),
+        (1, 9, Stop::File(half), "      1 1  .\n"),
+        (2, 9, Stop::File(half), ""),
+        (0, 0, Stop::Output, ""),
     ] {
         let mut source = FromRead::new(octets.as_slice());
         let mut taken = TakenStrips {

@@ -1,5 +1,7 @@
 //! What is printed of files, and where.
+mod carrying;
 mod command_line;
+mod text;
 
 use dmr_record::{FromRead, ToWrite};
 use dmr_show::{Filter, Form, show};

@@ -5,6 +5,7 @@ pub mod Counting
 pub mod Encodings
 pub mod Exchanges
 pub mod Exchanging
+pub mod Existing
 pub mod Frames
 pub mod FrontResult
 pub mod LookingBack

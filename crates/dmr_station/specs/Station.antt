@@ -1,5 +1,6 @@
 -- A base station: what it gives for the frames of the uplink that it takes and the datagrams that it is offered.
-use Rattle.std.specs.Prelude.{ℕ, ◌≡◌, ◌+◌, ◌*◌, ◌^◌, ◌≤◌, List, [], ◌∷◌, ◌++◌, length, map, Option, option_to_list, Result}
+use Rattle.std.specs.Prelude.{ℕ, ◌≡◌, ◌+◌, ◌*◌, ◌^◌, ◌<◌, ◌≤◌, All, List, [], ◌∷◌, ◌++◌, length, map, Option, option_to_list}
+use Rattle.std.specs.Prelude.{Result}
 use Rattle.std.specs.List.{AllByRecursion, flat_map}
 use Rattle.dmr_arq.specs.declared.sender_state.Outcome.{Outcome}
 use Rattle.dmr_arq.specs.declared.sender_state.Outcome.TheVariants.{Delivered, Sent, GivenUp}
@@ -20,6 +21,7 @@ use Rattle.dmr_station.specs.StationRules.{outcome_count}
 use Rattle.dmr_station.specs.StationRules.{IsAsked, received_of, outcomes_to_tell, received_taken, outcomes_told}
 use Rattle.dmr_station.specs.GatewayMeaning.{AreForSlots, receipt_in}
 use Rattle.dmr_record.specs.Outgoing.{AreReadFrom}
+use Rattle.dmr_record.specs.Uplink.{IsFrame}
 use Rattle.std.specs.List.{AllZip}
 use Rattle.dmr_station.specs.Sent.{AreSentAs}
 
@@ -161,3 +163,23 @@ SendsByTheRules =
     → AllZip AreReadFrom records_read offers → AllByRecursion AreForSlots offers
     → AreExchanged (fresh s) records_read frames records received after
     → IsSentFor s offers frames after.repeated after.counts (receipts_from 0 received) (records_of records)
+
+-- 4. There is something that a station gives.
+
+-- Settings that a run can have: a colour code of four bits, and an LLID of 24.
+pub record AreFitSettings (s : Settings) : Type 0 where
+  pub colour : s.colour < 16
+  pub llid : s.llid < 2 ^ 24
+
+-- Each datagram is one of octets.
+abbrev pub AreOfOctets : List Sending → Type 0
+AreOfOctets sendings = AllByRecursion (λ s. All (λ octet. octet < 256) s.datagram) sendings
+
+-- Whatever frames there are, and whatever datagrams are offered in each, something is sent for them.
+abbrev pub AlwaysSends : Type 0
+AlwaysSends =
+    (s : Settings) (offers : List (List Sending)) (frames : List (List (Option (List ℕ)))) → AreFitSettings s
+    → length offers ≡ length frames → AllByRecursion AreOfOctets offers → AllByRecursion AreForSlots offers
+    → AllByRecursion IsFrame frames
+    → (repeated : ℕ) × (counts : Counts) × (receipts : List Receipt) × (sent : List (Option (List ℕ × List ℕ)))
+    × IsSentFor s offers frames repeated counts receipts sent

@@ -12,12 +12,18 @@ ghost use Rattle.dmr_station.specs.GatewayMeaning.{IsGatewayOf};
 ghost use Rattle.dmr_station.specs.StationRules.{Settings, Counts};
 ghost use Rattle.dmr_station.specs.DownlinkMeaning.{IsDownlinkOfWhatIsMeant, SendsFrontOfWhatIsMeant, SendsWhatIsMeant};
 ghost use Rattle.dmr_station.specs.Sent.{AreSentAs};
-ghost use Rattle.dmr_station.specs.Station.{SendsByTheRules};
+ghost use Rattle.dmr_station.specs.Station.{SendsByTheRules, AlwaysSends};
 
-/// Whatever frames a new station takes, one after another, and whatever datagrams it is offered before each, it gives the exact
-/// encoding of what the rules make of them by looking back, all clean; receives what is completed for the gateway; and counts it.
+/// Whatever frames a new station takes, one after another, and whatever datagrams it is offered before each: it gives the exact
+/// encoding of what the rules make of them by looking back, all clean. It receives what is completed for the gateway, and counts
+/// it.
 pub fn sends_by_the_rules()
     ensures law { SendsByTheRules }
+{}
+
+/// Whatever frames there are, and whatever datagrams of octets are offered in each, something is sent for them.
+pub fn always_sends()
+    ensures law { AlwaysSends }
 {}
 
 /// Of any well-formed transmissions in both slots, and of any recording of them that is damaged within the limits, the rules make

@@ -1,7 +1,7 @@
 //! The base station: the lines of both slots, the gateway, the channel that the slots share, and the CACHs of the records, as one
 //! machine.
 //!
-//! A `Station` is offered datagrams and takes the frames of the uplink one after another; it gives for each frame the two records
+//! A `Station` is offered datagrams and takes the frames of the uplink one after another. For each of them it gives the two records
 //! of the frame of the downlink that is decided then, and what it received in it. It knows no file, and keeps no list that grows:
 //! what the lines, the channel (`dmr_slot`) and the gateway (`dmr_gateway`) remember, and the message whose second half is to be
 //! announced. It keeps the CACHs of the message that went out last, too, so as not to work them out for each record.

@@ -85,8 +85,9 @@ impl Lines {
         self.gateway.offer(outgoing)
     }
 
-    /// Takes a frame of the uplink, and gives the records of the frame of the downlink that is decided then, the first of which is
-    /// the one at this place, and how many of them repeat a burst. The fragments are those of the message that went out last.
+    /// Takes a frame of the uplink, and gives the records of the frame of the downlink that is decided then, and how many of them
+    /// repeat a burst. The first of these records is the one at this place. The fragments are those of the message that went out
+    /// last.
     pub(crate) fn pass(
         &mut self,
         frame: &[Option<[u8; 33]>; 2],

@@ -13,3 +13,40 @@ Status 0: the file is whole; 1: it is at fault, which is told on standard error\
 with the octet at which its record begins; 2: the command line.\n\n\
 Example:\n  dmrgate show uplink.dmru --slot 1 --from 100 --to 199\n\n\
 The files are described in docs/protocol.md.";
+
+/// What help says behind the files of `export text`.
+pub(crate) const ABOUT_EXPORTED_TEXTS: &str =
+    "A file is one of the four of a run, told by its first octets. Its text has a\n\
+first line, then a line for each burst or record, and a last line that counts\n\
+frames or records. Silent slots have no line. `dmrgate import text --help`\n\
+explains the lines, and that command makes the file again, octet for octet.\n\
+Where the file is a pipe, each line is written as soon as it is known.\n\n\
+Status 0: done, and frames and records are counted in a line on standard\n\
+output, or on standard error where the text goes to standard output; 1: a\n\
+fault, which is told on standard error, and the text of what stands before it\n\
+is written; 2: the command line.\n\n\
+Example:\n  dmrgate export text uplink.dmru - | grep \" 2 \"\n\n\
+The text is described in docs/protocol.md.";
+
+/// What help says behind the files of `import text`.
+pub(crate) const ABOUT_IMPORTED_TEXTS: &str =
+    "The first line is `dmrgate`, then `uplink`, `downlink`, `outgoing` or\n\
+`received`, then 1. The last line is `frames N` of a recording, silence among\n\
+them, or `records N` of a list. Each line between has a frame, a slot, and:\n\n\
+\x20 uplink    a burst, of 66 hexadecimal digits\n\
+\x20 downlink  a CACH, of 6 digits, and a burst\n\
+\x20 outgoing  unconfirmed or confirmed, half or full, and octets\n\
+\x20 received  datagram, short-data or status, the source, and octets\n\n\
+Octets are hexadecimal digits, or - where there are none. Slots without a line\n\
+are silent. Words are parted by spaces or tabs. Empty lines, lines that begin\n\
+with # and carriage returns at the ends of lines are passed over. Where the\n\
+text is a pipe, each record is written as soon as it is known.\n\n\
+Status 0: done, and frames and records are counted in a line on standard\n\
+output, or on standard error where the file goes to standard output; 1: a\n\
+fault, which is told on standard error with the number of its line; 2: the\n\
+command line.\n\n\
+Example, of silence in frame 0, and a burst in slot 1 of frame 1:\n\
+\x20 dmrgate uplink 1\n\
+\x20 1 1 0062008201900100042004E004CD5D7F77FD757AC81800280250028000C0120022\n\
+\x20 frames 2\n\n\
+The text is described in docs/protocol.md.";

@@ -1,13 +1,18 @@
 -- What the words of a command line ask for.
-use Rattle.std.specs.Prelude.{◌≡◌, nat_lt, ℕ, Bool, true, false, [], Option, Some, None, codes}
-use Rattle.clap.specs.Words.{Text}
+use Rattle.std.specs.Prelude.{◌≡◌, nat_lt, ℕ, Bool, true, false, [], Option, Some, None, codes, option_map}
+use Rattle.clap.specs.Words.{Text, found_of, rows_of, subcommand_name_of, subcommand_rows_of}
+use Rattle.clap.specs.declared.parser.matches.ArgMatches.{ArgMatches}
 use Rattle.clap.specs.declared.parser.matches.Found.{Found}
+use Rattle.dmr_files.specs.Place.{IsNamed, is_standard}
 use Rattle.dmr_options.specs.Found.{IsFlagOf, IsGivenBy, text_of}
 use Rattle.dmr_show.specs.declared.filter.Filter.{Filter}
 use Rattle.dmr_show.specs.declared.form.Form.{Form}
 use Rattle.dmr_show.specs.declared.form.Form.TheVariants as form_variant
+use Rattle.dmr_tools.specs.declared.request.Format.{Format}
+use Rattle.dmr_tools.specs.declared.request.Format.TheVariants as format_variant
+use Rattle.dmr_tools.specs.declared.request.PairPlaces.{PairPlaces}
 use Rattle.dmr_tools.specs.declared.request.Request.{Request}
-use Rattle.dmr_tools.specs.declared.request.Request.TheVariants.{Show, Backwards, Elsewhere}
+use Rattle.dmr_tools.specs.declared.request.Request.TheVariants.{Show, Backwards, Import, Export, Elsewhere}
 
 -- Each part of a filter is the number of the option of its name, where that is given.
 pub record IsFilterOf (found : Found) (filter : Filter) : Type 0 where
@@ -39,20 +44,71 @@ are_backwards None to = false
 abbrev pub is_backwards : Filter → Bool
 is_backwards filter = are_backwards filter.from filter.to
 
--- What a command with these options asks for: `show` for a listing, which is refused where it begins beyond its end, and any other
--- what isn't done here.
-abbrev pub IsAskedOfTools : Option (Text × Found) → Request → Type 0
+-- A command was given one of its own, of the name of a format, with this that was found of it.
+pub record IsGivenFormat (given : ArgMatches) (format : Text) (found : Found) : Type 0 where
+  pub name : subcommand_name_of given ≡ Some format
+  pub rows : option_map (λ subcommand. subcommand.1) (subcommand_rows_of given) ≡ Some (rows_of found)
+
+-- The name of a format.
+abbrev pub format_name : Format → Text
+format_name format_variant.Text = codes "text"
+
+-- The places are those of the words `input` and `output`.
+pub record ArePairPlaces (found : Found) (places : PairPlaces) : Type 0 where
+  pub input : IsNamed (text_of found (codes "input")) places.input
+  pub output : IsNamed (text_of found (codes "output")) places.output
+
+-- A command was given the name of this format, and these places behind it.
+pub record IsCarriedBetween (given : ArgMatches) (format : Format) (places : PairPlaces) : Type 0 where
+  pub found : Found
+  pub of_format : IsGivenFormat given (format_name format) found
+  pub are_places : ArePairPlaces found places
+
+-- A command that carries files was given the name of a format.
+abbrev pub NamesFormat : ArgMatches → Type 0
+NamesFormat given = (format : Format) × (subcommand_name_of given ≡ Some (format_name format))
+
+-- What a command with these options asks for: `show` for a listing, which is refused where it begins beyond its end; `import` for a
+-- file from another format, and `export` for one in it; and any other what isn't done here.
+abbrev pub IsAskedOfTools : Option (Text × ArgMatches) → Request → Type 0
 IsAskedOfTools None (Show name form filter) = ⊥
 IsAskedOfTools None Backwards = ⊥
+IsAskedOfTools None (Import format places) = ⊥
+IsAskedOfTools None (Export format places) = ⊥
 IsAskedOfTools None (Elsewhere name) = name.now ≡ []
 IsAskedOfTools (Some command) (Show name form filter) =
-    (command.0 ≡ codes "show") × (name.now ≡ text_of command.1 (codes "file")) × IsFormOf command.1 form
-    × IsFilterOf command.1 filter × (is_backwards filter ≡ false)
+    (command.0 ≡ codes "show") × (name.now ≡ text_of (found_of command.1) (codes "file")) × IsFormOf (found_of command.1) form
+    × IsFilterOf (found_of command.1) filter × (is_backwards filter ≡ false)
 IsAskedOfTools (Some command) Backwards =
-    (command.0 ≡ codes "show") × ((filter : Filter) × IsFilterOf command.1 filter × (is_backwards filter ≡ true))
-IsAskedOfTools (Some command) (Elsewhere name) = (command.0 ≡ codes "show" → ⊥) × (name.now ≡ command.0)
+    (command.0 ≡ codes "show") × ((filter : Filter) × IsFilterOf (found_of command.1) filter × (is_backwards filter ≡ true))
+IsAskedOfTools (Some command) (Import format places) =
+    (command.0 ≡ codes "import") × IsCarriedBetween command.1 format places
+IsAskedOfTools (Some command) (Export format places) =
+    (command.0 ≡ codes "export") × IsCarriedBetween command.1 format places
+IsAskedOfTools (Some command) (Elsewhere name) =
+    (command.0 ≡ codes "show" → ⊥) × (command.0 ≡ codes "import" → NamesFormat command.1 → ⊥)
+    × (command.0 ≡ codes "export" → NamesFormat command.1 → ⊥) × (name.now ≡ command.0)
 
--- a file is to be listed
+-- A file is to be listed.
 abbrev pub IsShow : Request → Type 0
 IsShow (Show name form filter) = Unit {0}
 IsShow request = ⊥
+
+-- A file is to be carried from another format, or to it.
+abbrev pub IsCarrying : Request → Type 0
+IsCarrying (Import format places) = Unit {0}
+IsCarrying (Export format places) = Unit {0}
+IsCarrying request = ⊥
+
+-- Something is to be done here: no command of another program, and no listing that begins beyond its end.
+abbrev pub IsTool : Request → Type 0
+IsTool (Show name form filter) = Unit {0}
+IsTool (Import format places) = Unit {0}
+IsTool (Export format places) = Unit {0}
+IsTool request = ⊥
+
+-- What is asked for is to be written to standard output, so that no line is printed there.
+abbrev pub is_to_output : Request → Bool
+is_to_output (Import format places) = is_standard places.output
+is_to_output (Export format places) = is_standard places.output
+is_to_output request = false

@@ -1,10 +1,11 @@
 //! Doing what the words of a command line ask for.
 ghost use Rattle.std.specs.Prelude.{◌≡◌, ◌≤◌, ◌⊎◌, false, true};
-ghost use Rattle.dmr_lines.specs.Line.{PutsError};
+ghost use Rattle.dmr_lines.specs.Line.{PutsError, PutsLine};
 ghost use Rattle.dmr_lines.specs.Status.{failure, success, usage};
 ghost use Rattle.dmr_show.specs.Showing.{TellsFault};
-ghost use Rattle.dmr_tools.specs.Request.{IsShow};
+ghost use Rattle.dmr_tools.specs.Request.{IsCarrying, IsTool, IsShow, is_to_output};
 
+use crate::carrying::{Direction, carry_file};
 use crate::request::{Request, request_of};
 use dmr_files::{Open, OpenFault, Place, System, open_source};
 use dmr_lines::{FAILURE, ToldName, USAGE, line_of, print_error};
@@ -74,12 +75,22 @@ pub fn fulfil<S: System, K: Sink, E: Sink>(
     requires out { K.has_failed out.old ≡ false }
     requires err { E.has_failed err.old ≡ false }
     // What isn't done here is told to the second sink.
-    ensures elsewhere { (IsShow request.entry → ⊥) → out.new ≡ out.old }
-    ensures refused { (IsShow request.entry → ⊥) → E.has_failed err.new ≡ false → result ≡ usage }
+    ensures elsewhere { (IsTool request.entry → ⊥) → out.new ≡ out.old }
+    ensures refused { (IsTool request.entry → ⊥) → E.has_failed err.new ≡ false → result ≡ usage }
     // A listing goes to the first; where it ends at a fault, a line of error goes to the second.
     ensures listing { IsShow request.entry → (err.new ≡ err.old)
         ⊎ TellsFault result (K.has_failed out.new) (E.has_failed err.new) (E.held err.old) (E.held err.new) }
-    ensures success { result ≡ success → err.new ≡ err.old }
+    // Where a file is carried, one line is printed to one of the two: how much it was to the first, a fault to the second.
+    ensures carried { IsCarrying request.entry → (out.new ≡ out.old) ⊎ (err.new ≡ err.old) }
+    ensures carried_status { IsCarrying request.entry → result ≤ 1 }
+    ensures line { IsCarrying request.entry → result ≡ success → is_to_output request.entry ≡ false
+        → PutsLine (K.held out.old) (K.held out.new) }
+    ensures error { IsCarrying request.entry → result ≡ failure → K.has_failed out.new ≡ false → E.has_failed err.new ≡ false
+        → PutsError (E.held err.old) (E.held err.new) }
+    // Where standard output is what is written, all that is printed goes to the second.
+    ensures beside { is_to_output request.entry ≡ true → out.new ≡ out.old }
+    ensures beside_line { is_to_output request.entry ≡ true → result ≡ success → PutsLine (E.held err.old) (E.held err.new) }
+    ensures success { result ≡ success → is_to_output request.entry ≡ false → err.new ≡ err.old }
     ensures usage { result ≡ usage → out.new ≡ out.old }
     ensures status { result ≤ 2 }
     ensures out_failed { K.has_failed out.new ≡ true → result ≡ failure }
@@ -89,6 +100,12 @@ pub fn fulfil<S: System, K: Sink, E: Sink>(
         Request::Show { name, form, filter } => show_file(
             alloc, system, name, form, filter, out, err,
         ),
+        Request::Import { format, places } => {
+            carry_file(alloc, system, Direction::Import(format), places, out, err)
+        }
+        Request::Export { format, places } => {
+            carry_file(alloc, system, Direction::Export(format), places, out, err)
+        }
         Request::Backwards => print_error(err, "--from is beyond --to", USAGE),
         Request::Elsewhere(_) => print_elsewhere(err),
     }
@@ -104,11 +121,11 @@ pub fn obey<T: AsStr, S: System, K: Sink, E: Sink>(
 ) -> u8
     requires out { K.has_failed out.old ≡ false }
     requires err { E.has_failed err.old ≡ false }
-    // What is printed goes to one of the two, which of them the status tells; a listing that ends at a fault goes to the first, and
-    // its line of error to the second.
+    // What is printed goes to one of the two, which of them the status tells, but where what is written goes to standard output. A
+    // listing that ends at a fault goes to the first, and its line of error to the second.
     ensures alone { (out.new ≡ out.old) ⊎ (err.new ≡ err.old)
         ⊎ TellsFault result (K.has_failed out.new) (E.has_failed err.new) (E.held err.old) (E.held err.new) }
-    ensures success { result ≡ success → err.new ≡ err.old }
+    ensures success { result ≡ success → (err.new ≡ err.old) ⊎ ((out.new ≡ out.old) × PutsLine (E.held err.old) (E.held err.new)) }
     ensures usage { result ≡ usage → out.new ≡ out.old }
     ensures status { result ≤ 2 }
     ensures out_failed { K.has_failed out.new ≡ true → result ≡ failure }

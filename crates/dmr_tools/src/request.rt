@@ -1,14 +1,32 @@
 //! What the words of a command line ask for.
-ghost use Rattle.std.specs.Prelude.{◌≡◌, Some, codes, option_map};
+ghost use Rattle.std.specs.Prelude.{◌≡◌, Some, IfSome, IfNone, codes, option_map};
 ghost use Rattle.clap.specs.Words.{found_of};
+ghost use Rattle.dmr_files.specs.Place.{IsNamed};
+ghost use Rattle.dmr_options.specs.Found.{text_of};
 ghost use Rattle.dmr_tools.specs.Request.{IsAskedOfTools, IsFilterOf, IsFormOf, form_by, is_backwards};
+ghost use Rattle.dmr_tools.specs.Request.{ArePairPlaces, IsCarriedBetween, NamesFormat};
 
 use clap::{ArgMatches, Error};
+use dmr_files::Place;
 use dmr_options::{flag_of, text_of};
 use dmr_show::{Filter, Form};
 use dmr_tool_options::tool_commands;
 use std::alloc::Global;
 use std::convert::AsStr;
+
+/// A format that files of a run are carried to and from, beside their own.
+#[derive(Clone, Copy, Debug, PartialEq, Eq)]
+pub enum Format {
+    /// Lines of text.
+    Text,
+}
+
+/// Where a file stands that is carried, and where it goes.
+#[derive(Clone, Copy)]
+pub struct PairPlaces<'a> {
+    pub input: Place<'a>,
+    pub output: Place<'a>,
+}
 
 /// What the words of a command line ask for.
 #[derive(Clone, Copy)]
@@ -21,6 +39,16 @@ pub enum Request<'a> {
     },
     /// To show frames from one on that is beyond the last.
     Backwards,
+    /// To make a file of what is in a format.
+    Import {
+        format: Format,
+        places: PairPlaces<'a>,
+    },
+    /// To write a file in a format.
+    Export {
+        format: Format,
+        places: PairPlaces<'a>,
+    },
     /// A command that another program has, by its name.
     Elsewhere(&'a str),
 }
@@ -66,7 +94,7 @@ fn is_backwards(filter: &Filter) -> bool
 
 /// What a command line of `show` asks for.
 fn show_request<'a>(show: &ArgMatches<'a>) -> Request<'a>
-    ensures asked { IsAskedOfTools (Some (record { 0 = codes "show"; 1 = found_of show.now })) result }
+    ensures asked { IsAskedOfTools (Some (record { 0 = codes "show"; 1 = show.now })) result }
 {
     let filter = filter_of(show);
     if is_backwards(&filter) {
@@ -79,12 +107,63 @@ fn show_request<'a>(show: &ArgMatches<'a>) -> Request<'a>
     }
 }
 
+/// The place that a word of a command line names.
+fn place_of<'a>(matches: &ArgMatches<'a>, word: &str) -> Place<'a>
+    ensures place { IsNamed (text_of (found_of matches.now) word.now) result }
+{
+    Place::named(text_of(matches, word))
+}
+
+/// The places that stand behind the name of a format.
+fn places_of<'a>(files: &ArgMatches<'a>) -> PairPlaces<'a>
+    ensures places { ArePairPlaces (found_of files.now) result }
+{
+    PairPlaces {
+        input: place_of(files, "input"),
+        output: place_of(files, "output"),
+    }
+}
+
+/// The format that a command line of `import` or `export` names, with the places behind it.
+fn carried_by<'a>(given: &ArgMatches<'a>) -> Option<(Format, PairPlaces<'a>)>
+    ensures carried { IfSome result (λ carried. IsCarriedBetween given.now carried.0 carried.1) }
+    ensures none { IfNone result (NamesFormat given.now → ⊥) }
+{
+    match given.subcommand() {
+        Some(("text", files)) => Some((Format::Text, places_of(files))),
+        // Not reached, since a format is required, and there is no other.
+        _ => None,
+    }
+}
+
+/// What a command line of `import` asks for.
+fn import_request<'a>(import: &ArgMatches<'a>) -> Request<'a>
+    ensures asked { IsAskedOfTools (Some (record { 0 = codes "import"; 1 = import.now })) result }
+{
+    match carried_by(import) {
+        Some((format, places)) => Request::Import { format, places },
+        None => Request::Elsewhere("import"),
+    }
+}
+
+/// What a command line of `export` asks for.
+fn export_request<'a>(export: &ArgMatches<'a>) -> Request<'a>
+    ensures asked { IsAskedOfTools (Some (record { 0 = codes "export"; 1 = export.now })) result }
+{
+    match carried_by(export) {
+        Some((format, places)) => Request::Export { format, places },
+        None => Request::Elsewhere("export"),
+    }
+}
+
 /// What a command with its options asks for.
 pub(crate) fn request_by<'a>(command: Option<(&'a str, &ArgMatches<'a>)>) -> Request<'a>
-    ensures asked { IsAskedOfTools (option_map (λ c. (c.0.now, found_of c.1.now)) command.entry) result }
+    ensures asked { IsAskedOfTools (option_map (λ c. (c.0.now, c.1.now)) command.entry) result }
 {
     match command {
         Some(("show", show)) => show_request(show),
+        Some(("import", import)) => import_request(import),
+        Some(("export", export)) => export_request(export),
         Some((name, _)) => Request::Elsewhere(name),
         // Not reached, since a command is required.
         None => Request::Elsewhere(""),

@@ -50,8 +50,8 @@ fn voice(colour: u8, lcss: u8, embedded: u32, vocoder: Bits<216>) -> Burst
     }
 }
 
-/// The burst of a letter: `H` and `P` for the headers of the call, and its places `A` to `F`, or `a` to `f` where all their
-/// vocoder bits are zero; `K` for a control signalling block of ten zero octets; any other letter for nothing.
+/// The burst of a letter. `H` and `P` are the headers of the call. `A` to `F` are its places, and `a` to `f` the same with all
+/// vocoder bits zero. `K` is a control signalling block of ten zero octets, and any other letter is nothing.
 fn burst_of(letter: u8, colour: u8) -> Option<Burst>
     requires colour { colour < 16 }
     ensures fit { IfSome result IsBurst }

@@ -1,4 +1,5 @@
 //! The formats by examples from outside, and devices that fail or go an octet at a time.
+mod inputs;
 mod outputs;
 
 use dmr_record::*;
@@ -191,8 +192,10 @@ fn outgoing_records(rt: HostRuntime) {
     }
 }
 
+/// Both readers of a record tell one fault.
 #[test]
 fn faulty_outgoing_records(rt: HostRuntime) {
+    let mut buffer = [0u8; OCTET_LIMIT];
     let cases: [(&[u8], RecordFault); 8] = [
         (b"\x03", RecordFault::BadTag),
         (b"\x02\0\0\0\0\x03\x04\0", RecordFault::CutRecord),
@@ -206,6 +209,8 @@ fn faulty_outgoing_records(rt: HostRuntime) {
     for (octets, want) in cases {
         let answer = read_outgoing(&mut FromRead::new(octets), 0, 5);
         assert!(rt; answer.err() == Some(want), "of {octets:?}");
+        let whole = read_whole_outgoing(&mut FromRead::new(octets), 0, 5, &mut buffer);
+        assert!(rt; whole == Err(want), "of {octets:?}");
     }
 }
 

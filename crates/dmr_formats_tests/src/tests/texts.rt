@@ -5,6 +5,7 @@ use dmr_embedded::EmbedFault;
 use dmr_ip::{ExpandFault, IpFault};
 use dmr_link::LcFault;
 use dmr_record::RecordFault;
+use dmr_words::LineFault;
 use std::alloc::Global;
 use std::fmt::Display;
 
@@ -61,6 +62,12 @@ const EXPAND: [(ExpandFault, &str); 5] = [
     (ExpandFault::Long, "too long"),
 ];
 
+const LINES: [(LineFault, &str); 3] = [
+    (LineFault::TooLong, "too long"),
+    (LineFault::TooMany, "too long"),
+    (LineFault::Read, "read failed"),
+];
+
 /// Each fault has its text.
 fn are_texts<T: Display>(alloc: Global, rows: &[(T, &str)]) -> bool {
     for (fault, text) in rows {
@@ -83,6 +90,7 @@ fn texts(rt: HostRuntime) {
     assert!(rt; are_texts(alloc, &JOIN));
     assert!(rt; are_texts(alloc, &DATAGRAM));
     assert!(rt; are_texts(alloc, &EXPAND));
+    assert!(rt; are_texts(alloc, &LINES));
 }
 
 #[test]
@@ -150,5 +158,12 @@ fn numbers(rt: HostRuntime) {
             RecordFault::Read as u8,
             RecordFault::Write as u8
         ] == [1, 2, 3, 4, 5, 6, 7, 8, 9]
+    );
+    assert!(rt;
+        [
+            LineFault::TooLong as u8,
+            LineFault::TooMany as u8,
+            LineFault::Read as u8
+        ] == [1, 2, 3]
     );
 }

@@ -1,4 +1,4 @@
-use Rattle.std.proofs.Common.{◌≡◌, List, Bool, true, false, IsTrue, length, ◌∙◌, subst, rules}
+use Rattle.std.proofs.Common.{◌≡◌, List, Bool, true, IsTrue, length, ◌∙◌, subst, rules}
 use Rattle.dmr_bits.specs.Bits.{bits_of_octets}
 use Rattle.dmr_hearing.proofs.Syncs.{voice_within, voice_only}
 use Rattle.dmr_hearing.proofs.hearing.hear_burst.Goals as goal

@@ -1,7 +1,8 @@
 use Rattle.std.proofs.Common.{rules, ◌+◌, [], ◌∷◌, ◌++◌, None, Some, sym, ap, ◌∙◌, subst, arith}
 use Rattle.std.proofs.lemmas.List.{length_push}
 use Rattle.dmr_listing.specs.ListingRules.{IsListed, ListingTurn}
-use Rattle.dmr_listing.proofs.Listings.{listed_burst, listed_none, listed_silence, octets_more, read_part}
+use Rattle.dmr_listing.proofs.Listings.{listed_burst, listed_none, listed_silence, read_part}
+use Rattle.dmr_recording.proofs.Spelled.{octets_more}
 use Rattle.dmr_listing.proofs.listing.list_recording.Goals as goal
 
 pub loop-slot-preserved-in-None : goal.loop-slot-preserved-in-None

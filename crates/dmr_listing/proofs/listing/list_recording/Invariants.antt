@@ -1,8 +1,8 @@
 -- The slots so far were listed, and the next record begins at this octet.
 use Rattle.std.proofs.Common.{◌≡◌, ◌+◌, ◌*◌, ◌-◌, ◌≤◌, List, [], length, false}
-use Rattle.dmr_listing.specs.ListingMeaning.{octet_behind}
+use Rattle.dmr_recording.specs.Places.{octet_behind}
 use Rattle.dmr_listing.specs.ListingRules.{IsListed}
-use Rattle.dmr_listing.specs.Recordings.{RecordedSlot, slot_limit_of, spelling}
+use Rattle.dmr_recording.specs.Recordings.{RecordedSlot, slot_limit_of, spelling}
 use Rattle.dmr_listing.proofs.listing.list_recording.Given as goal
 
 abbrev pub invariant-loop-slot : goal.invariant-loop-slot

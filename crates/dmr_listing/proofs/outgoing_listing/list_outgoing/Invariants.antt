@@ -2,7 +2,7 @@
 use Rattle.std.proofs.Common.{◌≡◌, ◌+◌, ◌*◌, ◌-◌, ◌≤◌, List, [], length, false}
 use Rattle.dmr_record.specs.Outgoing.{Sending, sending_octets}
 use Rattle.dmr_record.specs.Head.{record_limit}
-use Rattle.dmr_listing.specs.ListingMeaning.{octet_behind}
+use Rattle.dmr_recording.specs.Places.{octet_behind}
 use Rattle.dmr_record.specs.Outgoing.{last_frame}
 use Rattle.dmr_listing.specs.OutgoingListings.{AreSendingsListed}
 use Rattle.dmr_listing.proofs.outgoing_listing.list_outgoing.Given as goal

@@ -3,7 +3,7 @@ use Rattle.std.proofs.lemmas.List.{length_push}
 use Rattle.dmr_record.specs.Received.{ReceivedFields, Follows, Receipt, received_fields, fields_read, kind_octet, last_read}
 use Rattle.dmr_record.specs.Received.{receipt_octets, receipt_of}
 use Rattle.dmr_record.specs.declared.received.Received.{Received}
-use Rattle.dmr_listing.specs.ReceivedListings.{last_fields}
+use Rattle.dmr_record.specs.Received.{last_fields}
 use Rattle.dmr_listing.proofs.ReceivedListings.{last_more, received_more, received_octets_more, received_part}
 use Rattle.dmr_listing.proofs.received_listing.list_received.Goals as goal
 

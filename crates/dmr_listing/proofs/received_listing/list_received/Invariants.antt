@@ -1,8 +1,9 @@
 -- The records so far were listed, and the next one begins at this octet.
 use Rattle.std.proofs.Common.{◌≡◌, ◌+◌, ◌*◌, ◌-◌, ◌≤◌, List, [], None, length, false}
 use Rattle.dmr_record.specs.Received.{Receipt, last_read, received_limit, receipt_octets}
-use Rattle.dmr_listing.specs.ListingMeaning.{octet_behind}
-use Rattle.dmr_listing.specs.ReceivedListings.{AreReceiptsListed, last_fields}
+use Rattle.dmr_recording.specs.Places.{octet_behind}
+use Rattle.dmr_listing.specs.ReceivedListings.{AreReceiptsListed}
+use Rattle.dmr_record.specs.Received.{last_fields}
 use Rattle.dmr_listing.proofs.received_listing.list_received.Given as goal
 
 abbrev pub invariant-loop-received : goal.invariant-loop-received

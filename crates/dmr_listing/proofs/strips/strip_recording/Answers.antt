@@ -1,12 +1,12 @@
 use Rattle.std.proofs.Common.{rules, ◌+◌, [], ◌∷◌, ◌++◌, length, Some, sym, ap, ◌∙◌, subst, arith}
 use Rattle.std.proofs.lemmas.List.{length_push}
-use Rattle.dmr_listing.specs.ListingMeaning.{place_by_number}
+use Rattle.dmr_recording.specs.Places.{place_by_number}
 use Rattle.dmr_listing.specs.ListingRules.{ListingTurn}
-use Rattle.dmr_listing.specs.Recordings.{ShowsSlotFaultOf}
+use Rattle.dmr_recording.specs.Recordings.{ShowsSlotFaultOf}
 use Rattle.dmr_listing.proofs.Drawing.{IsDrawn}
 use Rattle.dmr_listing.proofs.Drawing.{drawn_given, drawn_none, drawn_part, drawn_pushed, full_up_to_strip, stripped}
 use Rattle.dmr_listing.proofs.Drawing.{stripped_up_to_strip, turn_later}
-use Rattle.dmr_listing.proofs.Listings.{octets_more}
+use Rattle.dmr_recording.proofs.Spelled.{octets_more}
 use Rattle.dmr_listing.proofs.strips.strip_recording.Goals as goal
 
 pub loop-slot-init : goal.loop-slot-init

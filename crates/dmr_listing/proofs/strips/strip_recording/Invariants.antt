@@ -1,7 +1,7 @@
 -- The slots so far were drawn, and the next record begins at this octet.
 use Rattle.std.proofs.Common.{◌≡◌, ◌+◌, ◌*◌, ◌-◌, ◌≤◌, ◌<◌, List, [], length, false}
-use Rattle.dmr_listing.specs.ListingMeaning.{octet_behind}
-use Rattle.dmr_listing.specs.Recordings.{RecordedSlot, slot_limit_of, spelling}
+use Rattle.dmr_recording.specs.Places.{octet_behind}
+use Rattle.dmr_recording.specs.Recordings.{RecordedSlot, slot_limit_of, spelling}
 use Rattle.dmr_listing.specs.Strips.{most_marks}
 use Rattle.dmr_listing.proofs.Drawing.{IsDrawn}
 use Rattle.dmr_listing.proofs.strips.strip_recording.Given as goal

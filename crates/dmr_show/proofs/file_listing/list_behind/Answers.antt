@@ -1,4 +1,4 @@
-use Rattle.dmr_listing.specs.declared.recording.Recording.TheVariants.{Uplink, Downlink}
+use Rattle.dmr_recording.specs.declared.recording.Recording.TheVariants.{Uplink, Downlink}
 use Rattle.dmr_show.proofs.Shown.{outgoing_shown, outgoing_shown_up_to_fault, received_shown, received_shown_up_to_fault}
 use Rattle.dmr_show.proofs.Shown.{recording_shown, recording_shown_up_to_fault, told}
 use Rattle.dmr_show.specs.Held.{held_by}

@@ -1,0 +1,237 @@
+//! The command lines of `import` and `export`, over a system of a few files.
+use dmr_files::{FileKind, Identity, Open, Place, StandardFiles, System};
+use dmr_record::ToWrite;
+use dmr_tools::{Format, Request, obey, request_of};
+use std::io::{self, ErrorKind, Write};
+use std::process::Abort;
+use std::test::Fail;
+
+/// A recording of no frames, and its text.
+const RECORDING: &[u8] = b"DMRU\x01\x00\x00\x00";
+
+const TEXT: &[u8] = b"dmrgate uplink 1\nframes 0\n";
+
+/// A file that keeps nothing of what is written to it, or takes nothing.
+#[derive(Drop)]
+enum Output {
+    Open,
+    Full,
+}
+
+impl Write for Output {
+    fn write(&mut self, piece: &[u8]) -> io::Result<usize> {
+        match self {
+            Output::Open => Ok(piece.len()),
+            Output::Full => Err(io::Error::from(ErrorKind::StorageFull)),
+        }
+    }
+
+    fn flush(&mut self) -> io::Result<()> {
+        Ok(())
+    }
+}
+
+/// A system with a recording, a text, either of which has two names, and a file behind its standard output.
+#[derive(Drop)]
+struct Few {
+    is_terminal: bool,
+}
+
+/// The regular file of this number.
+fn regular(number: u64) -> Identity {
+    Identity {
+        device: 1,
+        number,
+        kind: FileKind::Regular,
+    }
+}
+
+impl System for Few {
+    type Input = &'static [u8];
+
+    type Output = Output;
+
+    fn open_input(&self, place: Place<'_>) -> io::Result<Open<&'static [u8]>> {
+        match place {
+            Place::Path("up") => Ok(Open {
+                file: RECORDING,
+                identity: regular(1),
+            }),
+            Place::Path("text") | Place::Standard => Ok(Open {
+                file: TEXT,
+                identity: regular(5),
+            }),
+            Place::Path(_) => Err(io::Error::from(ErrorKind::NotFound)),
+        }
+    }
+
+    fn open_output(&self, place: Place<'_>) -> io::Result<Open<Output>> {
+        let (file, number) = match place {
+            Place::Path("twin") => (Output::Open, 1),
+            Place::Path("text twin") => (Output::Open, 5),
+            Place::Path("printed") => (Output::Open, 2),
+            Place::Path("full") => (Output::Full, 3),
+            Place::Path("out") | Place::Standard => (Output::Open, 4),
+            Place::Path(_) => return Err(io::Error::from(ErrorKind::NotFound)),
+        };
+        let identity = regular(number);
+        Ok(Open { file, identity })
+    }
+
+    fn empty(&self, _output: &Open<Output>) -> io::Result<()> {
+        Ok(())
+    }
+
+    fn standard_files(&self) -> StandardFiles {
+        StandardFiles {
+            input: None,
+            output: Some(regular(2)),
+            error: None,
+        }
+    }
+
+    fn prints_to_terminal(&self) -> bool {
+        self.is_terminal
+    }
+}
+
+/// These words end with this status, and print so to either sink.
+fn expect_printed(
+    rt: &(impl Abort + AllocGlobal),
+    system: &Few,
+    words: &[&str],
+    status: u8,
+    out: &str,
+    err: &str,
+) {
+    let alloc = rt.alloc();
+    let mut output = ToWrite::new(Vec::new(alloc));
+    let mut errors = ToWrite::new(Vec::new(alloc));
+    let ended = obey(alloc, words, system, &mut output, &mut errors);
+    assert_eq!(rt; ended, status);
+    assert!(rt; output.into_inner().as_slice() == out.as_bytes());
+    assert!(rt; errors.into_inner().as_slice() == err.as_bytes());
+}
+
+/// These words ask to carry a file from this place to that one.
+fn expect_carried(
+    rt: &(impl Abort + AllocGlobal),
+    words: &[&str],
+    input: &str,
+    output: &str,
+) -> Result<(), Fail> {
+    let request = request_of(rt.alloc(), words)?;
+    let (Request::Import { format, places } | Request::Export { format, places }) = request else {
+        return Err(Fail::from("no file is carried"));
+    };
+    assert!(rt; format == Format::Text);
+    assert!(rt; places.input.name() == input && places.output.name() == output);
+    assert_eq!(rt; places.input.is_standard(), input == "-");
+    assert_eq!(rt; places.output.is_standard(), output == "-");
+    Ok(())
+}
+
+#[test]
+fn files_in_their_order(rt: HostRuntime) -> Result<(), Fail> {
+    for command in ["import", "export"] {
+        expect_carried(&rt, &["dmrgate", command, "text", "-", "out"], "-", "out")?;
+        expect_carried(&rt, &["dmrgate", command, "text", "in", "-"], "in", "-")?;
+        expect_carried(
+            &rt,
+            &["dmrgate", command, "text", "--", "-in", "./-"],
+            "-in",
+            "./-",
+        )?;
+        for words in [
+            ["dmrgate", command, "text", "in"].as_slice(),
+            ["dmrgate", command, "words", "in", "out"].as_slice(),
+            ["dmrgate", command, "text", "in", "out", "more"].as_slice(),
+        ] {
+            assert!(rt; request_of(rt.alloc(), words).is_err(), "{words:?}");
+        }
+    }
+    Ok(())
+}
+
+#[test]
+fn import_is_no_export(rt: HostRuntime) -> Result<(), Fail> {
+    let words = ["dmrgate", "import", "text", "in", "out"];
+    assert!(rt; matches!(request_of(rt.alloc(), &words)?, Request::Import { .. }));
+    let words = ["dmrgate", "export", "text", "in", "out"];
+    assert!(rt; matches!(request_of(rt.alloc(), &words)?, Request::Export { .. }));
+    Ok(())
+}
+
+/// What each of these prints, on a terminal or not.
+fn expect_all(
+    rt: &(impl Abort + AllocGlobal),
+    command: &str,
+    is_terminal: bool,
+    all: &[(&str, &str, u8, &str, &str)],
+) {
+    for (input, output, status, out, err) in all {
+        let words = ["dmrgate", command, "text", input, output];
+        expect_printed(rt, &Few { is_terminal }, &words, *status, out, err);
+    }
+}
+
+/// How much a recording of no frames is.
+const COUNTS: &str = "frames 0 records 0\n";
+
+#[test]
+fn what_is_printed_of_an_export(rt: HostRuntime) {
+    for is_terminal in [false, true] {
+        expect_all(
+            &rt,
+            "export",
+            is_terminal,
+            &[
+                ("up", "out", 0, COUNTS, ""),
+                ("up", "-", 0, "", COUNTS),
+                ("nowhere", "out", 1, "", "error: nowhere: cannot open\n"),
+                ("no\nwhere", "-", 1, "", "error: no?where: cannot open\n"),
+                ("up", "nowhere", 1, "", "error: nowhere: cannot open\n"),
+                // The input under its other name, and the file behind standard output.
+                ("up", "twin", 1, "", "error: twin: cannot open\n"),
+                ("up", "printed", 1, "", "error: printed: cannot open\n"),
+                ("up", "full", 1, "", "error: full: write failed\n"),
+                ("text", "-", 1, "", "error: text: bad magic at octet 0\n"),
+            ],
+        );
+    }
+}
+
+#[test]
+fn what_is_printed_of_an_import(rt: HostRuntime) {
+    for is_terminal in [false, true] {
+        expect_all(
+            &rt,
+            "import",
+            is_terminal,
+            &[
+                ("text", "out", 0, COUNTS, ""),
+                ("-", "out", 0, COUNTS, ""),
+                ("nowhere", "out", 1, "", "error: nowhere: cannot open\n"),
+                ("text", "nowhere", 1, "", "error: nowhere: cannot open\n"),
+                (
+                    "text",
+                    "text twin",
+                    1,
+                    "",
+                    "error: text twin: cannot open\n",
+                ),
+                ("text", "printed", 1, "", "error: printed: cannot open\n"),
+                ("text", "full", 1, "", "error: full: write failed\n"),
+                ("up", "out", 1, "", "error: up: line 1: no first line\n"),
+            ],
+        );
+    }
+    expect_all(&rt, "import", false, &[("text", "-", 0, "", COUNTS)]);
+    // A file isn't sent to a terminal, and nothing is opened for it.
+    let refused = "error: -: standard output is a terminal\n";
+    let both = [
+        ("text", "-", 1, "", refused),
+        ("nowhere", "-", 1, "", refused),
+    ];
+    expect_all(&rt, "import", true, &both);
+}

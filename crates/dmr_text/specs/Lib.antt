@@ -1,0 +1,17 @@
+pub mod Behind
+pub mod Endings
+pub mod Exports
+pub mod Files
+pub mod Following
+pub mod Halts
+pub mod ImportEndings
+pub mod Imports
+pub mod Lines
+pub mod Octets
+pub mod ReceiptLines
+pub mod Says
+pub mod SendingLines
+pub mod SlotLines
+pub mod Spelling
+pub mod Telling
+pub mod TextFaults

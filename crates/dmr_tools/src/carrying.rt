@@ -1,0 +1,260 @@
+//! A file of a run, carried from another format or to it.
+ghost use Rattle.std.specs.Prelude.{◌≡◌, ◌≤◌, ◌⊎◌, false, true};
+ghost use Rattle.dmr_files.specs.Place.{is_standard};
+ghost use Rattle.dmr_lines.specs.Line.{PutsError, PutsLine};
+ghost use Rattle.dmr_lines.specs.Status.{failure, success};
+ghost use Rattle.dmr_tools.specs.Carrying.{is_to_octets};
+
+use crate::request::{Format, PairPlaces};
+use arrayvec::ArrayString;
+use dmr_files::{
+    BufferedPair, PairFault, Place, System, is_sent_to_terminal, open_buffered, write_out,
+};
+use dmr_lines::{FAILURE, SUCCESS, ToldName, line_of, print_error, print_line};
+use dmr_record::{Sink, Source};
+use dmr_recording::FaultLine;
+use dmr_show::print_want_of_memory;
+use dmr_text::{Carried, ExportEnd, ImportEnd, LineFault, export_text, import_text};
+use std::alloc::Global;
+use std::fmt::{self, Write};
+
+/// Which way a file is carried.
+#[derive(Clone, Copy)]
+pub(crate) enum Direction {
+    /// From this format to a file of a run.
+    Import(Format),
+    /// From a file of a run to this format.
+    Export(Format),
+}
+
+impl Direction {
+    /// Whether what is written is a file of a run, whose octets are nothing to look at.
+    fn is_to_octets(self) -> bool
+        ensures octets { result ≡ is_to_octets self }
+    {
+        match self {
+            Direction::Import(_) => true,
+            Direction::Export(_) => false,
+        }
+    }
+}
+
+/// Why a file wasn't carried to its end.
+#[derive(Clone, Copy, Drop)]
+pub(crate) enum CarryFault {
+    /// The input can't be opened.
+    NoInput,
+    /// The output can't be opened, or may not be written.
+    NoOutput,
+    /// The output is a file, and would be sent to a terminal.
+    Terminal,
+    /// The file is at fault.
+    File(FaultLine),
+    /// The text is at fault.
+    Text(LineFault),
+    /// The output can't be written.
+    Write,
+    /// There is no memory.
+    Memory,
+}
+
+impl From<PairFault> for CarryFault {
+    fn from(fault: PairFault) -> CarryFault {
+        match fault {
+            PairFault::Input => CarryFault::NoInput,
+            PairFault::Output => CarryFault::NoOutput,
+            PairFault::Memory => CarryFault::Memory,
+        }
+    }
+}
+
+impl From<ExportEnd> for CarryFault {
+    fn from(end: ExportEnd) -> CarryFault {
+        match end {
+            ExportEnd::File(fault) => CarryFault::File(fault),
+            ExportEnd::Output => CarryFault::Write,
+            ExportEnd::Memory => CarryFault::Memory,
+        }
+    }
+}
+
+impl From<ImportEnd> for CarryFault {
+    fn from(end: ImportEnd) -> CarryFault {
+        match end {
+            ImportEnd::Text(fault) => CarryFault::Text(fault),
+            ImportEnd::Output => CarryFault::Write,
+            ImportEnd::Memory => CarryFault::Memory,
+        }
+    }
+}
+
+/// A fault as it is told, behind the name of the file that has it.
+#[derive(Clone, Copy)]
+struct ToldFault<'a> {
+    fault: &'a CarryFault,
+    input: ToldName<'a>,
+    output: ToldName<'a>,
+}
+
+impl fmt::Display for ToldFault<'_> {
+    fn fmt<W: fmt::Write>(&self, f: &mut fmt::Formatter<W>) -> fmt::Result {
+        let ToldFault {
+            fault,
+            input,
+            output,
+        } = *self;
+        match fault {
+            CarryFault::NoInput => write!(f, "{input}: cannot open"),
+            CarryFault::NoOutput => write!(f, "{output}: cannot open"),
+            CarryFault::Terminal => write!(f, "{output}: standard output is a terminal"),
+            CarryFault::File(fault) => write!(f, "{input}: {fault}"),
+            CarryFault::Text(fault) => write!(f, "{input}: {fault}"),
+            CarryFault::Write => write!(f, "{output}: write failed"),
+            CarryFault::Memory => write!(f, "out of memory"),
+        }
+    }
+}
+
+/// Carries a file from a source to a sink.
+fn carry_between<S: Source, K: Sink>(
+    alloc: Global,
+    direction: Direction,
+    source: &mut S,
+    sink: &mut K,
+) -> Result<Carried, CarryFault>
+    requires source { S.has_failed source.old ≡ false }
+    requires sink { K.has_failed sink.old ≡ false }
+{
+    match direction {
+        Direction::Import(Format::Text) => Ok(import_text(alloc, source, sink)?),
+        Direction::Export(Format::Text) => Ok(export_text(alloc, source, sink)?),
+    }
+}
+
+/// Carries the file at one place to the other. What is written before a fault is written out too, and that fault goes before one of
+/// writing out.
+fn carry<S: System>(
+    alloc: Global,
+    system: &S,
+    direction: Direction,
+    places: PairPlaces<'_>,
+) -> Result<Carried, CarryFault> {
+    if direction.is_to_octets() && is_sent_to_terminal(system, places.output) {
+        return Err(CarryFault::Terminal);
+    }
+    let BufferedPair {
+        mut source,
+        mut sink,
+    } = open_buffered(system, alloc, places.input, places.output)?;
+    let end = carry_between(alloc, direction, &mut source, &mut sink);
+    let written = write_out(sink);
+    let carried = end?;
+    match written {
+        Ok(_) => Ok(carried),
+        Err(_) => Err(CarryFault::Write),
+    }
+}
+
+/// Tells a fault, behind the name of the file that has it.
+fn print_fault<E: Sink>(alloc: Global, fault: &CarryFault, places: PairPlaces<'_>, err: &mut E)
+    requires err { E.has_failed err.old ≡ false }
+    ensures error { E.has_failed err.new ≡ false → PutsError (E.held err.old) (E.held err.new) }
+{
+    let told = ToldFault {
+        fault,
+        input: ToldName(places.input.name()),
+        output: ToldName(places.output.name()),
+    };
+    match format!(in alloc; "{told}") {
+        Ok(text) => {
+            let _failure = print_error(err, line_of(text.as_str()), FAILURE);
+        }
+        Err(_) => print_want_of_memory(err),
+    }
+}
+
+/// Prints what was carried, and answers the exit status: to the first sink, or to the second where the output is standard output.
+fn print_carried<K: Sink, E: Sink>(
+    carried: &Carried,
+    output: Place<'_>,
+    out: &mut K,
+    err: &mut E,
+) -> u8
+    requires out { K.has_failed out.old ≡ false }
+    requires err { E.has_failed err.old ≡ false }
+    ensures line { is_standard output.entry ≡ false → K.has_failed out.new ≡ false → PutsLine (K.held out.old) (K.held out.new) }
+    ensures line_alone { is_standard output.entry ≡ false → err.new ≡ err.old }
+    ensures beside_line { is_standard output.entry ≡ true → E.has_failed err.new ≡ false
+        → PutsLine (E.held err.old) (E.held err.new) }
+    ensures beside { is_standard output.entry ≡ true → out.new ≡ out.old }
+    ensures status { K.has_failed out.new ≡ false → E.has_failed err.new ≡ false → result ≡ success }
+    ensures out_failed { K.has_failed out.new ≡ true → result ≡ failure }
+    ensures err_failed { E.has_failed err.new ≡ true → result ≡ failure }
+{
+    let mut text = ArrayString::<128>::new();
+    // There is room for each text that this can be.
+    let _ = write!(text, "{carried}");
+    let line = line_of(text.as_str());
+    if output.is_standard() {
+        print_line(err, line, SUCCESS)
+    } else {
+        print_line(out, line, SUCCESS)
+    }
+}
+
+/// Prints how carrying a file ended, and answers the exit status: what was carried, or a fault, which goes to the second sink.
+fn print_end<K: Sink, E: Sink>(
+    alloc: Global,
+    end: &Result<Carried, CarryFault>,
+    places: PairPlaces<'_>,
+    out: &mut K,
+    err: &mut E,
+) -> u8
+    requires out { K.has_failed out.old ≡ false }
+    requires err { E.has_failed err.old ≡ false }
+    ensures alone { (out.new ≡ out.old) ⊎ (err.new ≡ err.old) }
+    ensures line { result ≡ success → is_standard places.entry.output ≡ false → PutsLine (K.held out.old) (K.held out.new) }
+    ensures line_alone { result ≡ success → is_standard places.entry.output ≡ false → err.new ≡ err.old }
+    ensures beside_line { result ≡ success → is_standard places.entry.output ≡ true → PutsLine (E.held err.old) (E.held err.new) }
+    ensures beside { is_standard places.entry.output ≡ true → out.new ≡ out.old }
+    ensures error { result ≡ failure → K.has_failed out.new ≡ false → E.has_failed err.new ≡ false
+        → PutsError (E.held err.old) (E.held err.new) }
+    ensures status { result ≤ 1 }
+    ensures out_failed { K.has_failed out.new ≡ true → result ≡ failure }
+    ensures err_failed { E.has_failed err.new ≡ true → result ≡ failure }
+{
+    match end {
+        Ok(carried) => print_carried(carried, places.output, out, err),
+        Err(fault) => {
+            print_fault(alloc, fault, places, err);
+            FAILURE
+        }
+    }
+}
+
+/// Carries the file at one place to the other, prints how that ended, and answers the exit status.
+pub(crate) fn carry_file<S: System, K: Sink, E: Sink>(
+    alloc: Global,
+    system: &S,
+    direction: Direction,
+    places: PairPlaces<'_>,
+    out: &mut K,
+    err: &mut E,
+) -> u8
+    requires out { K.has_failed out.old ≡ false }
+    requires err { E.has_failed err.old ≡ false }
+    // What is printed goes to one of the two: a success to the first, but where that is the output; a fault to the second.
+    ensures alone { (out.new ≡ out.old) ⊎ (err.new ≡ err.old) }
+    ensures line { result ≡ success → is_standard places.entry.output ≡ false → PutsLine (K.held out.old) (K.held out.new) }
+    ensures line_alone { result ≡ success → is_standard places.entry.output ≡ false → err.new ≡ err.old }
+    ensures beside_line { result ≡ success → is_standard places.entry.output ≡ true → PutsLine (E.held err.old) (E.held err.new) }
+    ensures beside { is_standard places.entry.output ≡ true → out.new ≡ out.old }
+    ensures error { result ≡ failure → K.has_failed out.new ≡ false → E.has_failed err.new ≡ false
+        → PutsError (E.held err.old) (E.held err.new) }
+    ensures status { result ≤ 1 }
+    ensures out_failed { K.has_failed out.new ≡ true → result ≡ failure }
+    ensures err_failed { E.has_failed err.new ≡ true → result ≡ failure }
+{
+    let end = carry(alloc, system, direction, places);
+    print_end(alloc, &end, places, out, err)
+}
