@@ -164,7 +164,8 @@ class Tree:
         self.script = self.top / "dmrgate"
         for name in ("dmrgate", "install", "check"):
             self.put(name, (report.top / name).read_text(), is_program=True)
-        shutil.copytree(report.top / "scripts", self.top / "scripts", ignore=shutil.ignore_patterns("__pycache__"))
+        for name in ("scripts", "share/bridge"):
+            shutil.copytree(report.top / name, self.top / name, ignore=shutil.ignore_patterns("__pycache__"))
         with (self.top / "scripts/building/building.py").open("a") as it:
             it.write(ROOM)
         self.put("crates.txt", CRATES)
