@@ -203,8 +203,8 @@ def check_standard_streams(report):
                 printed = room.path / "printed"
                 printed.write_bytes(OLD)
                 with open(printed, "r+b") as out:
-                    ran = room.run(streams={"stdout": out}, **{taken: name})
-                report.expect(f"{taken} {name} to a file", ran.is_error(f"{taken}: cannot open"), ran)
+                    ran = room.run(streams={"stdout": out}, **{taken: "/dev/stdout"})
+                report.expect(f"{taken} /dev/stdout to a file", ran.is_error(f"{taken}: cannot open"), ran)
                 report.expect("that file is as it was", printed.read_bytes() == OLD)
                 second = room.path / f"second-{taken}"
                 os.link(printed, second)
@@ -235,6 +235,27 @@ def check_standard_streams(report):
                     ran = room.run(streams={"stdin": read}, **{taken: other})
                 report.expect(f"{taken} is standard input that isn't read", ran.is_error(f"{taken}: cannot open"), ran)
                 report.expect("that file is as it was", other.read_bytes() == OLD)
+
+
+def check_hyphen_to_file(report):
+    """A regular file that is standard output may be an output by a hyphen, where nothing else is printed to it."""
+    downlink = (report.top / "samples/one_csbk/downlink.dmrd").read_bytes()
+    for taken, octets in (("downlink", downlink), ("received", it.RECEIVED_HEAD)):
+        with Room(report, it.ONE_CSBK, it.OUTGOING_HEAD) as room:
+            printed = room.path / "printed"
+            with open(printed, "wb") as out:
+                ran = room.run(streams={"stdout": out}, **{taken: "-"})
+            is_so = (ran.status, ran.err, printed.read_bytes()) == (0, LINE, octets)
+            report.expect(f"{taken} - to a file", is_so, ran)
+            printed.write_bytes(OLD)
+            with open(printed, "ab") as out:
+                ran = room.run(streams={"stdout": out}, **{taken: "-"})
+            is_so = (ran.status, ran.err, printed.read_bytes()) == (0, LINE, OLD + octets)
+            report.expect(f"{taken} - behind what a file has", is_so, ran)
+            with open(printed, "wb") as out:
+                ran = room.run(streams={"stdout": out, "stderr": out}, **{taken: "-"})
+            told = f"error: {taken}: cannot open\n".encode()
+            report.expect(f"{taken} - to a file that has errors too", (ran.status, printed.read_bytes()) == (1, told), ran)
 
 
 def check_closed_streams(report):
@@ -324,6 +345,7 @@ def check(report):
     check_lists_left_out(report)
     check_devices(report)
     check_standard_streams(report)
+    check_hyphen_to_file(report)
     check_closed_streams(report)
     check_hyphens_of_closed_streams(report)
     check_pipes(report)

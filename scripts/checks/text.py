@@ -288,10 +288,14 @@ def check_places(report):
             ran = report.call(command, "text", ".", "out", cwd=room.path)
             told = ".: line 1: read failed" if command == "import" else ".: read failed at octet 0"
             report.expect(f"{command} of a folder", ran.is_error(told), ran)
-            # A regular file is given by its name.
             with open(room.path / "other", "wb") as other:
                 ran = report.call(command, "text", "in", "-", cwd=room.path, stdout=other)
-            report.expect(f"{command} to a file that is standard output", ran.is_error("-: cannot open"), ran)
+            is_so = (ran.status, (room.path / "other").read_bytes()) == (0, out)
+            report.expect(f"{command} to a file that is standard output", is_so, ran)
+            with open(room.path / "other", "wb") as other:
+                ran = report.call(command, "text", "in", "-", cwd=room.path, stdout=other, stderr=other)
+            is_told = (ran.status, (room.path / "other").read_bytes()) == (1, b"error: -: cannot open\n")
+            report.expect(f"{command} to a file that has errors too", is_told, ran)
             with open("/dev/full", "wb") as full:
                 ran = report.call(command, "text", "in", "-", cwd=room.path, stdout=full)
                 report.expect(f"{command} to a full standard output", ran.is_error("-: write failed"), ran)

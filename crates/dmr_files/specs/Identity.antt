@@ -38,3 +38,9 @@ is_behind output None = false
 abbrev pub is_behind_any : Identity → StandardFiles → Bool
 is_behind_any output standard =
     is_behind output standard.input || is_behind output standard.output || is_behind output standard.error
+
+-- The files behind the standard streams that a command uses beside its own files: where an output is standard output, the command
+-- prints nothing else there.
+abbrev pub in_use : Bool → StandardFiles → StandardFiles
+in_use true standard = record { input = standard.input; output = None; error = standard.error }
+in_use false standard = standard

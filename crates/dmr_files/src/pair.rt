@@ -77,7 +77,8 @@ fn empty_apart<S: System>(
 }
 
 /// Opens an input and then an output, which is emptied once it is known to get neither into the input nor into what a standard
-/// stream reads or prints. Where that isn't so, it is refused, and what it holds is left as it is.
+/// stream reads or prints. Where that isn't so, it is refused, and what it holds is left as it is. An output that is standard
+/// output may be a regular file, since nothing else is printed there.
 pub fn open_pair<S: System>(
     system: &S,
     input: Place<'_>,
@@ -85,7 +86,7 @@ pub fn open_pair<S: System>(
 ) -> Result<Pair<S::Input, S::Output>, PairFault>
     ensures apart { IfOk result (λ pair. clashes pair.output.identity pair.input.identity ≡ false) }
 {
-    let standard = system.standard_files();
+    let standard = system.standard_files().in_use(output.is_standard());
     let Ok(input) = system.open_input(input) else {
         return Err(PairFault::Input);
     };

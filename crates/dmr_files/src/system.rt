@@ -1,4 +1,7 @@
 //! What a program needs of the system that it runs on.
+ghost use Rattle.std.specs.Prelude.{◌≡◌};
+ghost use Rattle.dmr_files.specs.Identity.{in_use};
+
 use crate::identity::Identity;
 use crate::place::Place;
 use std::io::{self, Read, Write};
@@ -16,6 +19,23 @@ pub struct StandardFiles {
     pub input: Option<Identity>,
     pub output: Option<Identity>,
     pub error: Option<Identity>,
+}
+
+impl StandardFiles {
+    /// Those that a command reads or prints beside its own files. Where an output of the command is standard output, it prints
+    /// nothing else there.
+    pub fn in_use(self, is_output_taken: bool) -> StandardFiles
+        ensures streams { result ≡ in_use is_output_taken self }
+    {
+        if is_output_taken {
+            StandardFiles {
+                output: None,
+                ..self
+            }
+        } else {
+            self
+        }
+    }
 }
 
 /// What a program needs of the system that it runs on.

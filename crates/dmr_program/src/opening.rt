@@ -165,7 +165,7 @@ pub(crate) fn open_files<S: System>(
     system: &S,
     places: &Places<'_>,
 ) -> Result<Opened<S::Input, S::Output>, Stream> {
-    let standard = system.standard_files();
+    let standard = system.standard_files().in_use(places.take_output());
     let uplink = open_input(system, places.uplink, Stream::Uplink)?;
     let outgoing = open_input_if_any(system, places.outgoing, Stream::Outgoing)?;
     let taken = Taken {
