@@ -397,6 +397,10 @@ def check_readme(report):
             ran = shell(re.search(r"^    (\{ printf .* > mine\.dmru)$", text, re.MULTILINE)[1], room.path)
             mine = (room.path / "mine.dmru").read_bytes()
             report.expect("a recording by hand", mine == recordings.ONE_CSBK, mine)
+        carried = re.search(r"^    (\./dmrgate export text (\S+) .* (\S+))$", text, re.MULTILINE)
+        ran, there = shell(carried[1], room.path), room.path / carried[3]
+        is_so = ran.returncode == 0 and there.read_bytes() == (report.top / carried[2]).read_bytes()
+        report.expect("the README's text and back", is_so, ran)
         blocks = re.findall(r"^    \$ (\./dmrgate show .*)\n((?:    .*\n)+)", text, re.MULTILINE)
         is_shown = any(command.startswith("./dmrgate show downlink.dmrd") for command, _ in blocks)
         report.expect("the README shows the downlink of its run", is_shown)
