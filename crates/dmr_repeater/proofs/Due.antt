@@ -8,6 +8,7 @@ use Rattle.dmr_record.specs.declared.outgoing.Outgoing.{Outgoing}
 use Rattle.dmr_record.specs.Outgoing.{Sending}
 use Rattle.dmr_record.specs.Outgoing.{IsReadOutgoing}
 use Rattle.std.specs.List.{AllZip}
+use Rattle.dmr_repeater.specs.Files.{KnownOctets}
 use Rattle.dmr_repeater.specs.Runs.{ReadsDue, ReadsRecords}
 use Rattle.dmr_repeater.specs.Schedule.{ReadingProgress, unread, waiting, AreDue, AreOfferedInTurn, Gives, IsPast}
 use Rattle.dmr_repeater.proofs.InTurn.{apart, given_in_turn, read_in_turn}
@@ -24,7 +25,7 @@ due_records frame (o ∷ os) (s ∷ ss) u due =
     (omega arith, due_records frame os ss u.1 due.1)
 
 -- nothing is read, and nothing given
-abbrev pub nothing_more : (p : ReadingProgress) (a : Option (List ℕ)) → Gives p p [] [] a a
+abbrev pub nothing_more : (p : ReadingProgress) (a : KnownOctets) → Gives p p [] [] a a
 nothing_more p a = Gives-same p p a a refl refl refl (Consumes-nil a) (λ end. end)
 
 none_read : (sendings : List Sending) → AllZip IsReadOutgoing [] sendings → sendings ≡ []
@@ -38,7 +39,7 @@ one_read o (s ∷ sendings) u =
     (s, ap (λ (l : List Sending). s ∷ l) (none_read sendings u.1), ap (λ (x : Sending). x.frame) u.0.fields)
 
 -- at most one record is ahead, of a later frame, or the end was met
-one_ahead : (frame : ℕ) (now : ReadingProgress) (back : List Sending) (left : Option (List ℕ)) → IsPast frame now
+one_ahead : (frame : ℕ) (now : ReadingProgress) (back : List Sending) (left : KnownOctets) → IsPast frame now
     → AllZip IsReadOutgoing (waiting now) back → (now.at_end ≡ true → IsAtEnd left)
     → (ahead : Option Sending) × (back ≡ option_to_list ahead)
     × (IsSomeAnd ahead (λ s. frame < s.frame) ⊎ ((ahead ≡ None) × IsAtEnd left))
@@ -54,7 +55,7 @@ one_ahead frame now back left (inr (none, end)) read met = (
   inr (refl, met end),
 )
 
-pub reads_due : (frame : ℕ) (offers : List (List Outgoing)) (now : ReadingProgress) (o p left : Option (List ℕ))
+pub reads_due : (frame : ℕ) (offers : List (List Outgoing)) (now : ReadingProgress) (o p left : KnownOctets)
     (u : AreOfferedInTurn 0 offers unread now p left) → length offers ≡ frame + 1 → IsPast frame now
     → (now.at_end ≡ true → IsAtEnd left) → ReadsRecords (read_in_turn 0 offers unread now p left u ++ []) [] o left
     → ReadsDue frame (read_in_turn 0 offers unread now p left u ++ []) o left

@@ -1,5 +1,5 @@
 -- There is a result.
-use Rattle.std.proofs.Common.{ℕ, List, [], ◌∷◌, ◌++◌, Option, Some, None, refl}
+use Rattle.std.proofs.Common.{ℕ, List, [], ◌∷◌, ◌++◌, Some, None, refl}
 use Rattle.std.specs.Io.KnownBytes.{Appends}
 use Rattle.std.specs.List.{AllByRecursion}
 use Rattle.dmr_record.specs.Downlink.{downlink_file}
@@ -8,14 +8,15 @@ use Rattle.dmr_record.specs.Received.{received_file}
 use Rattle.dmr_station.specs.GatewayMeaning.{AreForSlots}
 use Rattle.dmr_station.proofs.Existing.{recording_is_sent}
 use Rattle.dmr_station.proofs.Made.{sends_what_is_meant}
+use Rattle.dmr_repeater.specs.Files.{KnownOctets}
 use Rattle.dmr_repeater.specs.Headline.{HasResult, HasResultOfFrames}
 
 -- What an output holds once octets are appended to it, where it is known what it held.
-held_after : Option (List ℕ) → List ℕ → Option (List ℕ)
+held_after : KnownOctets → List ℕ → KnownOctets
 held_after None octets = None
 held_after (Some held) octets = Some (held ++ octets)
 
-appended : (old : Option (List ℕ)) (octets : List ℕ) → Appends old (held_after old octets) octets
+appended : (old : KnownOctets) (octets : List ℕ) → Appends old (held_after old octets) octets
 unfolding held_after
 appended None octets = tt
 appended (Some held) octets = refl

@@ -1,5 +1,5 @@
 -- Outputs that fail: what was read and written by then.
-use Rattle.std.proofs.Common.{◌≡◌, ℕ, suc, ◌+◌, ◌-◌, ◌<◌, ◌≤◌, List, [], ◌∷◌, ◌++◌, length, map, take, replicate, Option}
+use Rattle.std.proofs.Common.{◌≡◌, ℕ, suc, ◌+◌, ◌-◌, ◌<◌, ◌≤◌, List, [], ◌∷◌, ◌++◌, length, map, take, replicate}
 use Rattle.std.proofs.Common.{refl, sym, ap, ◌∙◌, subst, arith, append-nil, append_assoc, inl, inr, ◌⊎◌}
 use Rattle.std.proofs.lemmas.List.{length-append, length-replicate, length_push}
 use Rattle.std.proofs.lemmas.List.Concat.{flat_map-append}
@@ -9,11 +9,11 @@ use Rattle.std.proofs.KnownBytes.{Appends-trans, Consumes-nil, Consumes-trans}
 use Rattle.dmr_gateway.specs.declared.received.Received.{Received}
 use Rattle.dmr_record.specs.Head.{uplink_magic, downlink_magic, outgoing_magic, received_magic}
 use Rattle.dmr_record.specs.declared.outgoing.Outgoing.{Outgoing}
-use Rattle.dmr_record.specs.Downlink.{downlink_octets}
+use Rattle.dmr_record.specs.Downlink.{Sent, downlink_octets}
 use Rattle.dmr_record.specs.Head.{head_octets}
 use Rattle.dmr_record.specs.Outgoing.{Sending}
 use Rattle.dmr_record.specs.Received.{Receipt, receipt_octets}
-use Rattle.dmr_record.specs.Uplink.{frames_octets}
+use Rattle.dmr_record.specs.Uplink.{UplinkSlots, frames_octets}
 use Rattle.dmr_station.specs.DownlinkRules.{silent_frame, handed_frames}
 use Rattle.dmr_station.specs.StationRules.{Settings, received_of}
 use Rattle.dmr_station.specs.GatewayMeaning.{by_frame, receipt_in}
@@ -22,9 +22,9 @@ use Rattle.std.specs.List.{AllZip}
 use Rattle.dmr_station.specs.Station.{State, fresh, all_received_taken, records_of, receipts_from, AreExchanged}
 use Rattle.dmr_station.proofs.Exchanges.{exchanged-append}
 use Rattle.dmr_repeater.specs.declared.fault.Stream.{Stream}
-use Rattle.dmr_repeater.specs.Runs.{Files, files, Moment, moment, FailsInFrame, IsSentWith, ReadsFrames, SendsFrames, TearsFrame}
-use Rattle.dmr_repeater.specs.Runs.{TearsWithUplink}
-use Rattle.dmr_repeater.specs.Runs.{WritesFirst, WritesUpTo}
+use Rattle.dmr_repeater.specs.Files.{Files, KnownOctets, WritesUpTo, files}
+use Rattle.dmr_repeater.specs.Frames.{Moment, ReadsFrames, SendsFrames, TearsFrame, TearsWithUplink, moment}
+use Rattle.dmr_repeater.specs.Runs.{FailsInFrame, IsSentWith, WritesFirst}
 use Rattle.dmr_repeater.specs.Schedule.{unread, AreOfferedInTurn, IsPast}
 use Rattle.dmr_repeater.proofs.Due.{nothing_more, reads_due}
 use Rattle.dmr_repeater.proofs.Early.{by_rules, first_handed, handed_split}
@@ -33,8 +33,8 @@ use Rattle.dmr_repeater.proofs.Records.{Gives-same}
 use Rattle.dmr_repeater.proofs.Transcripts.{Lengths, Sends-trans, lengths, offers_stay, receipts_octets, turn-append}
 
 -- behind what was sent
-pub Tears-after : (output : Stream) (m n : Moment) (xs ys : List (List (Option (List ℕ)))) (frame : List (Option (List ℕ)))
-    (outgoing downlink received : Option (List ℕ)) → SendsFrames m xs n → TearsFrame output n ys frame outgoing downlink received
+pub Tears-after : (output : Stream) (m n : Moment) (xs ys : List UplinkSlots) (frame : UplinkSlots)
+    (outgoing downlink received : KnownOctets) → SendsFrames m xs n → TearsFrame output n ys frame outgoing downlink received
     → TearsFrame output m (xs ++ ys) frame outgoing downlink received
 Tears-after output m n xs ys frame outgoing downlink received before u = record {
   between = u.between;
@@ -64,15 +64,15 @@ receipts_push f (r ∷ g) now =
     ∙ sym (append_assoc (map (receipt_in f) r) (receipts_from (f + 1) g) (map (receipt_in (f + 1 + length g)) now))
     ∙ ap (λ (n : ℕ). receipts_from f (r ∷ g) ++ map (receipt_in n) now) behind
 
-records_push : (r : List (List (Option (List ℕ × List ℕ)))) (now : List (Option (List ℕ × List ℕ)))
+records_push : (r : List (List Sent)) (now : List Sent)
     → records_of (r ++ now ∷ []) ≡ records_of r ++ now
 records_push r now = flat_map-append (λ frame. frame) r (now ∷ []) ∙ ap (λ l. records_of r ++ l) (append-nil now)
 
-module _ (s : Settings) (output : Stream) (a z : Files) (b p h t : Option (List ℕ))
+module _ (s : Settings) (output : Stream) (a z : Files) (b p h t : KnownOctets)
     (uplink : Consumes a.uplink b (head_octets uplink_magic)) (head : Consumes a.outgoing p (head_octets outgoing_magic))
     (downlink : Appends a.downlink h (head_octets downlink_magic))
     (received : Appends a.received t (head_octets received_magic))
-    (frames given ys : List (List (Option (List ℕ)))) (frame : List (Option (List ℕ)))
+    (frames given ys : List UplinkSlots) (frame : UplinkSlots)
     (split : handed_frames frames ≡ given ++ frame ∷ ys)
     (u : TearsFrame output (moment (fresh s) unread p h t) given frame z.outgoing z.downlink z.received) where
   here : Lengths (fresh s) u.between.station u.sends.offers given u.sends.received
@@ -147,12 +147,11 @@ module _ (s : Settings) (output : Stream) (a z : Files) (b p h t : Option (List 
   rules =
       let whole = by_rules s (given ++ frame ∷ []) offers (u.sends.records ++ u.torn.records ∷ []) (u.sends.received ++ now ∷ [])
       after u.schedule [] a.outgoing z.outgoing ss all exchanged in
-      let of_file = subst (λ (l : List (List (Option (List ℕ)))). IsSentWith s ss l after.repeated after.counts
+      let of_file = subst (λ (l : List UplinkSlots). IsSentWith s ss l after.repeated after.counts
       (receipts_from 0 (u.sends.received ++ now ∷ [])) (records_of (u.sends.records ++ u.torn.records ∷ []))) with_this whole in
       let by_receipts = subst (λ (l : List Receipt). IsSentWith s ss (take (length given + 1) (handed_frames frames)) after.repeated
       after.counts l (records_of (u.sends.records ++ u.torn.records ∷ []))) receipts of_file in
-      subst (λ (l : List (Option (List ℕ
-      × List ℕ))). IsSentWith s ss (take (length given + 1) (handed_frames frames)) after.repeated
+      subst (λ (l : List Sent). IsSentWith s ss (take (length given + 1) (handed_frames frames)) after.repeated
       after.counts (receipts_from 0 u.sends.received ++ map (receipt_in (length given)) now) l)
       (records_push u.sends.records u.torn.records) by_receipts
 
@@ -162,7 +161,7 @@ module _ (s : Settings) (output : Stream) (a z : Files) (b p h t : Option (List 
     counts = u.between.station.counts;
     sent = records_of u.sends.records;
     receipts = receipts_from 0 u.sends.received;
-    rules = subst (λ (l : List (List (Option (List ℕ)))). IsSentWith s ss l u.between.station.repeated u.between.station.counts
+    rules = subst (λ (l : List UplinkSlots). IsSentWith s ss l u.between.station.repeated u.between.station.counts
         (receipts_from 0 u.sends.received) (records_of u.sends.records)) first_frames
         (by_rules s given u.sends.offers u.sends.records u.sends.received u.between.station u.schedule [] a.outgoing z.outgoing ss
         front u.sends.exchanged);
@@ -197,12 +196,12 @@ module _ (s : Settings) (output : Stream) (a z : Files) (b p h t : Option (List 
         (downlink_octets u.torn.records) (flat_map receipt_octets (map (receipt_in n) now))) number u.torn.written;
   }
 
-module _ (s : Settings) (m : State) (new : m ≡ fresh s) (output : Stream) (a z : Files) (b p h t : Option (List ℕ))
+module _ (s : Settings) (m : State) (new : m ≡ fresh s) (output : Stream) (a z : Files) (b p h t : KnownOctets)
     (uplink : Consumes a.uplink b (head_octets uplink_magic)) (head : Consumes a.outgoing p (head_octets outgoing_magic))
     (downlink : Appends a.downlink h (head_octets downlink_magic))
     (received : Appends a.received t (head_octets received_magic)) where
   -- while the uplink lasts
-  pub fails_with_uplink : TearsWithUplink output (moment m unread p h t) b z.uplink z.outgoing z.downlink z.received
+  pub fails_with_uplink : TearsWithUplink output (moment m unread p h t) b z
       → FailsInFrame output s a z
   fails_with_uplink u =
       let split : handed_frames u.frames ≡ u.given ++ u.frame ∷ replicate 5 silent_frame =
@@ -217,14 +216,14 @@ module _ (s : Settings) (m : State) (new : m ≡ fresh s) (output : Stream) (a z
       (inl (omega arith))
 
   -- past its end
-  pub fails_past_uplink : (frames : List (List (Option (List ℕ)))) (count : ℕ) → count < 5 → ReadsFrames frames [] b z.uplink
+  pub fails_past_uplink : (frames : List UplinkSlots) (count : ℕ) → count < 5 → ReadsFrames frames [] b z.uplink
       → IsAtEnd z.uplink
       → TearsFrame output (moment m unread p h t) ((silent_frame
       ∷ frames) ++ replicate count silent_frame) silent_frame z.outgoing z.downlink
       z.received
       → FailsInFrame output s a z
   fails_past_uplink frames count few reads end u =
-      let xs : List (List (Option (List ℕ))) = (silent_frame ∷ frames) ++ replicate count silent_frame in
+      let xs : List UplinkSlots = (silent_frame ∷ frames) ++ replicate count silent_frame in
       let left : 5 - count ≡ suc (4 - count) = omega arith in
       let split : handed_frames frames ≡ xs ++ silent_frame ∷ replicate (4 - count) silent_frame =
       handed_split frames count (omega arith) ∙ ap (λ n. xs ++ replicate n silent_frame) left in

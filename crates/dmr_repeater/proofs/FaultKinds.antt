@@ -5,12 +5,15 @@ use Rattle.dmr_record.specs.declared.fault.RecordFault.TheVariants.{Magic, Versi
 use Rattle.dmr_record.specs.declared.fault.RecordFault.TheVariants.{FrameOrder, TooLong, Read, Write}
 use Rattle.dmr_record.specs.Head.{ShowsHeadFault}
 use Rattle.dmr_record.specs.Outgoing.{ShowsOutgoingFault}
-use Rattle.dmr_record.specs.Uplink.{ShowsUplinkFault}
+use Rattle.dmr_record.specs.Uplink.{UplinkSlots, ShowsUplinkFault}
 use Rattle.dmr_repeater.specs.declared.fault.RunFault.{RunFault}
 use Rattle.dmr_repeater.specs.declared.fault.RunFault.TheVariants.{File, Memory}
 use Rattle.dmr_repeater.specs.declared.fault.Stream.TheVariants.{Uplink, Outgoing, Downlink, Received}
 use Rattle.dmr_repeater.specs.declared.fault.Stream.{Stream}
-use Rattle.dmr_repeater.specs.Runs.{IfOutgoing, IfOutput, IfUplink, is_of_its_stream}
+use Rattle.dmr_station.specs.Station.{State}
+use Rattle.dmr_repeater.specs.Files.{Files, KnownOctets}
+use Rattle.dmr_repeater.specs.Frames.{LeavesPastUplink, LeavesWithUplink, Moment, TearsOne, TearsPastUplink, TearsWithUplink}
+use Rattle.dmr_repeater.specs.Causes.{ByCause, is_of_its_stream}
 
 pub uplink_head : (magic : List ℕ) (e : RecordFault) (octets : List ℕ)
     → ShowsHeadFault magic e octets → is_of_its_stream (File Uplink e) ≡ true
@@ -60,25 +63,24 @@ outgoing_records limit before last TooLong octets shown = refl
 outgoing_records limit before last Read octets shown = refl
 outgoing_records limit before last Write octets shown = absurd shown
 
-pub IfOutgoing-map : (e : RunFault) (P Q : RecordFault → Type 0) (X Y : Type 0) → ((fault : RecordFault) → P fault → Q fault)
-    → (X → Y) → IfOutgoing e P X → IfOutgoing e Q Y
-IfOutgoing-map (File Outgoing fault) P Q X Y found others u = found fault u
-IfOutgoing-map (File Uplink fault) P Q X Y found others u = others u
-IfOutgoing-map (File Downlink fault) P Q X Y found others u = others u
-IfOutgoing-map (File Received fault) P Q X Y found others u = others u
-IfOutgoing-map Memory P Q X Y found others u = others u
+-- ---- by cause
+-- a frame that fails is where the run ends
+pub torn_with_uplink : (e : RunFault) (m : Moment) (uplink : KnownOctets) (z : Files) (ready : State) (frame : UplinkSlots)
+    (a b c d : KnownOctets) → ByCause ⊥ (λ _. ⊥) (λ _. ⊥) (λ output. TearsOne output ready frame a b c d) e
+    → ((output : Stream) → TearsOne output ready frame a b c d → TearsWithUplink output m uplink z)
+    → LeavesWithUplink e m uplink z
+torn_with_uplink Memory m uplink z ready frame a b c d u tears = absurd u
+torn_with_uplink (File Uplink fault) m uplink z ready frame a b c d u tears = absurd u
+torn_with_uplink (File Outgoing fault) m uplink z ready frame a b c d u tears = absurd u
+torn_with_uplink (File Downlink fault) m uplink z ready frame a b c d (write, u) tears = (write, tears Downlink u)
+torn_with_uplink (File Received fault) m uplink z ready frame a b c d (write, u) tears = (write, tears Received u)
 
-pub IfUplink-map : (e : RunFault) (P Q : RecordFault → Type 0) → ((fault : RecordFault) → P fault → Q fault) → IfUplink e P
-    → IfUplink e Q
-IfUplink-map (File Uplink fault) P Q found u = found fault u
-IfUplink-map (File Outgoing fault) P Q found u = tt
-IfUplink-map (File Downlink fault) P Q found u = tt
-IfUplink-map (File Received fault) P Q found u = tt
-IfUplink-map Memory P Q found u = tt
-
-pub IfOutput-map : (e : RunFault) (P Q : Stream → Type 0) → ((output : Stream) → P output → Q output) → IfOutput e P → IfOutput e Q
-IfOutput-map (File Downlink fault) P Q fails u = fails Downlink u
-IfOutput-map (File Received fault) P Q fails u = fails Received u
-IfOutput-map (File Uplink fault) P Q fails u = tt
-IfOutput-map (File Outgoing fault) P Q fails u = tt
-IfOutput-map Memory P Q fails u = tt
+pub torn_past_uplink : (e : RunFault) (m : Moment) (x y z : KnownOctets) (ready : State) (frame : UplinkSlots)
+    (a b c d : KnownOctets) → ByCause ⊥ (λ _. ⊥) (λ _. ⊥) (λ output. TearsOne output ready frame a b c d) e
+    → ((output : Stream) → TearsOne output ready frame a b c d → TearsPastUplink output m x y z)
+    → LeavesPastUplink e m x y z
+torn_past_uplink Memory m x y z ready frame a b c d u tears = absurd u
+torn_past_uplink (File Uplink fault) m x y z ready frame a b c d u tears = absurd u
+torn_past_uplink (File Outgoing fault) m x y z ready frame a b c d u tears = absurd u
+torn_past_uplink (File Downlink fault) m x y z ready frame a b c d (write, u) tears = (write, tears Downlink u)
+torn_past_uplink (File Received fault) m x y z ready frame a b c d (write, u) tears = (write, tears Received u)

@@ -1,5 +1,5 @@
 -- What a run that stopped early wrote is a front of what a whole run writes.
-use Rattle.std.proofs.Common.{◌≡◌, ℕ, true, false, List, ◌++◌, length, Option, Some, None, IsSome, sym, ◌∙◌, ap, append_assoc}
+use Rattle.std.proofs.Common.{◌≡◌, ℕ, true, false, List, ◌++◌, length, Some, None, IsSome, sym, ◌∙◌, ap, append_assoc}
 use Rattle.std.specs.Io.KnownBytes.{Appends}
 use Rattle.std.specs.List.{flat_map}
 use Rattle.std.proofs.lemmas.List.Concat.{flat_map-append}
@@ -10,7 +10,7 @@ use Rattle.dmr_record.specs.Spelling.{IsFront}
 use Rattle.dmr_station.proofs.FrontResult.{IsFrontOf, front_of_the_downlink, sent_front}
 use Rattle.dmr_station.specs.DownlinkRules.{slots_of, handed_frames}
 use Rattle.dmr_repeater.specs.Headline.{AreFrontsOfOneResult}
-use Rattle.dmr_repeater.specs.Runs.{FrontOf}
+use Rattle.dmr_repeater.specs.Files.{FrontOf, KnownOctets}
 
 -- what the items of a front of a list have is a front of what those of the list have
 items_front : {X Y : Type 0} (of : X → List Y) (part whole : List X) → IsFrontOf part whole
@@ -25,7 +25,7 @@ file_front head of part whole u =
     (octets.0, ap (λ l. head ++ l) octets.1 ∙ sym (append_assoc head (flat_map of part) octets.0))
 
 -- where it is known what a sink held, what it holds with a front of a front of a file is a front of what it holds with the file
-rest_appended : (old part whole : Option (List ℕ)) (early file : List ℕ) → IsSome old → FrontOf old part early
+rest_appended : (old part whole : KnownOctets) (early file : List ℕ) → IsSome old → FrontOf old part early
     → IsFront early file → Appends old whole file → (rest : List ℕ) × Appends part whole rest
 rest_appended None part whole early file known u v w = let bad : false ≡ true = known in cc
 rest_appended (Some held) None whole early file known u v w = absurd u.2

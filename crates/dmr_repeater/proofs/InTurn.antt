@@ -10,6 +10,7 @@ use Rattle.dmr_record.specs.Head.{outgoing_magic}
 use Rattle.dmr_record.specs.Head.{head_octets}
 use Rattle.dmr_gateway.specs.GatewayRules.{IsSlot}
 use Rattle.dmr_station.proofs.Exchanges.{offer_count}
+use Rattle.dmr_repeater.specs.Files.{KnownOctets}
 use Rattle.dmr_repeater.specs.Runs.{ReadsRecords, from_frame}
 use Rattle.dmr_repeater.proofs.Records.{All-append, AreDue-later, Gives-same, Gives-trans}
 use Rattle.std.specs.Io.KnownBytes.{Consumes}
@@ -124,14 +125,14 @@ passed f g (suc count) ss rest h of =
 -- 3. Frame after frame.
 
 -- what was read while records were offered in turn
-abbrev pub read_in_turn : (f : ℕ) (offers : List (List Outgoing)) (p q : ReadingProgress) (a b : Option (List ℕ))
+abbrev pub read_in_turn : (f : ℕ) (offers : List (List Outgoing)) (p q : ReadingProgress) (a b : KnownOctets)
     → AreOfferedInTurn f offers p q a b
     → List Sending
 read_in_turn f [] p q a b u = []
 read_in_turn f (given ∷ more) p q a b u = u.3.sendings ++ read_in_turn (f + 1) more u.0 q u.1 b u.5
 
 -- nothing is read behind the end
-none_behind : (f : ℕ) (offers : List (List Outgoing)) (p q : ReadingProgress) (a b : Option (List ℕ))
+none_behind : (f : ℕ) (offers : List (List Outgoing)) (p q : ReadingProgress) (a b : KnownOctets)
     (u : AreOfferedInTurn f offers p q a b)
     (rest : List Sending) → (q.at_end ≡ true → rest ≡ []) → p.at_end ≡ true → read_in_turn f offers p q a b u ++ rest ≡ []
 none_behind f [] p q a b u rest h e = h (ap (λ (x : ReadingProgress). x.at_end) u.0 ∙ e)
@@ -170,7 +171,7 @@ regrouped w s t rest front behind e =
 
 -- Where the records that wait and those that are read after them stand in the order of their frames, none of an earlier one, in
 -- each frame those are offered that are of that frame.
-pub in_turn : (f : ℕ) (offers : List (List Outgoing)) (p q : ReadingProgress) (a b : Option (List ℕ))
+pub in_turn : (f : ℕ) (offers : List (List Outgoing)) (p q : ReadingProgress) (a b : KnownOctets)
     (u : AreOfferedInTurn f offers p q a b)
     (waits rest : List Sending) → AllZip IsReadOutgoing (waiting p) waits → (q.at_end ≡ true → rest ≡ [])
     → AreInFrameOrder f (waits ++ (read_in_turn f offers p q a b u ++ rest))
@@ -198,12 +199,12 @@ in_turn f (given ∷ more) p q a b u waits rest pairs end order =
 
 -- 4. What was read in all.
 
-pub record ReadInTurn (f bound : ℕ) (offers : List (List Outgoing)) (p q : ReadingProgress) (a b : Option (List ℕ))
+pub record ReadInTurn (f bound : ℕ) (offers : List (List Outgoing)) (p q : ReadingProgress) (a b : KnownOctets)
     (u : AreOfferedInTurn f offers p q a b) : Type 0 where
   pub due : GivesDue bound p q a b
   pub same : due.gives.sendings ≡ read_in_turn f offers p q a b u
 
-pub given_in_turn : (f bound : ℕ) (offers : List (List Outgoing)) (p q : ReadingProgress) (a b : Option (List ℕ))
+pub given_in_turn : (f bound : ℕ) (offers : List (List Outgoing)) (p q : ReadingProgress) (a b : KnownOctets)
     (u : AreOfferedInTurn f offers p q a b) → f + length offers ≤ bound + 1 → ReadInTurn f bound offers p q a b u
 unfolding Gives-same Gives-trans
 given_in_turn f bound [] p q a b u h = record {
@@ -243,7 +244,7 @@ slots_in_turn f zero ss each = tt
 slots_in_turn f (suc count) ss each = (slots_of_frame f ss each, slots_in_turn (f + 1) count ss each)
 
 -- What was offered in turn, and what was read further, are records of the file.
-pub record ReadInAll (offers : List (List Outgoing)) (r : ReadingProgress) (part : List ℕ) (o d : Option (List ℕ))
+pub record ReadInAll (offers : List (List Outgoing)) (r : ReadingProgress) (part : List ℕ) (o d : KnownOctets)
     (ss : List Sending) : Type 0
   where
     pub reads : ReadsRecords ss part o d
@@ -253,7 +254,7 @@ pub record ReadInAll (offers : List (List Outgoing)) (r : ReadingProgress) (part
     pub count : r.records ≡ length ss
 
 pub read_in_all : (offers : List (List Outgoing)) (q r : ReadingProgress) (more : List Outgoing) (part : List ℕ)
-    (o p b d : Option (List ℕ))
+    (o p b d : KnownOctets)
     → Consumes o p (head_octets outgoing_magic) → (u : AreOfferedInTurn 0 offers unread q p b) → (g : Gives q r more part b d)
     → ReadInAll offers r part o d (read_in_turn 0 offers unread q p b u ++ g.sendings)
 unfolding Gives-trans

@@ -1,9 +1,9 @@
 -- What a recording means.
-use Rattle.std.proofs.Common.{ℕ, List, [], ◌∷◌, Option, arith}
+use Rattle.std.proofs.Common.{List, [], ◌∷◌, arith}
 use Rattle.std.specs.List.{AllByRecursion}
 use Rattle.std.proofs.lemmas.List.Elements.{All-from_recursion}
 use Rattle.dmr_hearing.specs.Recorded.{IsSilenceOr33Octets}
-use Rattle.dmr_record.specs.Uplink.{IsFrame}
+use Rattle.dmr_record.specs.Uplink.{UplinkSlots, IsFrame}
 use Rattle.dmr_station.specs.DownlinkRules.{slots_in}
 use Rattle.dmr_voice.proofs.Law.{repeats_what_is_meant}
 use Rattle.dmr_voice.proofs.OneMeaning.{one_meaning as one_meaning_of_slots}
@@ -12,13 +12,13 @@ use Rattle.dmr_voice.specs.CallMeaning.{sent_list}
 use Rattle.dmr_station.proofs.OneReception.{same_meaning}
 use Rattle.dmr_repeater.specs.Headline.{HasOneMeaning}
 
-first_slots_are : (frames : List (List (Option (List ℕ)))) → AllByRecursion IsFrame frames
+first_slots_are : (frames : List UplinkSlots) → AllByRecursion IsFrame frames
     → AllByRecursion IsSilenceOr33Octets (slots_in 0 frames)
 first_slots_are [] each = tt
 first_slots_are ([] ∷ frames) each = absurd (omega (arith, each.0.0))
 first_slots_are ((a ∷ rest) ∷ frames) each = (each.0.1.0, first_slots_are frames each.1)
 
-second_slots_are : (frames : List (List (Option (List ℕ)))) → AllByRecursion IsFrame frames
+second_slots_are : (frames : List UplinkSlots) → AllByRecursion IsFrame frames
     → AllByRecursion IsSilenceOr33Octets (slots_in 1 frames)
 second_slots_are [] each = tt
 second_slots_are ([] ∷ frames) each = absurd (omega (arith, each.0.0))

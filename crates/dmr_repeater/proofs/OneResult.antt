@@ -1,5 +1,5 @@
 -- What is meant is written in one way.
-use Rattle.std.proofs.Common.{◌≡◌, ℕ, true, false, List, length, Option, Some, None, IsSome, sym, ◌∙◌, ap, subst}
+use Rattle.std.proofs.Common.{◌≡◌, ℕ, true, false, List, length, Some, None, IsSome, sym, ◌∙◌, ap, subst}
 use Rattle.std.specs.Io.KnownBytes.{Appends}
 use Rattle.dmr_record.specs.Downlink.{downlink_file}
 use Rattle.dmr_record.specs.Received.{received_file}
@@ -8,10 +8,11 @@ use Rattle.dmr_station.proofs.OneResult.{one_downlink_of_what_is_meant}
 use Rattle.dmr_station.specs.DownlinkRules.{slots_of, repeated_count, handed_frames}
 use Rattle.dmr_station.specs.GatewayMeaning.{by_frame}
 use Rattle.dmr_station.specs.Sent.{AreSentAs}
+use Rattle.dmr_repeater.specs.Files.{KnownOctets}
 use Rattle.dmr_repeater.specs.Headline.{HasOneResult}
 
 -- where it is known what a sink held, octets are appended in one way
-appended_alike : (old new other : Option (List ℕ)) (octets : List ℕ) → IsSome old → Appends old new octets
+appended_alike : (old new other : KnownOctets) (octets : List ℕ) → IsSome old → Appends old new octets
     → Appends old other octets → new ≡ other
 appended_alike None new other octets known u v = let bad : false ≡ true = known in cc
 appended_alike (Some held) None other octets known u v = absurd u

@@ -13,7 +13,7 @@ use Rattle.dmr_station.specs.StationRules.{received_of, received_taken}
 use Rattle.dmr_station.specs.GatewayMeaning.{receipt_in}
 use Rattle.dmr_station.specs.Station.{State, taken_once, all_received_taken}
 use Rattle.dmr_station.proofs.Taking.{received_step, taken_step, nothing_waits}
-use Rattle.dmr_repeater.specs.Runs.{FrontOf}
+use Rattle.dmr_repeater.specs.Files.{FrontOf, KnownOctets}
 
 -- the octets of what was received in a frame
 abbrev pub octets_of : ℕ → List Received → List ℕ
@@ -26,13 +26,13 @@ octets_of-append number (r ∷ a) b =
     ∙ sym (append_assoc (receipt_octets (receipt_in number r)) (octets_of number a) (octets_of number b))
 
 -- These of the frame are written, and the others wait.
-pub record Written (number : ℕ) (before now : State) (a b : Option (List ℕ)) : Type 0 where
+pub record Written (number : ℕ) (before now : State) (a b : KnownOctets) : Type 0 where
   pub done : List Received
   pub split : received_of before.memory.gate ≡ done ++ received_of now.memory.gate
   pub whole : all_received_taken now ≡ all_received_taken before
   pub written : Appends a b (octets_of number done)
 
-pub none_written : (number : ℕ) (s : State) (a : Option (List ℕ)) → Written number s s a a
+pub none_written : (number : ℕ) (s : State) (a : KnownOctets) → Written number s s a a
 none_written number s a = record { done = []; split = refl; whole = refl; written = Appends-nil a }
 
 -- a record is taken
@@ -52,13 +52,13 @@ taken_whole s =
     ∙ ap (λ (n : ℕ). record s { memory = record s.memory { gate = received_taken g }; counts = record s.counts { received = n } })
     count
 
-pub one_written : (number : ℕ) (before now next : State) (r : Received) (a b c : Option (List ℕ)) → Written number before now a b
+pub one_written : (number : ℕ) (before now next : State) (r : Received) (a b c : KnownOctets) → Written number before now a b
     → Some r ≡ next_received now.memory.gate → next ≡ taken_once now → Appends b c (receipt_octets (receipt_in number r))
     → Written number before next a c
 one_written number before now next r a b c u is taken one =
     subst (λ (s : State). Written number before s a c) (sym taken) (one_taken number before now r a b c u (sym is) one)
   where
-    one_taken : (number : ℕ) (before now : State) (r : Received) (a b c : Option (List ℕ)) → Written number before now a b
+    one_taken : (number : ℕ) (before now : State) (r : Received) (a b c : KnownOctets) → Written number before now a b
         → next_received now.memory.gate ≡ Some r → Appends b c (receipt_octets (receipt_in number r))
         → Written number before (taken_once now) a c
     one_taken number before now r a b c u is one =
@@ -77,7 +77,7 @@ one_written number before now next r a b c u is taken one =
         }
 
 -- all are taken
-pub all_written : (number : ℕ) (before now : State) (a b : Option (List ℕ)) → Written number before now a b
+pub all_written : (number : ℕ) (before now : State) (a b : KnownOctets) → Written number before now a b
     → next_received now.memory.gate ≡ None
     → Appends a b (octets_of number (received_of before.memory.gate)) × (taken_once now ≡ all_received_taken before)
 all_written number before now a b u none =
@@ -129,7 +129,7 @@ all_written number before now a b u none =
         none_left g (Some x) b c d e = cc
 
 -- where nothing waits, all are taken
-pub rest_written : (number : ℕ) (before now : State) (a b : Option (List ℕ)) → Written number before now a b
+pub rest_written : (number : ℕ) (before now : State) (a b : KnownOctets) → Written number before now a b
     → HasNothingReceived now.memory.gate
     → Appends a b (octets_of number (received_of before.memory.gate)) × (now ≡ all_received_taken before)
 rest_written number before now a b u nothing =
@@ -144,7 +144,7 @@ rest_written number before now a b u nothing =
     still s h = search rules
 
 -- a record of them tore
-pub torn_received : (number : ℕ) (before now : State) (r : Received) (a b c : Option (List ℕ)) → Written number before now a b
+pub torn_received : (number : ℕ) (before now : State) (r : Received) (a b c : KnownOctets) → Written number before now a b
     → next_received now.memory.gate ≡ Some r → Tears b c (receipt_octets (receipt_in number r))
     → FrontOf a c (octets_of number (received_of before.memory.gate))
 torn_received number before now r a b c u is torn =

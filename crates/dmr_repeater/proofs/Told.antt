@@ -1,12 +1,11 @@
 -- What a source that tells its octets has of the outgoing file.
-use Rattle.std.proofs.Common.{◌≡◌, ℕ, ◌+◌, ◌≤◌, true, List, [], ◌∷◌, ◌++◌, length, Option, Some, None}
+use Rattle.std.proofs.Common.{◌≡◌, ℕ, ◌+◌, ◌≤◌, true, List, [], ◌∷◌, ◌++◌, length}
 use Rattle.std.proofs.Common.{refl, sym, ap, ◌∙◌, subst, arith, append-nil, append_assoc, inl, inr, ◌⊎◌}
 use Rattle.std.proofs.lemmas.List.{length-append, append_cancel_left}
 use Rattle.std.specs.List.{AllByRecursion}
-use Rattle.std.specs.Io.KnownBytes.{Consumes, IsAtEnd}
+use Rattle.std.specs.Io.KnownBytes.{IsAtEnd}
 use Rattle.dmr_record.specs.declared.fault.RecordFault.{RecordFault}
 use Rattle.dmr_record.specs.Head.{outgoing_magic}
-use Rattle.dmr_record.specs.declared.outgoing.Outgoing.{Outgoing}
 use Rattle.dmr_record.specs.Head.{record_limit}
 use Rattle.dmr_record.specs.Faults.{is_of_end, is_device_fault}
 use Rattle.dmr_record.specs.Head.{head_octets}
@@ -16,10 +15,10 @@ use Rattle.dmr_record.proofs.NoFault.{no_outgoing_fault}
 use Rattle.dmr_record.proofs.OutgoingReading.{sending_code}
 use Rattle.dmr_record.proofs.Spellings.{front_read, none_left, All-right}
 use Rattle.dmr_station.specs.GatewayMeaning.{by_frame}
-use Rattle.dmr_repeater.specs.Runs.{HasOutgoing, ReadsRecords, ReadsAllBefore}
-use Rattle.dmr_repeater.specs.Schedule.{ReadingProgress, unread, Gives, HasRecords}
+use Rattle.dmr_repeater.specs.Files.{KnownOctets}
+use Rattle.dmr_repeater.specs.Runs.{HasOutgoing, ReadsAllBefore, ReadsRecords}
 use Rattle.dmr_record.specs.Outgoing.{last_frame}
-use Rattle.dmr_repeater.proofs.Files.{consumed, left_behind}
+use Rattle.dmr_repeater.proofs.Files.{consumed}
 use Rattle.dmr_repeater.proofs.InTurn.{by_frame_front, later}
 
 -- ---- records show no fault
@@ -27,58 +26,24 @@ pub order-right : (last : ℕ) (xs ys : List Sending) → AreInFrameOrder last (
 order-right last [] ys p = p
 order-right last (x ∷ xs) ys p = order-right x.frame xs ys p.1
 
-pub no_fault_stops : (e : RecordFault) (p r : ReadingProgress) (given : List Outgoing) (part : List ℕ) (others : List Sending)
-    (a c : Option (List ℕ)) → Gives p r given part a c → ShowsOutgoingFault record_limit r.records r.last e part
-    → (is_of_end e ≡ true → IsAtEnd c)
-    → HasRecords p others a → is_device_fault e ≡ true
-no_fault_stops e p r given part others a c u shown cut has =
-    let xs = u.sendings in
-    let (rest, split, at_end) = consumed c (sendings_octets others) (sendings_octets xs ++ part) (rw has.has at u.read) in
+pub no_fault_stops : (e : RecordFault) (xs others : List Sending) (part : List ℕ) (a c : KnownOctets) → ReadsRecords xs part a c
+    → ShowsOutgoingFault record_limit (length xs) (last_frame 0 xs) e part → (is_of_end e ≡ true → IsAtEnd c)
+    → HasOutgoing others a → is_device_fault e ≡ true
+no_fault_stops e xs others part a c u shown cut has =
+    let (rest, split, at_end) = consumed c (outgoing_file others) (outgoing_file xs ++ part) (rw has.has at u.read) in
+    let behind : sendings_octets others ≡ (sendings_octets xs ++ part) ++ rest =
+    append_cancel_left (head_octets outgoing_magic) (sendings_octets others) ((sendings_octets xs ++ part) ++ rest) split in
     let (more, whole, left) = front_read IsSending sending_octets sending_code xs others (part ++ rest) u.each has.each
-    (sym (append_assoc (sendings_octets xs) part rest) ∙ sym split) in
-    let shown_there = subst (λ (n : ℕ). ShowsOutgoingFault record_limit n r.last e part) u.count shown in
-    let shown_at = subst (λ (n : ℕ). ShowsOutgoingFault record_limit (p.records + length xs) n e part) u.last shown_there in
+    (sym (append_assoc (sendings_octets xs) part rest) ∙ sym behind) in
     let counts = ap length whole in
     let few = has.few in
-    no_outgoing_fault record_limit (p.records + length xs) (last_frame p.last xs) e part rest more
+    no_outgoing_fault record_limit (length xs) (last_frame 0 xs) e part rest more
     (All-right IsSending xs more (subst (AllByRecursion IsSending) whole has.each))
-    (order-right p.last xs more (subst (AreInFrameOrder p.last) whole has.order))
-    (omega (arith, length-append xs more, counts)) shown_at (λ end. at_end (cut end)) left
-
-pub has_records : (others : List Sending) (a b : Option (List ℕ)) → HasOutgoing others a
-    → Consumes a b (head_octets outgoing_magic) → HasRecords unread others b
-has_records others a b has read = record {
-  each = has.each;
-  order = has.order;
-  few = let few = has.few in omega arith;
-  has = left_behind outgoing_magic (sendings_octets others) a b has.has read;
-}
-
--- what a source that tells its octets has left of them
-pub has_left : (p q : ReadingProgress) (given : List Outgoing) (others : List Sending) (a b : Option (List ℕ))
-    → Gives p q given [] a b
-    → HasRecords p others a → (more : List Sending) × HasRecords q more b
-has_left p q given others a None u has = absurd (rw has.has at u.read)
-has_left p q given others a (Some left) u has =
-    let xs = u.sendings in
-    let split : sendings_octets others ≡ (sendings_octets xs ++ []) ++ left = rw has.has at u.read in
-    let (more, whole, rest) = front_read IsSending sending_octets sending_code xs others left u.each has.each
-    (sym (split ∙ ap (λ l. l ++ left) (append-nil (sendings_octets xs)))) in
-    let counts = ap length whole in
-    let count = u.count in
-    let few = has.few in (
-      more,
-      record {
-        each = All-right IsSending xs more (subst (AllByRecursion IsSending) whole has.each);
-        order = subst (λ (n : ℕ). AreInFrameOrder n more) (sym u.last) (order-right p.last xs more (subst
-            (AreInFrameOrder p.last) whole has.order));
-        few = omega (arith, length-append xs more, counts);
-        has = ap Some rest;
-      },
-    )
+    (order-right 0 xs more (subst (AreInFrameOrder 0) whole has.order))
+    (omega (arith, length-append xs more, counts)) shown (λ end. at_end (cut end)) left
 
 -- ---- records that were read are the first of the file's
-pub first_records : (l0 l1 : Option (List ℕ)) (ss others : List Sending) (part : List ℕ) → ReadsRecords ss part l0 l1
+pub first_records : (l0 l1 : KnownOctets) (ss others : List Sending) (part : List ℕ) → ReadsRecords ss part l0 l1
     → HasOutgoing others l0 → (more : List Sending) × (others ≡ ss ++ more) × (IsAtEnd l1 → part ≡ [] → more ≡ [])
 first_records l0 l1 ss others part u has =
     let (rest, split, at_end) = consumed l1 (outgoing_file others) (outgoing_file ss ++ part) (rw has.has at u.read) in
@@ -94,7 +59,7 @@ first_records l0 l1 ss others part u has =
     )
 
 -- so that each of so many frames has the same of both
-pub same_in_frames : (count frames : ℕ) (l0 l1 : Option (List ℕ)) (ss others : List Sending) → ReadsAllBefore count ss l0 l1
+pub same_in_frames : (count frames : ℕ) (l0 l1 : KnownOctets) (ss others : List Sending) → ReadsAllBefore count ss l0 l1
     → HasOutgoing others l0 → frames ≤ count → by_frame 0 frames ss ≡ by_frame 0 frames others
 same_in_frames count frames l0 l1 ss others u has few =
     let (more, whole, none) = first_records l0 l1 ss others u.part u.reads has in
@@ -109,7 +74,7 @@ same_in_frames count frames l0 l1 ss others u has few =
         ap (λ l. by_frame 0 frames (ss ++ l)) (none past.0 past.1) ∙ ap (by_frame 0 frames) (append-nil ss)
 
 -- and where the file was read to its end, they are all of it
-pub same_records : (l0 l1 : Option (List ℕ)) (ss others : List Sending) → ReadsRecords ss [] l0 l1 → IsAtEnd l1
+pub same_records : (l0 l1 : KnownOctets) (ss others : List Sending) → ReadsRecords ss [] l0 l1 → IsAtEnd l1
     → HasOutgoing others l0 → others ≡ ss
 same_records l0 l1 ss others u end has =
     let (more, whole, none) = first_records l0 l1 ss others [] u has in

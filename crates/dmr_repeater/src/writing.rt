@@ -1,5 +1,5 @@
 //! The frames of the downlink, handed over and written, and what is received in them.
-ghost use Rattle.std.specs.Prelude.{⊤, ◌≡◌, ◌+◌, ◌^◌, ◌<◌, false, true, map, IfErr, OnOk, OnErr};
+ghost use Rattle.std.specs.Prelude.{◌≡◌, ◌+◌, ◌^◌, ◌<◌, false, true, map, IfErr, OnOk, OnErr};
 ghost use Rattle.std.specs.Io.KnownBytes.{Appends};
 ghost use Rattle.dmr_record.specs.Devices.{Tears};
 ghost use Rattle.dmr_record.specs.Downlink.{downlink_octets};
@@ -7,9 +7,9 @@ ghost use Rattle.dmr_record.specs.Received.{receipts_octets};
 ghost use Rattle.dmr_station.specs.StationRules.{received_of};
 ghost use Rattle.dmr_station.specs.GatewayMeaning.{receipt_in};
 ghost use Rattle.dmr_station.specs.Station.{all_received_taken};
-ghost use Rattle.dmr_repeater.specs.Runs.{FrontOf, IfOutgoing, IfOutput, IfUplink, SendsFrontOfOne, SendsOne, TearsOne};
-ghost use Rattle.dmr_repeater.specs.Runs.{is_downlink_failure, is_failure, is_memory, is_of_its_stream, is_outgoing_failure};
-ghost use Rattle.dmr_repeater.specs.Runs.{is_received_failure, is_uplink_failure};
+ghost use Rattle.dmr_repeater.specs.Causes.{AreBlamed, ByCause};
+ghost use Rattle.dmr_repeater.specs.Files.{FrontOf};
+ghost use Rattle.dmr_repeater.specs.Frames.{SendsOne, TearsOne};
 
 use crate::fault::{RunFault, Stream};
 use dmr_record::{RecordFault, Sink, write_received, write_slot};
@@ -104,20 +104,10 @@ pub(crate) fn send<D: Sink, R: Sink>(
         (R.held received.old) (R.held received.new)) }
     ensures frames { OnOk result (station.new.frames ≡ station.old.frames + 1) }
     ensures offered { OnOk result (station.new.offered ≡ station.old.offered) }
-    ensures well { OnOk result ((D.has_failed downlink.new ≡ false) × (R.has_failed received.new ≡ false)) }
-    ensures torn { OnErr result (SendsFrontOfOne station.old frame.now (D.held downlink.old) (D.held downlink.new)
-        (R.held received.old) (R.held received.new)) }
     // What was received is written behind the frame, and not where that fails.
-    ensures failed { IfErr result (λ e. IfOutput e (λ output. TearsOne output station.old frame.now
-        (D.held downlink.old) (D.held downlink.new) (R.held received.old) (R.held received.new))) }
-    ensures device { IfErr result (λ e. (D.has_failed downlink.new ≡ is_downlink_failure e)
-        × (R.has_failed received.new ≡ is_received_failure e)) }
-    ensures others { IfErr result (λ e. (is_uplink_failure e ≡ false) × (is_outgoing_failure e ≡ false)) }
-    ensures elsewhere { IfErr result (λ e. IfOutgoing e (λ _. ⊥) ⊤) }
-    ensures found { IfErr result (λ e. IfUplink e (λ _. ⊥)) }
-    ensures file { IfErr result (λ e. is_memory e ≡ false) }
-    ensures kind { IfErr result (λ e. is_of_its_stream e ≡ true) }
-    ensures honest { IfErr result (λ e. is_failure e ≡ true) }
+    ensures leaves { IfErr result (λ e. ByCause ⊥ (λ _. ⊥) (λ _. ⊥) (λ output. TearsOne output station.old frame.now
+        (D.held downlink.old) (D.held downlink.new) (R.held received.old) (R.held received.new)) e) }
+    ensures blamed { AreBlamed result false false (D.has_failed downlink.new) (R.has_failed received.new) }
 {
     let number = station.counts().frames;
     let records = station.exchange(frame);
