@@ -1,7 +1,8 @@
 //! Lists of a fixed number of bits, the highest first.
 ghost use Rattle.std.specs.Prelude.{◌≡◌, ◌+◌, ◌-◌, ◌*◌, ◌^◌, ◌<◌, ◌≤◌, ◌++◌, All, length, take, drop, replicate, false};
 ghost use Rattle.std.specs.Prelude.{slice_set, slice_index_or};
-ghost use Rattle.dmr_bits.specs.Bits.{number_of, bits_of, bits_of_octets, octets_of as octets_in, xor_bits, distance, part, put_at};
+ghost use Rattle.dmr_bits.specs.Bits.{number_of, bits_of, bits_of_octets, xor_bits, distance, part, put_at};
+ghost use Rattle.dmr_bits.specs.Bits as spec;
 
 use crate::word_octets::{octets_of, words_of};
 use crate::word_sums::{ones, sum};
@@ -59,7 +60,7 @@ impl<const N: usize> Bits<N> {
     #[inline(always)]
     pub fn octets<const M: usize>(&self) -> [u8; M]
         requires whole { 8 * M ≡ N }
-        ensures value { result ≡ octets_in M self.now }
+        ensures value { result ≡ spec.octets_of M self.now }
         ensures octets { All (λ octet. octet < 256) result }
         ensures spelled { bits_of_octets result ≡ self.now }
         ensures length { length self.now ≡ N }

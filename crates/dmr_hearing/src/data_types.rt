@@ -1,6 +1,6 @@
 //! What the information of each data type holds. ETSI TS 102 361-1, clause 9.3.6.
 ghost use Rattle.std.specs.Prelude.{◌≡◌};
-ghost use Rattle.dmr_hearing.specs.DataTypes.{payload_of as payload};
+ghost use Rattle.dmr_hearing.specs.DataTypes as spec;
 
 use dmr_burst::data_type;
 use dmr_checks::Mask;
@@ -23,7 +23,7 @@ pub enum Payload {
 
 /// What the information of a data type holds.
 pub(crate) fn payload_of(kind: u8) -> Payload
-    ensures value { result ≡ payload kind }
+    ensures value { result ≡ spec.payload_of kind }
 {
     match kind {
         data_type::VOICE_LC_HEADER => Payload::LinkControl(LcUse::Header),

@@ -5,10 +5,10 @@ ghost use Rattle.dmr_burst.specs.Layout.{information_field};
 ghost use Rattle.dmr_burst.specs.SlotType.{HasSlotType};
 ghost use Rattle.dmr_burst.specs.Sync.{HasSync};
 ghost use Rattle.dmr_burst.specs.declared.sync.Side.TheVariants as side;
-ghost use Rattle.dmr_hearing.specs.DataTypes.{payload_of as payload};
+ghost use Rattle.dmr_hearing.specs.DataTypes as data_types;
 ghost use Rattle.dmr_hearing.specs.Fit.{IsFitHeard};
 ghost use Rattle.dmr_hearing.specs.Hearing.{Reads, IsHeardData, Hears};
-ghost use Rattle.dmr_hearing.specs.Slots.{silence as silence_heard};
+ghost use Rattle.dmr_hearing.specs.Slots as spec;
 ghost use Rattle.dmr_hearing.specs.declared.heard.DataBurst.{DataBurst};
 ghost use Rattle.dmr_link.specs.declared.full_lc.FullLc.{FullLc};
 
@@ -37,7 +37,7 @@ pub fn hear(slot: Option<&[u8; 33]>, colour: u8) -> Heard
 
 /// What nothing is heard as, whatever the colour code.
 pub fn silence() -> Heard
-    ensures value { result ≡ silence_heard }
+    ensures value { result ≡ spec.silence }
 {
     Heard {
         data_burst: None,
@@ -81,11 +81,11 @@ fn hear_data_burst(burst: &[u8; 33], sync: Option<bool>, colour: u8) -> Option<D
 fn own_data_burst(burst: &[u8; 33], colour: u8) -> Option<DataBurst>
     ensures within { IfSome result (λ data_burst. HasSlotType (record { colour = colour; kind = data_burst.kind }) (bits_of_octets
         burst.now)
-        × Reads (payload data_burst.kind) (information_field (bits_of_octets burst.now)) data_burst.information
+        × Reads (data_types.payload_of data_burst.kind) (information_field (bits_of_octets burst.now)) data_burst.information
         data_burst.link_control) }
     ensures only { (kind : ℕ) (information : List Bool) (lc : Option FullLc)
         → HasSlotType (record { colour = colour; kind = kind }) (bits_of_octets burst.now)
-        → Reads (payload kind) (information_field (bits_of_octets burst.now)) information lc
+        → Reads (data_types.payload_of kind) (information_field (bits_of_octets burst.now)) information lc
         → result ≡ Some (record { kind = kind; information = information; link_control = lc }) }
 {
     let Some(slot_type) = read_slot_type(burst) else {

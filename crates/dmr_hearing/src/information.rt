@@ -1,6 +1,6 @@
 //! What the information of a data burst is read as.
 ghost use Rattle.std.specs.Prelude.{◌≡◌, None};
-ghost use Rattle.dmr_hearing.specs.DataTypes.{payload_of as payload};
+ghost use Rattle.dmr_hearing.specs.DataTypes as spec;
 ghost use Rattle.dmr_bptc.specs.ProductWord.{IsWritten};
 ghost use Rattle.dmr_hearing.specs.Reading.{IsReading};
 ghost use Rattle.dmr_hearing.specs.declared.data_types.Payload.TheVariants as holds;
@@ -14,7 +14,7 @@ use dmr_link::{LcUse, lc_info, lc_read};
 
 /// The data burst that received information of a data type is read as.
 pub(crate) fn read_data_burst(kind: u8, received: &Bits<196>) -> Option<DataBurst>
-    ensures reading { IsReading (payload kind) kind received.now result }
+    ensures reading { IsReading (spec.payload_of kind) kind received.now result }
 {
     match payload_of(kind) {
         Payload::Word => read_word(kind, received),

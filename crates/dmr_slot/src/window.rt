@@ -1,6 +1,6 @@
 //! The places that were heard last.
 ghost use Rattle.std.specs.Prelude.{◌≡◌, ◌≤◌, IfOk, drop, replicate, take};
-ghost use Rattle.dmr_hearing.specs.Slots.{silence as silence_heard};
+ghost use Rattle.dmr_hearing.specs.Slots as spec;
 ghost use Rattle.dmr_slot.specs.LineRules.{moved};
 
 use dmr_voice::{Heard, silence};
@@ -35,7 +35,7 @@ impl Model for Window {
 impl Window {
     /// Six silent places. Memory is taken here alone.
     pub(crate) fn new(alloc: Global) -> Result<Window, AllocError>
-        ensures silent { IfOk result (λ window. window ≡ replicate 6 silence_heard) }
+        ensures silent { IfOk result (λ window. window ≡ replicate 6 spec.silence) }
     {
         Ok(Window {
             places: Box::new(alloc, [silence(); ROOM])?,

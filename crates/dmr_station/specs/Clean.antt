@@ -6,8 +6,9 @@ use Rattle.dmr_burst.specs.Cach.{IsCach}
 use Rattle.dmr_burst.specs.declared.burst.Burst.{Burst}
 use Rattle.dmr_burst.specs.declared.sync.Side.TheVariants.{Bs}
 use Rattle.dmr_slot.specs.Clean.{AreCleanBursts}
-use Rattle.dmr_station.specs.Sent.{DownlinkBurst}
+use Rattle.dmr_station.specs.Sent.{DownlinkBurst, DownlinkSlots, SlotBursts}
 use Rattle.std.specs.List.{AllZip}
+use Rattle.dmr_record.specs.Downlink.{Sent}
 
 -- 1. Bursts of both slots in turn.
 
@@ -24,7 +25,7 @@ second_slots (a ∷ []) = []
 second_slots (a ∷ b ∷ more) = b ∷ second_slots more
 
 -- From slot 1 of a frame on: the bursts of each slot are clean, superframes and all.
-pub record AreCleanSlots (colour : ℕ) (bursts : List (Option Burst)) : Type 0 where
+pub record AreCleanSlots (colour : ℕ) (bursts : SlotBursts) : Type 0 where
   pub first : AreCleanBursts colour (first_slots bursts)
   pub second : AreCleanBursts colour (second_slots bursts)
 
@@ -39,13 +40,13 @@ pub record IsCleanCach (octets : List ℕ) : Type 0 where
   pub fields : IsCach at tc lcss fragment (bits_of_octets octets)
 
 -- A slot's octets: a CACH and the base station's encoding of the burst, or nothing where it is silent.
-abbrev pub IsEncodedAs : Option Burst → Option (List ℕ × List ℕ) → Type 0
+abbrev pub IsEncodedAs : Option Burst → Sent → Type 0
 IsEncodedAs None sent = sent ≡ None
 IsEncodedAs (Some burst) sent = IsSomeAnd sent (λ s. IsCleanCach s.0 × IsEncoding burst Bs (bits_of_octets s.1))
 
 -- Records that may be transmitted: the encoding of clean bursts.
-pub record IsCleanDownlink (colour : ℕ) (sent : List (Option (List ℕ × List ℕ))) : Type 0 where
-  pub bursts : List (Option Burst)
+pub record IsCleanDownlink (colour : ℕ) (sent : List Sent) : Type 0 where
+  pub bursts : SlotBursts
   pub encoded : AllZip IsEncodedAs bursts sent
   pub clean : AreCleanSlots colour bursts
 
@@ -57,5 +58,5 @@ burst_sent None = None
 burst_sent (Some d) = Some d.burst
 
 -- The bursts of one slot after another, none for a silent one.
-abbrev pub bursts_in : List (Option DownlinkBurst) → List (Option Burst)
+abbrev pub bursts_in : DownlinkSlots → SlotBursts
 bursts_in slots = map burst_sent slots

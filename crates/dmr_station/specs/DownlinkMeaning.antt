@@ -1,5 +1,5 @@
 -- What goes out for recordings of well-formed transmissions in both slots: what they mean.
-use Rattle.std.specs.Prelude.{ℕ, ◌≡◌, List, [], ◌∷◌, ◌++◌, length, replicate, take, Option}
+use Rattle.std.specs.Prelude.{ℕ, ◌≡◌, List, [], ◌∷◌, ◌++◌, length, replicate, take}
 use Rattle.dmr_burst.specs.declared.burst.Burst.{Burst}
 use Rattle.dmr_gateway.specs.Heard.{IsReadByGateway, nothing_said}
 use Rattle.dmr_gateway.specs.RecordMeaning.{received_now}
@@ -7,6 +7,7 @@ use Rattle.dmr_gateway.specs.declared.heard.Heard.{Heard}
 use Rattle.dmr_gateway.specs.declared.received.Received.{Received}
 use Rattle.dmr_record.specs.Outgoing.{Sending}
 use Rattle.dmr_record.specs.Received.{Receipt}
+use Rattle.dmr_record.specs.Uplink.{UplinkSlots}
 use Rattle.std.specs.List.{AllZip}
 use Rattle.dmr_slot.specs.Bursts.{IsSlotOut}
 use Rattle.dmr_slot.specs.LineMeaning.{LineOut, lines}
@@ -17,7 +18,7 @@ use Rattle.dmr_voice.specs.WellFormed.{IsWellFormed}
 use Rattle.dmr_voice.specs.declared.said.Content.TheVariants.{Data}
 use Rattle.dmr_voice.specs.declared.said.Said.{Said}
 use Rattle.dmr_voice.specs.declared.said.Said.TheVariants.{Nothing, Repeat}
-use Rattle.dmr_station.specs.Sent.{DownlinkBurst}
+use Rattle.dmr_station.specs.Sent.{DownlinkSlots, SlotBursts}
 use Rattle.dmr_station.specs.DownlinkRules.{slots_in, handed_frames, IsDownlinkOf, Makes}
 use Rattle.dmr_station.specs.StationRules.{Settings, Counts}
 use Rattle.dmr_station.specs.GatewayMeaning.{IsGatewayOf}
@@ -26,46 +27,46 @@ use Rattle.dmr_station.specs.GatewayMeaning.{IsGatewayOf}
 
 -- The line of a slot in which this was sent: six frames later what it means, with the vocoder bits of the recording, or else the
 -- call hang.
-abbrev pub line_of_meaning : Settings → List Cell → List (Option (List ℕ)) → List LineOut
+abbrev pub line_of_meaning : Settings → List Cell → UplinkSlots → List LineOut
 line_of_meaning s cells slots = lines s.call_hang [] (replicate 6 Nothing ++ meant cells slots)
 
 -- What goes out where this was sent in both slots, of which these frames are a recording, and these datagrams are offered in each
 -- frame of the downlink; what is received; and what is counted of the gateway. The line of each slot gives what was sent in it, as
 -- bursts of the own colour code.
-pub record IsDownlinkOfWhatIsMeant (s : Settings) (first second : List Cell) (frames : List (List (Option (List ℕ))))
-    (offers : List (List Sending)) (sending : List (List (Option DownlinkBurst))) (receipts : List Receipt)
+pub record IsDownlinkOfWhatIsMeant (s : Settings) (first second : List Cell) (frames : List UplinkSlots)
+    (offers : List (List Sending)) (sending : List DownlinkSlots) (receipts : List Receipt)
     (counts : Counts) : Type 0 where
   pub first_outs : List SlotOut
   pub second_outs : List SlotOut
   pub first_line : AllZip (IsSlotOut s.colour) (line_of_meaning s first (slots_in 0 frames)) first_outs
   pub second_line : AllZip (IsSlotOut s.colour) (line_of_meaning s second (slots_in 1 frames)) second_outs
-  pub gates : List (List (Option Burst))
+  pub gates : List SlotBursts
   pub gateway : IsGatewayOf s offers first_outs second_outs gates receipts counts
   pub downlink : IsDownlinkOf s first_outs second_outs gates sending
 
 -- The first so many frames of it.
-pub record IsFrontOfTheDownlink (s : Settings) (first second : List Cell) (frames : List (List (Option (List ℕ)))) (count : ℕ)
-    (offers : List (List Sending)) (sending : List (List (Option DownlinkBurst))) (receipts : List Receipt)
+pub record IsFrontOfTheDownlink (s : Settings) (first second : List Cell) (frames : List UplinkSlots) (count : ℕ)
+    (offers : List (List Sending)) (sending : List DownlinkSlots) (receipts : List Receipt)
     (counts : Counts) : Type 0 where
   pub first_outs : List SlotOut
   pub second_outs : List SlotOut
   pub first_line : AllZip (IsSlotOut s.colour) (take count (line_of_meaning s first (slots_in 0 frames))) first_outs
   pub second_line : AllZip (IsSlotOut s.colour) (take count (line_of_meaning s second (slots_in 1 frames))) second_outs
-  pub gates : List (List (Option Burst))
+  pub gates : List SlotBursts
   pub gateway : IsGatewayOf s offers first_outs second_outs gates receipts counts
   pub downlink : IsDownlinkOf s first_outs second_outs gates sending
 
 -- 2. The rules send what is meant.
 
 -- Frames that are a recording of what was sent in both slots, damaged within the limits.
-pub record IsRecordingOf (colour : ℕ) (first second : List Cell) (frames : List (List (Option (List ℕ)))) : Type 0 where
+pub record IsRecordingOf (colour : ℕ) (first second : List Cell) (frames : List UplinkSlots) : Type 0 where
   pub first_slot : IsDamagedRecordingOf colour first (slots_in 0 frames)
   pub second_slot : IsDamagedRecordingOf colour second (slots_in 1 frames)
 
 -- This holds of whatever well-formed transmissions were sent in both slots, and of every recording of them.
-abbrev pub ForWhatWasRecorded : ℕ → (List Cell → List Cell → List (List (Option (List ℕ))) → Type 0) → Type 0
+abbrev pub ForWhatWasRecorded : ℕ → (List Cell → List Cell → List UplinkSlots → Type 0) → Type 0
 ForWhatWasRecorded colour Holds =
-    (lead_1 lead_2 : ℕ) (first second : List (Transmission × ℕ)) (frames : List (List (Option (List ℕ)))) →
+    (lead_1 lead_2 : ℕ) (first second : List (Transmission × ℕ)) (frames : List UplinkSlots) →
     IsWellFormed colour first → IsWellFormed colour second →
     IsRecordingOf colour (sent_list colour lead_1 first) (sent_list colour lead_2 second) frames →
     Holds (sent_list colour lead_1 first) (sent_list colour lead_2 second) frames
@@ -73,14 +74,14 @@ ForWhatWasRecorded colour Holds =
 -- What the rules make of a recording that is handed over whole is what the transmissions mean,
 abbrev pub SendsWhatIsMeant : Type 0
 SendsWhatIsMeant = (s : Settings) → ForWhatWasRecorded s.colour (λ first second frames.
-    (offers : List (List Sending)) (sending : List (List (Option DownlinkBurst))) (receipts : List Receipt) (counts : Counts)
+    (offers : List (List Sending)) (sending : List DownlinkSlots) (receipts : List Receipt) (counts : Counts)
     → Makes s offers (handed_frames frames) sending receipts counts
     → IsDownlinkOfWhatIsMeant s first second frames offers sending receipts counts)
 
 -- and what they make of a front of it is a front of that.
 abbrev pub SendsFrontOfWhatIsMeant : Type 0
 SendsFrontOfWhatIsMeant = (s : Settings) → ForWhatWasRecorded s.colour (λ first second frames.
-    (front rest : List (List (Option (List ℕ)))) (offers : List (List Sending)) (sending : List (List (Option DownlinkBurst)))
+    (front rest : List UplinkSlots) (offers : List (List Sending)) (sending : List DownlinkSlots)
     (receipts : List Receipt) (counts : Counts) → handed_frames frames ≡ front ++ rest
     → Makes s offers front sending receipts counts
     → IsFrontOfTheDownlink s first second frames (length front) offers sending receipts counts)

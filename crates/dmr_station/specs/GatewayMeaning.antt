@@ -20,6 +20,7 @@ use Rattle.dmr_gateway.specs.declared.fault.GatewayFault.{GatewayFault}
 use Rattle.dmr_gateway.specs.declared.received.Received.{Received}
 use Rattle.std.specs.List.{AllZip}
 use Rattle.dmr_station.specs.StationRules.{Settings, Counts, is_free, outcome_count}
+use Rattle.dmr_station.specs.Sent.{SlotBursts}
 
 -- 1. What is offered.
 
@@ -106,7 +107,7 @@ counts_of first second =
 -- From what the lines of both slots give and the datagrams that are offered in each frame: the bursts that the gateway has for
 -- both slots, the records of what it receives, and what it counts.
 pub record IsGatewayOf (s : Settings) (offers : List (List Sending)) (first second : List SlotOut)
-    (gates : List (List (Option Burst))) (receipts : List Receipt) (counts : Counts) : Type 0 where
+    (gates : List SlotBursts) (receipts : List Receipt) (counts : Counts) : Type 0 where
   pub first_given : List Given
   pub second_given : List Given
   pub first_slot : AreGiven s 1 [] offers first first_given

@@ -9,6 +9,7 @@ use Rattle.dmr_burst.specs.Cach.{IsCach}
 use Rattle.dmr_burst.specs.DataTypes.{first_fragment, last_fragment, continuation_fragment}
 use Rattle.dmr_burst.specs.declared.sync.Side.TheVariants.{Bs}
 use Rattle.dmr_embedded.specs.ShortLc.{IsShortLc}
+use Rattle.dmr_record.specs.Downlink.{Sent}
 
 -- What a slot of the downlink sends where it isn't silent: its burst, whether that repeats a burst of the uplink, and the message
 -- of which its CACH carries a fragment.
@@ -16,6 +17,14 @@ pub record DownlinkBurst : Type 0 where
   pub burst : Burst
   pub is_repeated : Bool
   pub message : Message
+
+-- Slots of the downlink, one after another: each has what it sends, or is silent.
+abbrev pub DownlinkSlots : Type 0
+DownlinkSlots = List (Option DownlinkBurst)
+
+-- Bursts of slots, one after another: each slot has one, or none.
+abbrev pub SlotBursts : Type 0
+SlotBursts = List (Option Burst)
 
 -- The records of the downlink are counted from 0, slot 1 first. Four of them carry one Short LC: the first fragment, two that
 -- continue it, and the last.
@@ -52,12 +61,12 @@ pub record IsSentBurst (place : ℕ) (d : DownlinkBurst) (cach burst : List ℕ)
   pub encodes : IsEncoding d.burst Bs (bits_of_octets burst)
 
 -- What one slot sends, with its CACH, as the record in this place of the downlink; a silent slot is a record of silence.
-abbrev pub IsSentAs : ℕ → Option DownlinkBurst → Option (List ℕ × List ℕ) → Type 0
+abbrev pub IsSentAs : ℕ → Option DownlinkBurst → Sent → Type 0
 IsSentAs place (Some d) sent = IsSomeAnd sent (λ s. IsSentBurst place d s.0 s.1)
 IsSentAs place None sent = sent ≡ None
 
 -- What slots send one after the other, as the records from this place of the downlink on.
-abbrev pub AreSentAs : ℕ → List (Option DownlinkBurst) → List (Option (List ℕ × List ℕ)) → Type 0
+abbrev pub AreSentAs : ℕ → DownlinkSlots → List Sent → Type 0
 AreSentAs place [] [] = Unit {0}
 AreSentAs place [] (sent ∷ more) = ⊥
 AreSentAs place (slot ∷ slots) [] = ⊥

@@ -1,9 +1,9 @@
 -- A base station: what it gives for the frames of the uplink that it takes and the datagrams that it is offered.
-use Rattle.std.specs.Prelude.{ℕ, ◌≡◌, ◌+◌, ◌*◌, ◌^◌, ◌<◌, ◌≤◌, All, List, [], ◌∷◌, ◌++◌, length, map, Option, option_to_list}
+use Rattle.std.specs.Prelude.{ℕ, ◌≡◌, ◌+◌, ◌*◌, ◌^◌, ◌<◌, ◌≤◌, All, List, [], ◌∷◌, ◌++◌, length, map, option_to_list}
 use Rattle.std.specs.Prelude.{Result}
 use Rattle.std.specs.List.{AllByRecursion, flat_map}
 use Rattle.dmr_arq.specs.declared.sender_state.Outcome.{Outcome}
-use Rattle.dmr_arq.specs.declared.sender_state.Outcome.TheVariants.{Delivered, Sent, GivenUp}
+use Rattle.dmr_arq.specs.declared.sender_state.Outcome.TheVariants as outcome
 use Rattle.dmr_gateway.specs.GatewayRules.{Gate, IsOffer, refusal, next_received, after_received}
 use Rattle.dmr_gateway.specs.Packets.{fault_of}
 use Rattle.dmr_gateway.specs.declared.fault.GatewayFault.{GatewayFault}
@@ -11,7 +11,7 @@ use Rattle.dmr_gateway.specs.declared.received.Received.{Received}
 use Rattle.dmr_record.specs.Outgoing.{Sending}
 use Rattle.dmr_record.specs.Received.{Receipt}
 use Rattle.dmr_record.specs.declared.outgoing.Outgoing.{Outgoing}
-use Rattle.dmr_station.specs.Sent.{DownlinkBurst}
+use Rattle.dmr_station.specs.Sent.{DownlinkSlots}
 use Rattle.dmr_station.specs.declared.station.Counts.{Counts as StationCounts}
 use Rattle.dmr_station.specs.Clean.{IsCleanDownlink}
 use Rattle.dmr_station.specs.DownlinkRules.{repeated_count, slots_of, Makes}
@@ -21,7 +21,8 @@ use Rattle.dmr_station.specs.StationRules.{outcome_count}
 use Rattle.dmr_station.specs.StationRules.{IsAsked, received_of, outcomes_to_tell, received_taken, outcomes_told}
 use Rattle.dmr_station.specs.GatewayMeaning.{AreForSlots, receipt_in}
 use Rattle.dmr_record.specs.Outgoing.{AreReadFrom}
-use Rattle.dmr_record.specs.Uplink.{IsFrame}
+use Rattle.dmr_record.specs.Uplink.{UplinkSlots, IsFrame}
+use Rattle.dmr_record.specs.Downlink.{Sent}
 use Rattle.std.specs.List.{AllZip}
 use Rattle.dmr_station.specs.Sent.{AreSentAs}
 
@@ -81,17 +82,17 @@ AreOfferedOneByOne before (o ∷ more) after = (next : State) × IsOffered befor
 abbrev pub with_outcomes : List Outcome → Counts → Counts
 with_outcomes outcomes c =
     record c {
-      delivered = c.delivered + outcome_count Delivered outcomes;
-      sent = c.sent + outcome_count Sent outcomes;
-      given_up = c.given_up + outcome_count GivenUp outcomes;
+      delivered = c.delivered + outcome_count outcome.Delivered outcomes;
+      sent = c.sent + outcome_count outcome.Sent outcomes;
+      given_up = c.given_up + outcome_count outcome.GivenUp outcomes;
     }
 
 -- A frame of the uplink is taken, and the records of a frame of the downlink are given: what goes out by the rules, exactly
 -- encoded, in the place that it has among all records of the downlink, and counted. What became of the gateway's packets is
 -- counted too; what it received is still to be taken.
-pub record IsExchanged (before : State) (frame : List (Option (List ℕ))) (records : List (Option (List ℕ × List ℕ)))
+pub record IsExchanged (before : State) (frame : UplinkSlots) (records : List Sent)
     (after : State) : Type 0 where
-  pub sending : List (Option DownlinkBurst)
+  pub sending : DownlinkSlots
   pub asked : StationMemory
   pub is_asked : IsAsked before.memory frame sending asked
   pub memory : after.memory ≡ record asked { gate = outcomes_told asked.gate }
@@ -128,7 +129,7 @@ pub record IsWithinFrames (s : State) : Type 0 where
 
 -- Each frame goes by what the frames before it left: these datagrams are offered, these records are given, and this was received,
 -- which is all taken before the next frame.
-abbrev pub AreExchanged : State → List (List Outgoing) → List (List (Option (List ℕ))) → List (List (Option (List ℕ × List ℕ))) →
+abbrev pub AreExchanged : State → List (List Outgoing) → List UplinkSlots → List (List Sent) →
     List (List Received) → State → Type 0
 AreExchanged before [] [] [] [] after = after ≡ before
 AreExchanged before (offered ∷ offers) (frame ∷ frames) (records ∷ more) (received ∷ others) after =
@@ -137,7 +138,7 @@ AreExchanged before (offered ∷ offers) (frame ∷ frames) (records ∷ more) (
 AreExchanged before offers frames records received after = ⊥
 
 -- The records of frames, in order.
-abbrev pub records_of : List (List (Option (List ℕ × List ℕ))) → List (Option (List ℕ × List ℕ))
+abbrev pub records_of : List (List Sent) → List Sent
 records_of frames = flat_map (λ frame. frame) frames
 
 -- The records of what was received in frames, from this frame on.
@@ -147,9 +148,9 @@ receipts_from frame (received ∷ more) = map (receipt_in frame) received ++ rec
 
 -- What is sent where these frames were taken and these datagrams offered in each: what the rules make of them by looking back,
 -- exactly encoded, and all clean; what is received; how many slots repeat a burst, and what is counted of the gateway.
-pub record IsSentFor (s : Settings) (offers : List (List Sending)) (frames : List (List (Option (List ℕ)))) (repeated : ℕ)
-    (counts : Counts) (receipts : List Receipt) (sent : List (Option (List ℕ × List ℕ))) : Type 0 where
-  pub sending : List (List (Option DownlinkBurst))
+pub record IsSentFor (s : Settings) (offers : List (List Sending)) (frames : List UplinkSlots) (repeated : ℕ)
+    (counts : Counts) (receipts : List Receipt) (sent : List Sent) : Type 0 where
+  pub sending : List DownlinkSlots
   pub makes : Makes s offers frames sending receipts counts
   pub repeats : repeated ≡ repeated_count (slots_of sending)
   pub encoded : AreSentAs 0 (slots_of sending) sent
@@ -158,8 +159,8 @@ pub record IsSentFor (s : Settings) (offers : List (List Sending)) (frames : Lis
 -- Whatever frames a new station takes, and whatever datagrams it is offered before each, this is what it gives for them.
 abbrev pub SendsByTheRules : Type 0
 SendsByTheRules =
-    (s : Settings) (records_read : List (List Outgoing)) (offers : List (List Sending)) (frames : List (List (Option (List ℕ))))
-    (records : List (List (Option (List ℕ × List ℕ)))) (received : List (List Received)) (after : State)
+    (s : Settings) (records_read : List (List Outgoing)) (offers : List (List Sending)) (frames : List UplinkSlots)
+    (records : List (List Sent)) (received : List (List Received)) (after : State)
     → AllZip AreReadFrom records_read offers → AllByRecursion AreForSlots offers
     → AreExchanged (fresh s) records_read frames records received after
     → IsSentFor s offers frames after.repeated after.counts (receipts_from 0 received) (records_of records)
@@ -178,8 +179,8 @@ AreOfOctets sendings = AllByRecursion (λ s. All (λ octet. octet < 256) s.datag
 -- Whatever frames there are, and whatever datagrams are offered in each, something is sent for them.
 abbrev pub AlwaysSends : Type 0
 AlwaysSends =
-    (s : Settings) (offers : List (List Sending)) (frames : List (List (Option (List ℕ)))) → AreFitSettings s
+    (s : Settings) (offers : List (List Sending)) (frames : List UplinkSlots) → AreFitSettings s
     → length offers ≡ length frames → AllByRecursion AreOfOctets offers → AllByRecursion AreForSlots offers
     → AllByRecursion IsFrame frames
-    → (repeated : ℕ) × (counts : Counts) × (receipts : List Receipt) × (sent : List (Option (List ℕ × List ℕ)))
+    → (repeated : ℕ) × (counts : Counts) × (receipts : List Receipt) × (sent : List Sent)
     × IsSentFor s offers frames repeated counts receipts sent

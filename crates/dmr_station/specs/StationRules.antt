@@ -15,7 +15,8 @@ use Rattle.dmr_slot.specs.LineRules.{LineMemory, silent_line, IsPush}
 use Rattle.dmr_slot.specs.declared.line.SlotOut.{SlotOut}
 use Rattle.dmr_station.specs.Announced.{IsAnnounced}
 use Rattle.dmr_station.specs.declared.announcing.Message.{Message}
-use Rattle.dmr_station.specs.Sent.{DownlinkBurst}
+use Rattle.dmr_station.specs.Sent.{DownlinkBurst, DownlinkSlots, SlotBursts}
+use Rattle.dmr_record.specs.Uplink.{UplinkSlots}
 
 -- 1. What the rules go by.
 
@@ -81,7 +82,7 @@ marked m out None = None
 marked m out (Some burst) = Some (record { burst = burst; is_repeated = is_some out.repeated; message = m })
 
 -- What goes out in the slots of one frame: each burst with whether its line repeats it, and all with the frame's message.
-abbrev pub marked_slots : Message → List SlotOut → List (Option Burst) → List (Option DownlinkBurst)
+abbrev pub marked_slots : Message → List SlotOut → SlotBursts → DownlinkSlots
 marked_slots m [] bursts = []
 marked_slots m (out ∷ outs) [] = []
 marked_slots m (out ∷ outs) (burst ∷ bursts) = marked m out burst ∷ marked_slots m outs bursts
@@ -115,7 +116,7 @@ IsSlotAsked slot out before burst after = IsAskedFor slot out.repeated (is_free 
 
 -- A frame of the uplink is pushed into both lines, the gateway hears what they repeat and is asked for a burst for each slot, and
 -- what they give goes out as the channel decides, with the message that is announced.
-pub record IsAsked (before : StationMemory) (frame : List (Option (List ℕ))) (sending : List (Option DownlinkBurst))
+pub record IsAsked (before : StationMemory) (frame : UplinkSlots) (sending : DownlinkSlots)
     (after : StationMemory) : Type 0 where
   pub first : SlotOut
   pub second : SlotOut
@@ -126,7 +127,7 @@ pub record IsAsked (before : StationMemory) (frame : List (Option (List ℕ))) (
   pub second_gate : Option Burst
   pub first_asked : IsSlotAsked 1 first before.gate first_gate between
   pub second_asked : IsSlotAsked 2 second between second_gate after.gate
-  pub bursts : List (Option Burst)
+  pub bursts : SlotBursts
   pub sent : AreSent before.channel.colour (frame_out before.channel
       (claims_of (first ∷ second ∷ []) (first_gate ∷ second_gate ∷ []))) bursts
   pub channel : after.channel ≡ after_frame before.channel (claims_of (first ∷ second ∷ []) (first_gate ∷ second_gate ∷ []))

@@ -3,9 +3,11 @@ ghost use Rattle.std.specs.Prelude.{◌≡◌, ℕ, List, Option};
 ghost use Rattle.dmr_burst.specs.declared.burst.Burst.{Burst};
 ghost use Rattle.dmr_record.specs.Outgoing.{Sending};
 ghost use Rattle.dmr_record.specs.Received.{Receipt};
+ghost use Rattle.dmr_record.specs.Uplink.{UplinkSlots};
+ghost use Rattle.dmr_record.specs.Downlink.{Sent};
 ghost use Rattle.dmr_slot.specs.declared.line.SlotOut.{SlotOut};
 ghost use Rattle.dmr_voice.specs.CallMeaning.{Cell};
-ghost use Rattle.dmr_station.specs.Sent.{DownlinkBurst};
+ghost use Rattle.dmr_station.specs.Sent.{DownlinkSlots, SlotBursts};
 ghost use Rattle.dmr_station.specs.Clean.{AreCleanSlots, IsCleanDownlink, IsEncodedAs, bursts_in};
 ghost use Rattle.dmr_station.specs.DownlinkRules.{IsDownlinkOf};
 ghost use Rattle.dmr_station.specs.GatewayMeaning.{IsGatewayOf};
@@ -39,8 +41,8 @@ pub fn sends_front_of_what_is_meant()
 
 /// What the lines of both slots and the gateway give goes out in one way.
 pub fn one_downlink()
-    ensures law { (s : Settings) (first second : List SlotOut) (gates : List (List (Option Burst)))
-        (a b : List (List (Option DownlinkBurst)))
+    ensures law { (s : Settings) (first second : List SlotOut) (gates : List SlotBursts)
+        (a b : List DownlinkSlots)
         → IsDownlinkOf s first second gates a → IsDownlinkOf s first second gates b → a ≡ b }
 {}
 
@@ -48,7 +50,7 @@ pub fn one_downlink()
 /// of what it receives, and its counts.
 pub fn one_gateway()
     ensures law { (s : Settings) (offers : List (List Sending)) (first second : List SlotOut)
-        (gates other_gates : List (List (Option Burst))) (receipts other_receipts : List Receipt) (counts other_counts : Counts)
+        (gates other_gates : List SlotBursts) (receipts other_receipts : List Receipt) (counts other_counts : Counts)
         → IsGatewayOf s offers first second gates receipts counts
         → IsGatewayOf s offers first second other_gates other_receipts other_counts
         → (gates ≡ other_gates) × (receipts ≡ other_receipts) × (counts ≡ other_counts) }
@@ -57,8 +59,8 @@ pub fn one_gateway()
 /// What was sent in both slots goes out in one way, with the datagrams that are offered: each slot of the downlink, the records of
 /// what is received, and the counts are pinned.
 pub fn one_downlink_of_what_is_meant()
-    ensures law { (s : Settings) (first second : List Cell) (frames : List (List (Option (List ℕ)))) (offers : List (List Sending))
-        (sending other_sending : List (List (Option DownlinkBurst))) (receipts other_receipts : List Receipt)
+    ensures law { (s : Settings) (first second : List Cell) (frames : List UplinkSlots) (offers : List (List Sending))
+        (sending other_sending : List DownlinkSlots) (receipts other_receipts : List Receipt)
         (counts other_counts : Counts) → IsDownlinkOfWhatIsMeant s first second frames offers sending receipts counts
         → IsDownlinkOfWhatIsMeant s first second frames offers other_sending other_receipts other_counts
         → (sending ≡ other_sending) × (receipts ≡ other_receipts) × (counts ≡ other_counts) }
@@ -66,17 +68,17 @@ pub fn one_downlink_of_what_is_meant()
 
 /// What slots of the downlink send has one encoding.
 pub fn one_encoding()
-    ensures law { (place : ℕ) (slots : List (Option DownlinkBurst)) (a b : List (Option (List ℕ × List ℕ)))
+    ensures law { (place : ℕ) (slots : DownlinkSlots) (a b : List Sent)
         → AreSentAs place slots a → AreSentAs place slots b → a ≡ b }
 {}
 
 /// The octets of a slot are the encoding of one burst, so that what is clean in one reading is clean in all.
 pub fn one_burst_in_a_slot()
-    ensures law { (a b : Option Burst) (sent : Option (List ℕ × List ℕ)) → IsEncodedAs a sent → IsEncodedAs b sent → a ≡ b }
+    ensures law { (a b : Option Burst) (sent : Sent) → IsEncodedAs a sent → IsEncodedAs b sent → a ≡ b }
 {}
 
 /// The encoding of clean bursts may be transmitted.
 pub fn sent_bursts_are_clean()
-    ensures law { (colour place : ℕ) (slots : List (Option DownlinkBurst)) (sent : List (Option (List ℕ × List ℕ)))
+    ensures law { (colour place : ℕ) (slots : DownlinkSlots) (sent : List Sent)
         → AreCleanSlots colour (bursts_in slots) → AreSentAs place slots sent → IsCleanDownlink colour sent }
 {}

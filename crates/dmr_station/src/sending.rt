@@ -2,7 +2,8 @@
 ghost use Rattle.std.specs.Prelude.{◌≡◌, ◌≤◌, ◌<◌, ◌^◌, ◌+◌, IfSome, All, map, option_copied};
 ghost use Rattle.dmr_burst.specs.Burst.{IsBurst};
 ghost use Rattle.dmr_station.specs.Announced.{IsFitMessage};
-ghost use Rattle.dmr_station.specs.DownlinkRules.{is_repeated as slot_is_repeated, repeated_count};
+ghost use Rattle.dmr_station.specs.DownlinkRules.{repeated_count};
+ghost use Rattle.dmr_station.specs.DownlinkRules as spec;
 ghost use Rattle.dmr_station.specs.Sent.{AreSentAs, IsSentAs};
 ghost use Rattle.dmr_station.specs.StationRules.{marked, marked_slots};
 ghost use Rattle.dmr_station.specs.declared.announcing.Message.{Message};
@@ -57,7 +58,7 @@ pub(crate) fn encode_frame(
 
 /// Whether a slot sends a repeated burst.
 fn is_repeated(out: &SlotOut, burst: Option<&Burst>) -> bool
-    ensures value { (message : Message) → result ≡ slot_is_repeated (marked message out.now (option_copied burst.entry)) }
+    ensures value { (message : Message) → result ≡ spec.is_repeated (marked message out.now (option_copied burst.entry)) }
 {
     out.repeated.is_some() && burst.is_some()
 }
