@@ -1,7 +1,7 @@
 //! Standard output, as a device that tells why it failed.
 ghost use Rattle.std.specs.IoError.{error_kind};
 ghost use Rattle.std.specs.Prelude.{◌≡◌, ◌↔◌, None, is_some};
-ghost use Rattle.dmr_files.specs.Printing.{fault_of};
+ghost use Rattle.dmr_files.specs.Printing.{print_fault_of};
 ghost use Rattle.dmr_record.specs.Devices.{failed_after};
 
 use dmr_record::{DeviceFault, Sink};
@@ -40,7 +40,7 @@ impl<W: Write> Printer<W> {
     /// A sink that holds what the writer holds, and hasn't failed.
     pub fn new(writer: W) -> Printer<W>
         ensures octets { ⟦<Printer<W> as Sink>⟧.held result ≡ W.contents writer }
-        ensures fault { fault_of result ≡ None }
+        ensures fault { print_fault_of result ≡ None }
     {
         Printer {
             writer,
@@ -50,7 +50,7 @@ impl<W: Write> Printer<W> {
 
     /// Why it failed, where it has.
     pub fn fault(&self) -> Option<PrintFault>
-        ensures fault { result ≡ fault_of self.now }
+        ensures fault { result ≡ print_fault_of self.now }
         ensures failed { ⟦<Printer<W> as Sink>⟧.has_failed self.now ≡ is_some result }
     {
         let Printer { writer: _, fault } = self;
