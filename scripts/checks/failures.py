@@ -136,9 +136,9 @@ def check_emptying(report, failing):
 
 def check_reads_and_writes(report, failing):
     expect_texts(report, "read", failing.in_turn("read"), ["uplink: read failed", "outgoing: read failed"])
-    # Where what failed is the line of the run itself, nothing more can be told.
-    told = [(ran, outputs) for ran, outputs in failing.in_turn("write") if ran.err]
-    expect_texts(report, "write", told, ["downlink: write failed", "received: write failed"])
+    # The last write is the line of the run itself.
+    texts = [f"{file}: write failed" for file in ("downlink", "received", "standard output")]
+    expect_texts(report, "write", failing.in_turn("write"), texts)
 
 
 def check_settings(report, room, shim, growths):

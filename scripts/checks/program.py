@@ -7,6 +7,10 @@ import tempfile
 from building.programs import PROGRAMS, build, program_of
 
 
+# What is told where standard output can't be written, unless its reader has left.
+UNWRITTEN = b"error: standard output: write failed\n"
+
+
 class Ran:
     """How a run of a program ended: its status, and what it printed."""
 

@@ -5,7 +5,7 @@ import os
 from checks import recordings as it
 from checks.bursts import data_burst, information_of, unreadable_burst, untyped_data_burst, voice_burst, voice_sync_burst
 from checks.contents import TWELVE, TWELVE_DIGITS, beyond_reach
-from checks.program import Room, summary
+from checks.program import UNWRITTEN, Room, summary
 
 BURST = b"\1" + it.CSBK
 SHORT = b"\2" + bytes(4)
@@ -144,14 +144,14 @@ def check_devices(report):
         room.uplink.write_bytes(it.ONE_CSBK)
         with open("/dev/full", "wb") as full:
             ran = room.run(streams={"stdout": full})
-            report.expect("standard output is full", (ran.status, ran.err) == (1, b""), ran)
+            report.expect("standard output is full", (ran.status, ran.err) == (1, UNWRITTEN), ran)
         read, write = os.pipe()
         os.close(read)
         with os.fdopen(write, "wb") as broken:
             ran = room.run(streams={"stdout": broken})
             report.expect("nobody reads standard output", (ran.status, ran.err) == (1, b""), ran)
         ran = room.run(streams={"stdout": None, "preexec_fn": lambda: os.closerange(1, 2)})
-        report.expect("standard output is closed", ran.status == 1, ran)
+        report.expect("standard output is closed", (ran.status, ran.err) == (1, UNWRITTEN), ran)
         with open("/dev/full", "wb") as full:
             ran = room.run(uplink=room.path / "nowhere", streams={"stderr": full})
             report.expect("standard error is full", (ran.status, ran.out) == (1, b""), ran)
@@ -196,7 +196,7 @@ def check_words(report):
     with open("/dev/full", "wb") as full:
         for words in (["--help"], ["--version"], ["slot", it.IDLE], ["show", "--help"], ["help", "show"]):
             ran = report.call(*words, stdout=full)
-            report.expect(f"{words}, and standard output is full", (ran.status, ran.err) == (1, b""), ran)
+            report.expect(f"{words}, and standard output is full", (ran.status, ran.err) == (1, UNWRITTEN), ran)
         for words in ([], ["show"]):
             ran = report.call(*words, stderr=full)
             report.expect(f"words {words}, and standard error is full", (ran.status, ran.out) == (1, b""), ran)

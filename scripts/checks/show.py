@@ -6,7 +6,7 @@ import subprocess
 
 from checks import recordings as it
 from checks.lines import line_of_burst, line_of_record
-from checks.program import Room
+from checks.program import UNWRITTEN, Room
 
 CALL = """uplink recording, version 1
      0.00       0 1  MS   1  voice header  group call 2 -> 1
@@ -132,7 +132,12 @@ def check_faults(report):
         report.expect("a folder", ran.is_error(".: read failed at octet 0"), ran)
         with open("/dev/full", "wb") as full:
             ran = report.call("show", report.top / "samples/call/uplink.dmru", stdout=full)
-            report.expect("standard output is full", (ran.status, ran.err) == (1, b""), ran)
+            report.expect("standard output is full", (ran.status, ran.err) == (1, UNWRITTEN), ran)
+        read, write = os.pipe()
+        os.close(read)
+        with os.fdopen(write, "wb") as broken:
+            ran = report.call("show", report.top / "samples/call/uplink.dmru", stdout=broken)
+            report.expect("nobody reads standard output", (ran.status, ran.err) == (1, b""), ran)
 
 
 def check_names(report):
@@ -244,7 +249,7 @@ def check_strips(report):
         report.expect(f"the strip of {file.parent.name}/{file.name}", is_so, ran)
     with open("/dev/full", "wb") as full:
         ran = report.call("show", sample / "uplink.dmru", "--strip", stdout=full)
-        report.expect("a strip, and standard output is full", (ran.status, ran.err) == (1, b""), ran)
+        report.expect("a strip, and standard output is full", (ran.status, ran.err) == (1, UNWRITTEN), ran)
 
 
 def records_of(octets):

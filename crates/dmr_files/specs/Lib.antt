@@ -1,3 +1,4 @@
 pub mod Identity
 pub mod Pair
 pub mod Place
+pub mod Printing

@@ -7,7 +7,8 @@
 //! nothing that is read or printed (`specs/Pair.antt`). Between a program and its files stand buffers (`buffered_source`,
 //! `buffered_sink`, `write_out`), but none in front of an output where more of an input may come (`kept_back`); `open_buffered`
 //! opens a pair with them. `is_sent_to_terminal` tells which output octets aren't written to. `StandIns` keep files out of the
-//! places of standard streams that are closed. What a file of the system holds is beyond any contract.
+//! places of standard streams that are closed. A `Printer` is a sink over standard output that tells why it failed
+//! (`specs/Printing.antt`). What a file of the system holds is beyond any contract.
 #![tactic(auto)]
 
 mod buffering;
@@ -15,6 +16,7 @@ mod host;
 mod identity;
 mod pair;
 mod place;
+mod printing;
 mod reading;
 mod system;
 
@@ -23,5 +25,6 @@ pub use host::{HostInput, HostOutput, StandIns};
 pub use identity::{FileKind, Identity};
 pub use pair::{BufferedPair, Pair, PairFault, is_sent_to_terminal, open_buffered, open_pair};
 pub use place::Place;
+pub use printing::{PrintFault, Printer};
 pub use reading::{OpenFault, open_source};
 pub use system::{Open, StandardFiles, System};

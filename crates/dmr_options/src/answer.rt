@@ -1,11 +1,13 @@
-//! What is printed where nothing is to be done: what the parser answers in place of matches, and that another program does it.
-ghost use Rattle.std.specs.Prelude.{◌≡◌, ◌≤◌, ◌⊎◌, false, true, codes};
+//! What is printed beside what is asked for: what the parser answers in place of matches, that another program does it, and that
+//! standard output can't be written.
+ghost use Rattle.std.specs.Prelude.{◌≡◌, ◌≤◌, ◌⊎◌, None, Some, OnSome, false, true, codes};
 ghost use Rattle.std.specs.Io.KnownBytes.{Appends};
 ghost use Rattle.dmr_lines.specs.Line.{error_octets};
 ghost use Rattle.dmr_lines.specs.Status.{failure, success, usage};
 
 use clap::Error;
-use dmr_lines::{SUCCESS, USAGE, print_error, print_text};
+use dmr_files::PrintFault;
+use dmr_lines::{FAILURE, SUCCESS, USAGE, print_error, print_text};
 use dmr_record::Sink;
 use std::alloc::Global;
 
@@ -42,4 +44,21 @@ pub fn print_elsewhere<E: Sink>(err: &mut E) -> u8
         "another program of dmrgate does this: start it by the command dmrgate",
         USAGE,
     )
+}
+
+/// Tells that standard output can't be written, where it has failed so. Where its reader has left, nobody is told: that is how the
+/// readers of pipes end what they have enough of.
+pub fn print_unwritten<E: Sink>(fault: Option<PrintFault>, err: &mut E)
+    requires err { OnSome fault (E.has_failed err.old ≡ false) }
+    ensures error { fault ≡ Some PrintFault.Unwritten → E.has_failed err.new ≡ false → Appends (E.held err.old) (E.held err.new)
+        (error_octets (codes "standard output: write failed")) }
+    ensures left { fault ≡ Some PrintFault.ReaderLeft → err.new ≡ err.old }
+    ensures well { fault ≡ None → err.new ≡ err.old }
+{
+    match fault {
+        Some(PrintFault::Unwritten) => {
+            let _failure = print_error(err, "standard output: write failed", FAILURE);
+        }
+        Some(PrintFault::ReaderLeft) | None => {}
+    }
 }

@@ -1,11 +1,14 @@
 //! What is printed, to which sink, and the status.
 use arrayvec::ArrayString;
+use dmr_files::Printer;
 use dmr_gateway::ConfigFault;
-use dmr_lines::{print_error, print_text};
+use dmr_lines::{print_error, print_line, print_text};
+use dmr_options::print_unwritten;
 use dmr_program::{RunEnd, print_end, print_end_beside, print_slot};
 use dmr_record::{RecordFault, ToWrite};
 use dmr_repeater::{RunFault, Stream, Summary};
 use std::fmt::Write;
+use std::io::{self, ErrorKind};
 use std::process::Abort;
 
 /// The longest summary there is, in which each number has its own value.
@@ -199,6 +202,23 @@ const NO_BURSTS: [&str; 4] = [
     "53C25EABA8671DC7383BD936065DFF57D75DF5D92BF6E465171B48CA6D4FC610BG",
 ];
 
+/// A writer that fails with an error of this kind, or takes nothing where there is none.
+#[derive(Drop)]
+struct Unwritable(Option<ErrorKind>);
+
+impl io::Write for Unwritable {
+    fn write(&mut self, _piece: &[u8]) -> io::Result<usize> {
+        match self.0 {
+            Some(kind) => Err(io::Error::from(kind)),
+            None => Ok(0),
+        }
+    }
+
+    fn flush(&mut self) -> io::Result<()> {
+        Ok(())
+    }
+}
+
 /// A run end prints this, and ends with this status. Beside standard output all of it goes to one place.
 fn expect_end(rt: &(impl Abort + AllocGlobal), end: RunEnd, status: u8, out: &str, err: &str) {
     let alloc = rt.alloc();
@@ -275,4 +295,32 @@ fn texts_and_errors(rt: HostRuntime) {
     assert_eq!(rt; print_text(&mut output, "one\ntwo\n", 0), 0);
     assert_eq!(rt; print_error(&mut output, "three", 2), 2);
     assert!(rt; output.into_inner().as_slice() == b"one\ntwo\nerror: three\n".as_slice());
+}
+
+/// Where standard output can't be written, that is told, but not where its reader has left.
+#[test]
+fn standard_output_that_fails(rt: HostRuntime) {
+    let told = "error: standard output: write failed\n";
+    for (kind, err) in [
+        (Some(ErrorKind::BrokenPipe), ""),
+        (Some(ErrorKind::StorageFull), told),
+        (Some(ErrorKind::Other), told),
+        (None, told),
+    ] {
+        let mut output = Printer::new(Unwritable(kind));
+        let mut errors = ToWrite::new(Vec::new(rt.alloc()));
+        assert_eq!(rt; print_line(&mut output, "a line", 0), 1);
+        print_unwritten(output.fault(), &mut errors);
+        assert!(rt; errors.into_inner().as_slice() == err.as_bytes(), "{err}");
+    }
+}
+
+/// Where standard output is written, nothing is told.
+#[test]
+fn standard_output_that_is_written(rt: HostRuntime) {
+    let mut output = Printer::new(Vec::new(rt.alloc()));
+    let mut errors = ToWrite::new(Vec::new(rt.alloc()));
+    assert_eq!(rt; print_line(&mut output, "a line", 0), 0);
+    print_unwritten(output.fault(), &mut errors);
+    assert!(rt; errors.into_inner().is_empty());
 }
