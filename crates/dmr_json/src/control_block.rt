@@ -1,6 +1,6 @@
 //! What an object has of a control signalling block.
 use crate::values::Hex;
-use dmr_csbk::{BsDownAct, Csbk, Preamble};
+use dmr_csbk::{BsDownAct, ControlMeaning, Csbk, Preamble};
 use std::fmt;
 
 /// A control signalling block: opcode, feature set and its eight octets, and what these mean of the blocks that a listing names.
@@ -39,20 +39,18 @@ impl fmt::Display for ActivationObject {
 
 /// The key for what a block means, where it has a meaning here.
 #[derive(Drop)]
-struct MeaningKey(Csbk);
+struct MeaningKey(ControlMeaning);
 
 impl fmt::Display for MeaningKey {
     fn fmt<W: fmt::Write>(&self, f: &mut fmt::Formatter<W>) -> fmt::Result {
-        let block = self.0;
-        if !block.is_standard() {
-            return Ok(());
-        }
-        if let Some(preamble) = block.preamble() {
-            return write!(f, ",\"preamble\":{}", PreambleObject(preamble));
-        }
-        match block.down_act() {
-            Some(request) => write!(f, ",\"activation\":{}", ActivationObject(request)),
-            None => Ok(()),
+        match self.0 {
+            ControlMeaning::BsDownAct(request) => {
+                write!(f, ",\"activation\":{}", ActivationObject(request))
+            }
+            ControlMeaning::Preamble(preamble) => {
+                write!(f, ",\"preamble\":{}", PreambleObject(preamble))
+            }
+            ControlMeaning::Other => Ok(()),
         }
     }
 }
@@ -61,6 +59,7 @@ impl fmt::Display for ControlBlock {
     fn fmt<W: fmt::Write>(&self, f: &mut fmt::Formatter<W>) -> fmt::Result {
         let block = self.0;
         write!(f, "{{\"opcode\":{},\"fid\":{},", block.code, block.fid)?;
-        write!(f, "\"octets\":{}{}}}", Hex(&block.body), MeaningKey(block))
+        let meaning = MeaningKey(block.meaning());
+        write!(f, "\"octets\":{}{meaning}}}", Hex(&block.body))
     }
 }

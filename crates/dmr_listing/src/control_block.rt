@@ -1,7 +1,7 @@
 //! What a line says of a control signalling block.
 use crate::digits::Digits;
 use crate::way::Way;
-use dmr_csbk::{BsDownAct, Csbk, Preamble};
+use dmr_csbk::{BsDownAct, ControlMeaning, Csbk, Preamble};
 use std::fmt;
 
 /// A control signalling block, printed by its meaning, or as its opcode, its feature set and its octets.
@@ -27,16 +27,16 @@ fn write_preamble<W: fmt::Write>(preamble: &Preamble, f: &mut fmt::Formatter<W>)
 impl fmt::Display for ControlBlock {
     fn fmt<W: fmt::Write>(&self, f: &mut fmt::Formatter<W>) -> fmt::Result {
         let ControlBlock(block) = *self;
-        if block.is_standard() {
-            if let Some(preamble) = block.preamble() {
-                return write_preamble(&preamble, f);
+        match block.meaning() {
+            ControlMeaning::BsDownAct(BsDownAct { bs, source }) => {
+                write!(f, "BS activation by {source} of {bs}")
             }
-            if let Some(BsDownAct { bs, source }) = block.down_act() {
-                return write!(f, "BS activation by {source} of {bs}");
+            ControlMeaning::Preamble(preamble) => write_preamble(&preamble, f),
+            ControlMeaning::Other => {
+                let Csbk { code, fid, .. } = block;
+                let body = Digits(&block.body);
+                write!(f, "opcode {code}, fid {fid}, {body}")
             }
         }
-        let Csbk { code, fid, .. } = block;
-        let body = Digits(&block.body);
-        write!(f, "opcode {code}, fid {fid}, {body}")
     }
 }
