@@ -1,5 +1,6 @@
 //! What an object has of a data header.
 use dmr_data::{Confirmed, Header, Response, ShortData, Status, Unconfirmed};
+use dmr_listing::Way;
 use std::fmt;
 
 /// A data header: the number of its format, who sends to whom, and what its format has.
@@ -8,30 +9,26 @@ pub(crate) struct DataHeader(pub(crate) Header);
 
 /// Whether the destination is a group, and the addresses.
 #[derive(Drop)]
-struct WayKeys {
-    to_group: bool,
-    destination: u32,
-    source: u32,
-}
+struct WayKeys(Way);
 
 impl fmt::Display for WayKeys {
     fn fmt<W: fmt::Write>(&self, f: &mut fmt::Formatter<W>) -> fmt::Result {
-        let group = u8::from(self.to_group);
+        let WayKeys(way) = self;
+        let group = u8::from(way.to_group);
         write!(f, "\"group\":{group},")?;
         write!(
             f,
             "\"target\":{},\"source\":{}",
-            self.destination, self.source
+            way.destination, way.source
         )
     }
 }
 
-fn write_response<W: fmt::Write>(response: &Response, f: &mut fmt::Formatter<W>) -> fmt::Result {
-    let way = WayKeys {
-        to_group: false,
-        destination: response.destination,
-        source: response.source,
-    };
+fn write_response<W: fmt::Write>(
+    way: &WayKeys,
+    response: &Response,
+    f: &mut fmt::Formatter<W>,
+) -> fmt::Result {
     write!(f, "{{\"format\":1,{way},\"sap\":{},", response.sap)?;
     write!(
         f,
@@ -46,35 +43,29 @@ fn write_response<W: fmt::Write>(response: &Response, f: &mut fmt::Formatter<W>)
 }
 
 fn write_unconfirmed<W: fmt::Write>(
+    way: &WayKeys,
     header: &Unconfirmed,
     f: &mut fmt::Formatter<W>,
 ) -> fmt::Result {
-    let way = WayKeys {
-        to_group: header.group,
-        destination: header.destination,
-        source: header.source,
-    };
     write!(f, "{{\"format\":2,{way},\"sap\":{},", header.sap)?;
     write!(f, "\"blocks\":{},\"pad\":{}}}", header.blocks, header.pad)
 }
 
-fn write_confirmed<W: fmt::Write>(header: &Confirmed, f: &mut fmt::Formatter<W>) -> fmt::Result {
-    let way = WayKeys {
-        to_group: header.group,
-        destination: header.destination,
-        source: header.source,
-    };
+fn write_confirmed<W: fmt::Write>(
+    way: &WayKeys,
+    header: &Confirmed,
+    f: &mut fmt::Formatter<W>,
+) -> fmt::Result {
     write!(f, "{{\"format\":3,{way},\"sap\":{},", header.sap)?;
     write!(f, "\"number\":{},", header.number)?;
     write!(f, "\"blocks\":{},\"pad\":{}}}", header.blocks, header.pad)
 }
 
-fn write_short_data<W: fmt::Write>(header: &ShortData, f: &mut fmt::Formatter<W>) -> fmt::Result {
-    let way = WayKeys {
-        to_group: header.group,
-        destination: header.destination,
-        source: header.source,
-    };
+fn write_short_data<W: fmt::Write>(
+    way: &WayKeys,
+    header: &ShortData,
+    f: &mut fmt::Formatter<W>,
+) -> fmt::Result {
     write!(
         f,
         "{{\"format\":13,{way},\"data_format\":{},",
@@ -87,12 +78,11 @@ fn write_short_data<W: fmt::Write>(header: &ShortData, f: &mut fmt::Formatter<W>
     )
 }
 
-fn write_status<W: fmt::Write>(header: &Status, f: &mut fmt::Formatter<W>) -> fmt::Result {
-    let way = WayKeys {
-        to_group: header.group,
-        destination: header.destination,
-        source: header.source,
-    };
+fn write_status<W: fmt::Write>(
+    way: &WayKeys,
+    header: &Status,
+    f: &mut fmt::Formatter<W>,
+) -> fmt::Result {
     write!(
         f,
         "{{\"format\":14,{way},\"source_port\":{},",
@@ -104,12 +94,13 @@ fn write_status<W: fmt::Write>(header: &Status, f: &mut fmt::Formatter<W>) -> fm
 
 impl fmt::Display for DataHeader {
     fn fmt<W: fmt::Write>(&self, f: &mut fmt::Formatter<W>) -> fmt::Result {
+        let way = WayKeys(Way::of_header(&self.0));
         match &self.0 {
-            Header::Response(response) => write_response(response, f),
-            Header::Unconfirmed(header) => write_unconfirmed(header, f),
-            Header::Confirmed(header) => write_confirmed(header, f),
-            Header::ShortData(header) => write_short_data(header, f),
-            Header::Status(status) => write_status(status, f),
+            Header::Response(response) => write_response(&way, response, f),
+            Header::Unconfirmed(header) => write_unconfirmed(&way, header, f),
+            Header::Confirmed(header) => write_confirmed(&way, header, f),
+            Header::ShortData(header) => write_short_data(&way, header, f),
+            Header::Status(status) => write_status(&way, status, f),
         }
     }
 }

@@ -9,4 +9,5 @@ pub mod ReceivedListings
 pub mod Strips
 pub mod Summaries
 pub mod VoicePlace
+pub mod Ways
 pub mod Wrong

@@ -13,12 +13,11 @@ fn blocks(count: u8) -> Counted {
     Counted(usize::from(count), "block")
 }
 
-fn write_response<W: fmt::Write>(response: &Response, f: &mut fmt::Formatter<W>) -> fmt::Result {
-    let way = Way {
-        source: response.source,
-        to_group: false,
-        destination: response.destination,
-    };
+fn write_response<W: fmt::Write>(
+    way: &Way,
+    response: &Response,
+    f: &mut fmt::Formatter<W>,
+) -> fmt::Result {
     let blocks = blocks(response.blocks);
     write!(
         f,
@@ -33,14 +32,10 @@ fn write_response<W: fmt::Write>(response: &Response, f: &mut fmt::Formatter<W>)
 }
 
 fn write_unconfirmed<W: fmt::Write>(
+    way: &Way,
     header: &Unconfirmed,
     f: &mut fmt::Formatter<W>,
 ) -> fmt::Result {
-    let way = Way {
-        source: header.source,
-        to_group: header.group,
-        destination: header.destination,
-    };
     let blocks = blocks(header.blocks);
     write!(
         f,
@@ -49,12 +44,11 @@ fn write_unconfirmed<W: fmt::Write>(
     )
 }
 
-fn write_confirmed<W: fmt::Write>(header: &Confirmed, f: &mut fmt::Formatter<W>) -> fmt::Result {
-    let way = Way {
-        source: header.source,
-        to_group: header.group,
-        destination: header.destination,
-    };
+fn write_confirmed<W: fmt::Write>(
+    way: &Way,
+    header: &Confirmed,
+    f: &mut fmt::Formatter<W>,
+) -> fmt::Result {
     let blocks = blocks(header.blocks);
     write!(
         f,
@@ -63,12 +57,11 @@ fn write_confirmed<W: fmt::Write>(header: &Confirmed, f: &mut fmt::Formatter<W>)
     )
 }
 
-fn write_short_data<W: fmt::Write>(header: &ShortData, f: &mut fmt::Formatter<W>) -> fmt::Result {
-    let way = Way {
-        source: header.source,
-        to_group: header.group,
-        destination: header.destination,
-    };
+fn write_short_data<W: fmt::Write>(
+    way: &Way,
+    header: &ShortData,
+    f: &mut fmt::Formatter<W>,
+) -> fmt::Result {
     let blocks = blocks(header.blocks);
     write!(
         f,
@@ -77,12 +70,11 @@ fn write_short_data<W: fmt::Write>(header: &ShortData, f: &mut fmt::Formatter<W>
     )
 }
 
-fn write_status<W: fmt::Write>(header: &Status, f: &mut fmt::Formatter<W>) -> fmt::Result {
-    let way = Way {
-        source: header.source,
-        to_group: header.group,
-        destination: header.destination,
-    };
+fn write_status<W: fmt::Write>(
+    way: &Way,
+    header: &Status,
+    f: &mut fmt::Formatter<W>,
+) -> fmt::Result {
     write!(
         f,
         "status {way}, port {} -> {}, status {}",
@@ -92,12 +84,13 @@ fn write_status<W: fmt::Write>(header: &Status, f: &mut fmt::Formatter<W>) -> fm
 
 impl fmt::Display for DataHeader {
     fn fmt<W: fmt::Write>(&self, f: &mut fmt::Formatter<W>) -> fmt::Result {
+        let way = Way::of_header(&self.0);
         match &self.0 {
-            Header::Response(response) => write_response(response, f),
-            Header::Unconfirmed(header) => write_unconfirmed(header, f),
-            Header::Confirmed(header) => write_confirmed(header, f),
-            Header::ShortData(header) => write_short_data(header, f),
-            Header::Status(status) => write_status(status, f),
+            Header::Response(response) => write_response(&way, response, f),
+            Header::Unconfirmed(header) => write_unconfirmed(&way, header, f),
+            Header::Confirmed(header) => write_confirmed(&way, header, f),
+            Header::ShortData(header) => write_short_data(&way, header, f),
+            Header::Status(status) => write_status(&way, status, f),
         }
     }
 }

@@ -1,4 +1,7 @@
 //! What a line says of octets that may be a datagram.
+ghost use Rattle.std.specs.Prelude.{◌≡◌, drop, take};
+ghost use Rattle.dmr_ip.specs.Datagram.{number_at};
+
 use crate::counted::Counted;
 use crate::digits::Digits;
 use byteorder::{BigEndian, ByteOrder};
@@ -17,7 +20,12 @@ struct End {
 }
 
 /// Where a datagram goes from and where to. RFC 791 and RFC 768.
-fn ends_of(datagram: &Datagram) -> (End, End) {
+fn ends_of(datagram: &Datagram) -> (End, End)
+    ensures source { result.0.address ≡ take 4 (drop 12 datagram.now) }
+    ensures source_port { result.0.port ≡ number_at datagram.now 20 }
+    ensures destination { result.1.address ≡ take 4 (drop 16 datagram.now) }
+    ensures destination_port { result.1.port ≡ number_at datagram.now 22 }
+{
     let octets = datagram.octets();
     let source = End {
         address: [octets[12], octets[13], octets[14], octets[15]],

@@ -68,4 +68,5 @@ pub use strip::{Strip, StripLine};
 pub use strips::{StripLines, strip_recording};
 pub use summary::{BurstCounts, RecordingSummary};
 pub use voice_place::{VoicePlace, VoicePlaces};
+pub use way::Way;
 pub use wrong::Wrong;

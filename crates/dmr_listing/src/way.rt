@@ -1,13 +1,41 @@
 //! From whom something is, and to whom.
+use dmr_data::Header;
 use std::fmt;
 
 /// The addresses of a sender and of whom it sends to.
 #[derive(Clone, Copy, Drop)]
-pub(crate) struct Way {
-    pub(crate) source: u32,
+pub struct Way {
+    /// The address of the sender, of 24 bits.
+    pub source: u32,
     /// The destination is a talk group; else it is a radio.
-    pub(crate) to_group: bool,
-    pub(crate) destination: u32,
+    pub to_group: bool,
+    /// The address of the destination, of 24 bits.
+    pub destination: u32,
+}
+
+impl Way {
+    ghost use Rattle.std.specs.Prelude.{◌≡◌};
+    ghost use Rattle.dmr_listing.specs.Ways.{target_of, is_to_group, source_of};
+
+    /// Who sends a data header to whom. A response goes to a radio.
+    pub fn of_header(header: &Header) -> Way
+        ensures source { result.source ≡ source_of header.now }
+        ensures to_group { result.to_group ≡ is_to_group header.now }
+        ensures destination { result.destination ≡ target_of header.now }
+    {
+        let (source, to_group, destination) = match *header {
+            Header::Response(response) => (response.source, false, response.destination),
+            Header::Unconfirmed(header) => (header.source, header.group, header.destination),
+            Header::Confirmed(header) => (header.source, header.group, header.destination),
+            Header::ShortData(header) => (header.source, header.group, header.destination),
+            Header::Status(status) => (status.source, status.group, status.destination),
+        };
+        Way {
+            source,
+            to_group,
+            destination,
+        }
+    }
 }
 
 /// What stands before the number of a group.

@@ -1,7 +1,8 @@
 //! A file, shown.
-ghost use Rattle.std.specs.Prelude.{◌≡◌, ◌≤◌, ◌⊎◌, false, true, length, IfOk, IfErr, OnOk};
+ghost use Rattle.std.specs.Prelude.{◌≡◌, ◌≤◌, ◌⊎◌, false, true, codes, length, IfOk, IfErr, OnOk};
+ghost use Rattle.std.specs.Io.KnownBytes.{Appends};
 ghost use Rattle.dmr_recording.specs.Endings.{IfFile, IfNotWritten};
-ghost use Rattle.dmr_lines.specs.Line.{PutsError};
+ghost use Rattle.dmr_lines.specs.Line.{PutsError, error_octets, first_line};
 ghost use Rattle.dmr_lines.specs.Status.{failure, success};
 ghost use Rattle.dmr_show.specs.Showing.{BeginsWithStrip, IsAtFault, IsShownInPart, IsShownWhole, IsWithoutStrip, TellsFault};
 
@@ -50,6 +51,7 @@ fn show_to<S: Source, K: Sink>(
 fn tell<E: Sink>(err: &mut E, what: &str)
     requires err { E.has_failed err.old ≡ false }
     ensures error { E.has_failed err.new ≡ false → PutsError (E.held err.old) (E.held err.new) }
+    ensures text { E.has_failed err.new ≡ false → Appends (E.held err.old) (E.held err.new) (error_octets (first_line what.now)) }
 {
     let _failure = print_error(err, line_of(what), FAILURE);
 }
@@ -58,6 +60,7 @@ fn tell<E: Sink>(err: &mut E, what: &str)
 pub fn print_want_of_memory<E: Sink>(err: &mut E)
     requires err { E.has_failed err.old ≡ false }
     ensures error { E.has_failed err.new ≡ false → PutsError (E.held err.old) (E.held err.new) }
+    ensures text { E.has_failed err.new ≡ false → Appends (E.held err.old) (E.held err.new) (error_octets (codes "out of memory")) }
 {
     tell(err, "out of memory");
 }
