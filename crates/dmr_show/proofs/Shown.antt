@@ -1,5 +1,6 @@
 -- What is shown of the files that were read.
-use Rattle.std.proofs.Common.{◌≡◌, ℕ, ◌+◌, ◌*◌, ◌⊎◌, List, [], ◌∷◌, length, map, Option, refl, sym, ap, ◌∙◌, subst, arith, inl, inr}
+use Rattle.std.proofs.Common.{◌≡◌, ℕ, ◌+◌, ◌*◌, ◌⊎◌, Bool, true, false, List, [], ◌∷◌, length, map, Option, refl, sym, ap}
+use Rattle.std.proofs.Common.{◌∙◌, subst, arith, inl, inr}
 use Rattle.std.proofs.lemmas.List.Sums.{sum_by-cons}
 use Rattle.std.specs.List.{sum_by}
 use Rattle.dmr_listing.proofs.Listings.{lines_placed}
@@ -7,7 +8,7 @@ use Rattle.dmr_listing.specs.ListingRules as recording
 use Rattle.dmr_listing.specs.OutgoingListings as outgoing
 use Rattle.dmr_listing.specs.ReceivedListings as received
 use Rattle.dmr_recording.specs.Recordings.{RecordedSlot}
-use Rattle.dmr_recording.specs.Endings.{IfFile}
+use Rattle.dmr_recording.specs.Endings.{IfFile, IfNotWritten}
 use Rattle.dmr_listing.specs.Strips.{AreStrips, IsStripped, IsStrippedUpToFault, Picture, shown_marks}
 use Rattle.dmr_listing.specs.declared.frames.Frames.{Frames}
 use Rattle.dmr_recording.specs.declared.stop.Stop.{Stop}
@@ -26,12 +27,13 @@ use Rattle.dmr_record.specs.Received.{Receipt}
 use Rattle.dmr_record.specs.declared.head.FileFormat.{FileFormat}
 use Rattle.dmr_record.specs.declared.head.FileFormat.TheVariants as format
 use Rattle.dmr_record.specs.declared.outgoing.Outgoing.{Outgoing}
-use Rattle.dmr_show.proofs.Printed.{held_alone, printed_in_turn, puts_as, puts_flushed, puts_more, puts_one}
+use Rattle.dmr_show.proofs.Printed.{held_alone, printed_in_turn, puts_as, puts_flushed, puts_more, puts_none, puts_one}
 use Rattle.dmr_show.specs.Printed.{HasLines, PutsLines, frames_of, lines_around, lines_at, lines_of_strip}
 use Rattle.dmr_show.specs.Records.{Records, Slots, Sendings, Receipts, place_of_outgoing, place_of_receipt, place_of_sending}
 use Rattle.dmr_show.specs.Records.{places_of}
 use Rattle.dmr_show.specs.Showing.{IsFileRead, IsFileReadUpToFault, IsRecordingRead, IsRestShown, IsRestShownUpToFault, format_of}
-use Rattle.dmr_show.specs.Showing.{IsAtFault, IsShownWhole, IsWithoutStrip}
+use Rattle.dmr_show.specs.Showing.{HaveFailed, HaveFailedAt, IsAtFault, IsShown, IsShownWhole, IsWithoutStrip, has_strip}
+use Rattle.dmr_record.specs.Faults.{is_device_fault}
 use Rattle.dmr_show.specs.declared.file_summary.FileSummary.{FileSummary}
 use Rattle.dmr_show.specs.declared.form.Form.{Form}
 use Rattle.dmr_show.specs.Held.{held_by}
@@ -324,7 +326,7 @@ fault_shown asked filter of fault a b c h k head rest = inr (record {
 })
 
 -- what waited was written
-pub whole_flushed : (asked : Form) (filter : Filter) (a b h j k : Option (List ℕ)) (w : List ℕ)
+whole_flushed : (asked : Form) (filter : Filter) (a b h j k : Option (List ℕ)) (w : List ℕ)
     → IsShownWhole asked filter a b h (held_by j w) → Appends j k w → IsShownWhole asked filter a b h k
 whole_flushed asked filter a b h j k w shown flushed = record {
   records = shown.records;
@@ -335,7 +337,7 @@ whole_flushed asked filter a b h j k w shown flushed = record {
   put = puts_flushed _ h j k w shown.put flushed;
 }
 
-pub fault_flushed : (asked : Form) (filter : Filter) (fault : FaultLine) (a b h j k : Option (List ℕ)) (w : List ℕ)
+fault_flushed : (asked : Form) (filter : Filter) (fault : FaultLine) (a b h j k : Option (List ℕ)) (w : List ℕ)
     → IsAtFault asked filter fault a b h (held_by j w) → Appends j k w → IsAtFault asked filter fault a b h k
 fault_flushed asked filter fault a b h j k w (inl alone) flushed =
     inl (record { head = alone.head; put = puts_flushed 0 h j k w alone.put flushed })
@@ -347,25 +349,36 @@ fault_flushed asked filter fault a b h j k w (inr shown) flushed = inr (record {
   put = puts_flushed _ h j k w shown.put flushed;
 })
 
-pub none_flushed : (asked : Form) (a h j k : Option (List ℕ)) (w : List ℕ) → IsWithoutStrip asked a h (held_by j w)
+none_flushed : (asked : Form) (a h j k : Option (List ℕ)) (w : List ℕ) → IsWithoutStrip asked a h (held_by j w)
     → Appends j k w → IsWithoutStrip asked a h k
 none_flushed asked a h j k w shown flushed =
     record { strip = shown.strip; list = shown.list; put = puts_flushed 0 h j k w shown.put flushed }
 
+pub shown_flushed : (r : Result Shown Stop) (asked : Form) (filter : Filter) (a b h j k : Option (List ℕ)) (w : List ℕ)
+    → IsShown asked filter r a b h (held_by j w) → Appends j k w → IsShown asked filter r a b h k
+shown_flushed (Ok Whole) asked filter a b h j k w shown flushed =
+    (whole_flushed asked filter a b h j k w shown.0 flushed, shown.1)
+shown_flushed (Ok NoStrip) asked filter a b h j k w shown flushed = none_flushed asked a h j k w shown flushed
+shown_flushed (Err (File fault)) asked filter a b h j k w shown flushed =
+    fault_flushed asked filter fault a b h j k w shown flushed
+shown_flushed (Err Output) asked filter a b h j k w shown flushed = tt
+
 -- nothing waited before it
-pub whole_begun : (asked : Form) (filter : Filter) (a b h k : Option (List ℕ)) (w : List ℕ) → w ≡ []
-    → IsShownWhole asked filter a b (held_by h w) k → IsShownWhole asked filter a b h k
-whole_begun asked filter a b h k w none shown =
-    subst (λ l. IsShownWhole asked filter a b l k) (held_alone h w none) shown
+pub shown_begun : (r : Result Shown Stop) (asked : Form) (filter : Filter) (a b h k : Option (List ℕ)) (w : List ℕ) → w ≡ []
+    → IsShown asked filter r a b (held_by h w) k → IsShown asked filter r a b h k
+shown_begun r asked filter a b h k w none shown = subst (λ l. IsShown asked filter r a b l k) (held_alone h w none) shown
 
-pub fault_begun : (asked : Form) (filter : Filter) (fault : FaultLine) (a b h k : Option (List ℕ)) (w : List ℕ) → w ≡ []
-    → IsAtFault asked filter fault a b (held_by h w) k → IsAtFault asked filter fault a b h k
-fault_begun asked filter fault a b h k w none shown =
-    subst (λ l. IsAtFault asked filter fault a b l k) (held_alone h w none) shown
+-- ---- which device has failed
+pub failed_at : (e : Stop) (source sink : Bool) → IfFile e (λ fault. source ≡ is_device_fault fault.fault)
+    → IfNotWritten e (sink ≡ true) → IfFile e (λ fault. sink ≡ false) → HaveFailedAt e source sink
+failed_at (File fault) source sink of_source of_sink others = (of_source, others)
+failed_at Output source sink of_source of_sink others = of_sink
 
-pub none_begun : (asked : Form) (a h k : Option (List ℕ)) (w : List ℕ) → w ≡ [] → IsWithoutStrip asked a (held_by h w) k
-    → IsWithoutStrip asked a h k
-none_begun asked a h k w none shown = subst (λ l. IsWithoutStrip asked a l k) (held_alone h w none) shown
+pub failed_of : {T : Type 0} (r : Result T Stop) (source sink before : Bool)
+    → IfErr r (λ e. IfFile e (λ fault. source ≡ is_device_fault fault.fault)) → IfErr r (λ e. IfNotWritten e (sink ≡ true))
+    → IfErr r (λ e. IfFile e (λ fault. sink ≡ false)) → OnOk r ((before ≡ false) × (sink ≡ false)) → HaveFailed r source sink
+failed_of (Ok x) source sink before of_source of_sink others well = well.1
+failed_of (Err e) source sink before of_source of_sink others well = failed_at e source sink of_source of_sink others
 
 -- where a form is no strip, it has the lines of a listing
 lines_as : (asked : Form) (filter : Filter) (records : Records) (count : ℕ) → (asked ≡ form.Strip → ⊥)
@@ -383,43 +396,29 @@ pub no_strip : (asked : Form) → (asked ≡ form.Listing) ⊎ (asked ≡ form.J
 no_strip asked (inl listing) strip = cc
 no_strip asked (inr json) strip = cc
 
--- a form that is no strip tells nothing of one
-pub no_strip_asked : (r : Result Shown Stop) (asked : Form) (P : Type 0) → (asked ≡ form.Strip → ⊥)
-    → IfOk r (λ shown. shown ≡ Whole → asked ≡ form.Strip → P)
-no_strip_asked (Ok x) asked P listing = λ whole strip. absurd (listing strip)
-no_strip_asked (Err e) asked P listing = tt
-
--- what is shown whole isn't left without a strip
-pub whole_alone : (r : Result Shown Stop) (P : Type 0) → IfOk r (λ shown. shown ≡ Whole)
-    → IfOk r (λ shown. shown ≡ NoStrip → P)
-whole_alone (Ok x) P whole = λ none. cc
-whole_alone (Err e) P whole = tt
-
 -- a file in a form that is no strip
 pub file_listed : (r : Result Shown Stop) (asked : Form) (filter : Filter) (of : FileFormat) (a b c h k : Option (List ℕ))
     → (asked ≡ form.Strip → ⊥) → Consumes a b (head_octets (magic_of of))
     → OnOk r ((summary : FileSummary) × IsRestShown form.Listing filter of summary 1 1 b c h k) → OnOk r (IsAtEnd c)
-    → IfOk r (λ shown. shown ≡ Whole → IsShownWhole asked filter a c h k)
-file_listed (Ok x) asked filter of a b c h k listing head (summary, rest) end = λ whole.
-    whole_shown asked filter of a b c h k head (
-      summary,
-      record {
-        records = rest.records;
-        read = rest.read;
-        count = rest.count;
-        lines = lines_as asked filter rest.records rest.count listing rest.lines;
-        put = subst (λ n. PutsLines (n + rest.count + n) h k) (around_as asked listing) rest.put;
-      },
-    ) end
-file_listed (Err e) asked filter of a b c h k listing head rest end = tt
-
-pub file_listed_up_to_fault : (r : Result Shown Stop) (asked : Form) (filter : Filter) (of : FileFormat)
-    (a b c h k : Option (List ℕ)) → (asked ≡ form.Strip → ⊥) → Consumes a b (head_octets (magic_of of))
+    → IfOk r (λ shown. shown ≡ Whole)
     → IfErr r (λ e. IfFile e (λ fault. IsRestShownUpToFault form.Listing filter of fault 1 b c h k))
-    → IfErr r (λ e. IfFile e (λ fault. IsAtFault asked filter fault a c h k))
-file_listed_up_to_fault (Ok x) asked filter of a b c h k listing head rest = tt
-file_listed_up_to_fault (Err Output) asked filter of a b c h k listing head rest = tt
-file_listed_up_to_fault (Err (File fault)) asked filter of a b c h k listing head rest =
+    → IsShown asked filter r a c h k
+file_listed (Ok Whole) asked filter of a b c h k listing head (summary, rest) end whole fault = (
+  whole_shown asked filter of a b c h k head (
+    summary,
+    record {
+      records = rest.records;
+      read = rest.read;
+      count = rest.count;
+      lines = lines_as asked filter rest.records rest.count listing rest.lines;
+      put = subst (λ n. PutsLines (n + rest.count + n) h k) (around_as asked listing) rest.put;
+    },
+  ) end,
+  λ strip. absurd (listing strip),
+)
+file_listed (Ok NoStrip) asked filter of a b c h k listing head rest end whole fault = cc
+file_listed (Err Output) asked filter of a b c h k listing head rest end whole fault = tt
+file_listed (Err (File fault)) asked filter of a b c h k listing head whole_rest end whole rest =
     fault_shown asked filter of fault a b c h k head (record {
       records = rest.records;
       read = rest.read;
@@ -429,22 +428,26 @@ file_listed_up_to_fault (Err (File fault)) asked filter of a b c h k listing hea
     })
 
 -- the strip of a file
-pub file_stripped : (r : Result Shown Stop) (asked : Form) (filter : Filter) (of : FileFormat) (a b c h k : Option (List ℕ))
-    → asked ≡ form.Strip → Consumes a b (head_octets (magic_of of))
-    → IfOk r (λ shown. shown ≡ Whole → (summary : FileSummary) × IsRestShown form.Strip filter of summary 0 0 b c h k)
-    → IfOk r (λ shown. shown ≡ Whole → IsAtEnd c)
-    → IfOk r (λ shown. shown ≡ Whole → IsShownWhole asked filter a c h k)
-file_stripped (Ok x) asked filter of a b c h k strip head rest end = λ whole.
-    subst (λ f. IsShownWhole f filter a c h k) (sym strip)
-    (whole_shown form.Strip filter of a b c h k head (rest whole) (end whole))
-file_stripped (Err e) asked filter of a b c h k strip head rest end = tt
-
-pub file_stripped_up_to_fault : (r : Result Shown Stop) (asked : Form) (filter : Filter) (of : FileFormat)
-    (a b c h k : Option (List ℕ)) → asked ≡ form.Strip → Consumes a b (head_octets (magic_of of))
-    → IfErr r (λ e. IfFile e (λ fault. IsRestShownUpToFault form.Strip filter of fault 0 b c h k))
-    → IfErr r (λ e. IfFile e (λ fault. IsAtFault asked filter fault a c h k))
-file_stripped_up_to_fault (Ok x) asked filter of a b c h k strip head rest = tt
-file_stripped_up_to_fault (Err Output) asked filter of a b c h k strip head rest = tt
-file_stripped_up_to_fault (Err (File fault)) asked filter of a b c h k strip head rest =
-    subst (λ f. IsAtFault f filter fault a c h k) (sym strip)
-    (fault_shown form.Strip filter of fault a b c h k head rest)
+pub file_stripped : {L : Type 0} (r : Result Shown Stop) (asked : Form) (filter : Filter) (of : FileFormat)
+    (a b c : Option (List ℕ)) (old new : L) (held_of : L → Option (List ℕ)) → asked ≡ form.Strip
+    → Consumes a b (head_octets (magic_of of))
+    → IfOk r (λ shown. shown ≡ Whole → (summary : FileSummary)
+    × IsRestShown form.Strip filter of summary 0 0 b c (held_of old) (held_of new))
+    → IfOk r (λ shown. shown ≡ Whole → IsAtEnd c) → IfOk r (λ shown. shown ≡ Whole → has_strip of ≡ true)
+    → IfOk r (λ shown. shown ≡ NoStrip → has_strip of ≡ false) → IfOk r (λ shown. shown ≡ NoStrip → new ≡ old)
+    → IfErr r (λ e. IfFile e (λ fault. IsRestShownUpToFault form.Strip filter of fault 0 b c (held_of old) (held_of new)))
+    → IsShown asked filter r a c (held_of old) (held_of new)
+file_stripped (Ok Whole) asked filter of a b c old new held_of strip head rest end has none untouched fault = (
+  subst (λ f. IsShownWhole f filter a c (held_of old) (held_of new)) (sym strip)
+      (whole_shown form.Strip filter of a b c (held_of old) (held_of new) head (rest refl) (end refl)),
+  λ asks. (of, b, head, has refl),
+)
+file_stripped (Ok NoStrip) asked filter of a b c old new held_of strip head rest end has none untouched fault = record {
+  strip = strip;
+  list = (of, b, head, none refl);
+  put = subst (λ l. PutsLines 0 (held_of old) (held_of l)) (sym (untouched refl)) (puts_none (held_of old));
+}
+file_stripped (Err Output) asked filter of a b c old new held_of strip head rest end has none untouched fault = tt
+file_stripped (Err (File f)) asked filter of a b c old new held_of strip head rest end has none untouched fault =
+    subst (λ g. IsAtFault g filter f a c (held_of old) (held_of new)) (sym strip)
+    (fault_shown form.Strip filter of f a b c (held_of old) (held_of new) head fault)

@@ -1,5 +1,5 @@
 -- What was read of a file that was shown.
-use Rattle.std.specs.Prelude.{◌≡◌, ◌+◌, ◌*◌, ◌⊎◌, ℕ, Bool, false, true, List, [], Option, None, length}
+use Rattle.std.specs.Prelude.{◌≡◌, ◌+◌, ◌*◌, ◌⊎◌, ℕ, Bool, false, true, List, [], Option, None, Result, Ok, Err, length}
 use Rattle.std.specs.Io.KnownBytes.{Consumes, IsAtEnd}
 use Rattle.dmr_listing.specs.ListingRules as recording
 use Rattle.dmr_listing.specs.OutgoingListings as outgoing
@@ -8,6 +8,9 @@ use Rattle.dmr_recording.specs.Recordings.{RecordedSlot}
 use Rattle.dmr_listing.specs.declared.burst_line.BurstLine.{BurstLine}
 use Rattle.dmr_recording.specs.declared.fault_line.FaultLine.{FaultLine}
 use Rattle.dmr_recording.specs.declared.recording.Recording.{Recording}
+use Rattle.dmr_recording.specs.declared.stop.Stop.{Stop}
+use Rattle.dmr_recording.specs.declared.stop.Stop.TheVariants.{File, Output}
+use Rattle.dmr_record.specs.Faults.{is_device_fault}
 use Rattle.dmr_recording.specs.declared.recording.Recording.TheVariants as kind
 use Rattle.dmr_listing.specs.declared.summary.RecordingSummary.{RecordingSummary}
 use Rattle.dmr_record.specs.Head.{head_octets, magic_of, ShowsAnyHeadFault}
@@ -19,6 +22,8 @@ use Rattle.dmr_lines.specs.Line.{PutsError}
 use Rattle.dmr_lines.specs.Status.{failure}
 use Rattle.dmr_show.specs.Printed.{HasLines, PutsLines, lines_around}
 use Rattle.dmr_show.specs.Records.{Records, Slots, Sendings, Receipts}
+use Rattle.dmr_show.specs.declared.file_listing.Shown.{Shown}
+use Rattle.dmr_show.specs.declared.file_listing.Shown.TheVariants.{NoStrip, Whole}
 use Rattle.dmr_show.specs.declared.file_summary.FileSummary.{FileSummary}
 use Rattle.dmr_show.specs.declared.file_summary.FileSummary.TheVariants.{OfRecording, OfList}
 use Rattle.dmr_show.specs.declared.filter.Filter.{Filter}
@@ -137,6 +142,17 @@ IsAtFault form filter fault left_old left_new held_old held_new =
     IsHeadFaultAlone fault left_old left_new held_old held_new
     ⊎ IsShownUpToFault form filter fault left_old left_new held_old held_new
 
+-- Which device has failed where a listing ended early: the source, where that is the fault of the file, or the sink, where a line
+-- couldn't be put.
+abbrev pub HaveFailedAt : Stop → (source sink : Bool) → Type 0
+HaveFailedAt (File fault) source sink = (source ≡ is_device_fault fault.fault) × (sink ≡ false)
+HaveFailedAt Output source sink = sink ≡ true
+
+-- Which device has failed, by how a listing ended: no sink where it ended well.
+abbrev pub HaveFailed : {T : Type 0} → Result T Stop → (source sink : Bool) → Type 0
+HaveFailed (Ok x) source sink = sink ≡ false
+HaveFailed (Err e) source sink = HaveFailedAt e source sink
+
 -- A fault is told: behind what is listed, a line of error goes to the other sink.
 pub record TellsFault (status : ℕ) (out_failed err_failed : Bool) (held_old held_new : Option (List ℕ)) : Type 0 where
   pub ends : status ≡ failure
@@ -173,3 +189,13 @@ IsShownInPart form filter left_old left_new held_old held_new =
     IsUntouched left_old left_new held_old held_new
     ⊎ (IsWithoutStrip form left_old held_old held_new
     ⊎ ((fault : FaultLine) × IsAtFault form filter fault left_old left_new held_old held_new))
+
+-- What is shown of a file, by how that ended: all of it; nothing, since a list has no strip; or what stands before a fault. Where a
+-- line couldn't be put, nothing is said.
+abbrev pub IsShown : Form → Filter → Result Shown Stop → (left_old left_new held_old held_new : Option (List ℕ)) → Type 0
+IsShown asked filter (Ok Whole) left_old left_new held_old held_new =
+    IsShownWhole asked filter left_old left_new held_old held_new × (asked ≡ form.Strip → BeginsWithStrip true left_old)
+IsShown asked filter (Ok NoStrip) left_old left_new held_old held_new = IsWithoutStrip asked left_old held_old held_new
+IsShown asked filter (Err (File fault)) left_old left_new held_old held_new =
+    IsAtFault asked filter fault left_old left_new held_old held_new
+IsShown asked filter (Err Output) left_old left_new held_old held_new = Unit {0}

@@ -1,12 +1,11 @@
 //! A listing of a whole file, head and all.
 ghost use Rattle.std.specs.Prelude.{◌≡◌, ◌≤◌, true, false, None, length, IfOk, IfErr, OnOk};
 ghost use Rattle.std.specs.Io.KnownBytes.{IsAtEnd};
-ghost use Rattle.dmr_record.specs.Faults.{is_of_end, is_device_fault};
-ghost use Rattle.dmr_recording.specs.Endings.{IfFile, IfNotWritten};
+ghost use Rattle.dmr_record.specs.Faults.{is_of_end};
+ghost use Rattle.dmr_recording.specs.Endings.{IfFile};
 ghost use Rattle.dmr_show.specs.Forms.{notation_of};
 ghost use Rattle.dmr_show.specs.Held.{held_by};
-ghost use Rattle.dmr_show.specs.Showing.{BeginsWithStrip, IsAtFault, IsRestShown, IsRestShownUpToFault, IsShownWhole};
-ghost use Rattle.dmr_show.specs.Showing.{IsWithoutStrip, format_of, has_strip};
+ghost use Rattle.dmr_show.specs.Showing.{HaveFailed, IsRestShown, IsRestShownUpToFault, IsShown, format_of, has_strip};
 ghost use Rattle.dmr_show.specs.declared.file_summary.FileSummary.{FileSummary as Summary};
 ghost use Rattle.dmr_show.specs.declared.file_summary.FileSummary.TheVariants.{OfRecording};
 
@@ -50,10 +49,7 @@ fn list_behind<S: Source, K: Sink>(
         (S.left source.old) (S.left source.new)
         (held_by (K.held lines.old.sink.now) lines.old.waiting) (held_by (K.held lines.new.sink.now) lines.new.waiting))) }
     ensures cut { IfErr result (λ e. IfFile e (λ fault. is_of_end fault.fault ≡ true → IsAtEnd (S.left source.new))) }
-    ensures source { IfErr result (λ e. IfFile e (λ fault. S.has_failed source.new ≡ is_device_fault fault.fault)) }
-    ensures output { IfErr result (λ e. IfNotWritten e (K.has_failed lines.new.sink.now ≡ true)) }
-    ensures others { IfErr result (λ e. IfFile e (λ fault. K.has_failed lines.new.sink.now ≡ false)) }
-    ensures well { OnOk result (K.has_failed lines.new.sink.now ≡ false) }
+    ensures failed { HaveFailed result (S.has_failed source.new) (K.has_failed lines.new.sink.now) }
     ensures same_sink { lines.new.sink.ghost_name ≡ lines.old.sink.ghost_name }
 {
     match format {
@@ -104,10 +100,7 @@ fn list_rest<S: Source, K: Sink>(
         (S.left source.old) (S.left source.new)
         (held_by (K.held lines.old.sink.now) lines.old.waiting) (held_by (K.held lines.new.sink.now) lines.new.waiting))) }
     ensures cut { IfErr result (λ e. IfFile e (λ fault. is_of_end fault.fault ≡ true → IsAtEnd (S.left source.new))) }
-    ensures source { IfErr result (λ e. IfFile e (λ fault. S.has_failed source.new ≡ is_device_fault fault.fault)) }
-    ensures output { IfErr result (λ e. IfNotWritten e (K.has_failed lines.new.sink.now ≡ true)) }
-    ensures others { IfErr result (λ e. IfFile e (λ fault. K.has_failed lines.new.sink.now ≡ false)) }
-    ensures well { OnOk result (K.has_failed lines.new.sink.now ≡ false) }
+    ensures failed { HaveFailed result (S.has_failed source.new) (K.has_failed lines.new.sink.now) }
     ensures same_sink { lines.new.sink.ghost_name ≡ lines.old.sink.ghost_name }
 {
     if lines.begin(format).is_err() {
@@ -137,10 +130,7 @@ fn strip_behind<S: Source, K: Sink>(
         (S.left source.old) (S.left source.new)
         (held_by (K.held lines.old.sink.now) lines.old.waiting) (held_by (K.held lines.new.sink.now) lines.new.waiting))) }
     ensures cut { IfErr result (λ e. IfFile e (λ fault. is_of_end fault.fault ≡ true → IsAtEnd (S.left source.new))) }
-    ensures source { IfErr result (λ e. IfFile e (λ fault. S.has_failed source.new ≡ is_device_fault fault.fault)) }
-    ensures output { IfErr result (λ e. IfNotWritten e (K.has_failed lines.new.sink.now ≡ true)) }
-    ensures others { IfErr result (λ e. IfFile e (λ fault. K.has_failed lines.new.sink.now ≡ false)) }
-    ensures well { OnOk result (K.has_failed lines.new.sink.now ≡ false) }
+    ensures failed { HaveFailed result (S.has_failed source.new) (K.has_failed lines.new.sink.now) }
     ensures same_sink { lines.new.sink.ghost_name ≡ lines.old.sink.ghost_name }
 {
     let frames = lines.frames();
@@ -167,10 +157,7 @@ fn strip_rest<S: Source, K: Sink>(
         (S.left source.old) (S.left source.new)
         (held_by (K.held lines.old.sink.now) lines.old.waiting) (held_by (K.held lines.new.sink.now) lines.new.waiting))) }
     ensures cut { IfErr result (λ e. IfFile e (λ fault. is_of_end fault.fault ≡ true → IsAtEnd (S.left source.new))) }
-    ensures source { IfErr result (λ e. IfFile e (λ fault. S.has_failed source.new ≡ is_device_fault fault.fault)) }
-    ensures output { IfErr result (λ e. IfNotWritten e (K.has_failed lines.new.sink.now ≡ true)) }
-    ensures others { IfErr result (λ e. IfFile e (λ fault. K.has_failed lines.new.sink.now ≡ false)) }
-    ensures well { OnOk result (K.has_failed lines.new.sink.now ≡ false) }
+    ensures failed { HaveFailed result (S.has_failed source.new) (K.has_failed lines.new.sink.now) }
     ensures same_sink { lines.new.sink.ghost_name ≡ lines.old.sink.ghost_name }
 {
     match format {
@@ -198,21 +185,11 @@ fn show_file<S: Source, K: Sink>(
     requires lines { K.has_failed lines.old.sink.now ≡ false }
     requires notation { lines.old.notation ≡ notation_of form }
     requires room { 65535 ≤ length room.old }
-    ensures whole { IfOk result (λ shown. shown ≡ Shown.Whole → IsShownWhole form lines.old.filter
-        (S.left source.old) (S.left source.new)
-        (held_by (K.held lines.old.sink.now) lines.old.waiting) (held_by (K.held lines.new.sink.now) lines.new.waiting)) }
-    // A strip is of a recording, and a list alone has none.
-    ensures strip { IfOk result (λ shown. shown ≡ Shown.Whole → form ≡ Form.Strip → BeginsWithStrip true (S.left source.old)) }
-    ensures none { IfOk result (λ shown. shown ≡ Shown.NoStrip → IsWithoutStrip form (S.left source.old)
-        (held_by (K.held lines.old.sink.now) lines.old.waiting) (held_by (K.held lines.new.sink.now) lines.new.waiting)) }
-    ensures fault { IfErr result (λ e. IfFile e (λ fault. IsAtFault form lines.old.filter fault
-        (S.left source.old) (S.left source.new)
-        (held_by (K.held lines.old.sink.now) lines.old.waiting) (held_by (K.held lines.new.sink.now) lines.new.waiting))) }
+    // All of it, with the strip of a recording; no strip of a list; or what stands before a fault.
+    ensures shown { IsShown form lines.old.filter result (S.left source.old) (S.left source.new)
+        (held_by (K.held lines.old.sink.now) lines.old.waiting) (held_by (K.held lines.new.sink.now) lines.new.waiting) }
     ensures cut { IfErr result (λ e. IfFile e (λ fault. is_of_end fault.fault ≡ true → IsAtEnd (S.left source.new))) }
-    ensures source { IfErr result (λ e. IfFile e (λ fault. S.has_failed source.new ≡ is_device_fault fault.fault)) }
-    ensures output { IfErr result (λ e. IfNotWritten e (K.has_failed lines.new.sink.now ≡ true)) }
-    ensures others { IfErr result (λ e. IfFile e (λ fault. K.has_failed lines.new.sink.now ≡ false)) }
-    ensures well { OnOk result (K.has_failed lines.new.sink.now ≡ false) }
+    ensures failed { HaveFailed result (S.has_failed source.new) (K.has_failed lines.new.sink.now) }
     ensures same_sink { lines.new.sink.ghost_name ≡ lines.old.sink.ghost_name }
 {
     let format = match read_any_head(source) {
@@ -226,7 +203,6 @@ fn show_file<S: Source, K: Sink>(
 }
 
 /// Shows a file in this form, and writes all that waits, whether the file is at fault or not, but to no sink that has failed.
-#[tactic(auto, using(crate::proofs::Shown::whole_flushed, crate::proofs::Shown::fault_flushed, crate::proofs::Shown::none_flushed))]
 pub(crate) fn show_all<S: Source, K: Sink>(
     form: Form,
     source: &mut S,
@@ -237,21 +213,10 @@ pub(crate) fn show_all<S: Source, K: Sink>(
     requires lines { K.has_failed lines.old.sink.now ≡ false }
     requires notation { lines.old.notation ≡ notation_of form }
     requires room { 65535 ≤ length room.old }
-    ensures whole { IfOk result (λ shown. shown ≡ Shown.Whole → IsShownWhole form lines.old.filter
-        (S.left source.old) (S.left source.new)
-        (held_by (K.held lines.old.sink.now) lines.old.waiting) (K.held lines.new.sink.now)) }
-    // A strip is of a recording, and a list alone has none.
-    ensures strip { IfOk result (λ shown. shown ≡ Shown.Whole → form ≡ Form.Strip → BeginsWithStrip true (S.left source.old)) }
-    ensures none { IfOk result (λ shown. shown ≡ Shown.NoStrip → IsWithoutStrip form (S.left source.old)
-        (held_by (K.held lines.old.sink.now) lines.old.waiting) (K.held lines.new.sink.now)) }
-    ensures fault { IfErr result (λ e. IfFile e (λ fault. IsAtFault form lines.old.filter fault
-        (S.left source.old) (S.left source.new)
-        (held_by (K.held lines.old.sink.now) lines.old.waiting) (K.held lines.new.sink.now))) }
+    ensures shown { IsShown form lines.old.filter result (S.left source.old) (S.left source.new)
+        (held_by (K.held lines.old.sink.now) lines.old.waiting) (K.held lines.new.sink.now) }
     ensures cut { IfErr result (λ e. IfFile e (λ fault. is_of_end fault.fault ≡ true → IsAtEnd (S.left source.new))) }
-    ensures source { IfErr result (λ e. IfFile e (λ fault. S.has_failed source.new ≡ is_device_fault fault.fault)) }
-    ensures output { IfErr result (λ e. IfNotWritten e (K.has_failed lines.new.sink.now ≡ true)) }
-    ensures others { IfErr result (λ e. IfFile e (λ fault. K.has_failed lines.new.sink.now ≡ false)) }
-    ensures well { OnOk result (K.has_failed lines.new.sink.now ≡ false) }
+    ensures failed { HaveFailed result (S.has_failed source.new) (K.has_failed lines.new.sink.now) }
     ensures same_sink { lines.new.sink.ghost_name ≡ lines.old.sink.ghost_name }
 {
     let shown = show_file(form, source, room, lines);

@@ -1,10 +1,9 @@
 //! A file, shown.
-ghost use Rattle.std.specs.Prelude.{◌≡◌, ◌≤◌, ◌⊎◌, false, true, codes, length, IfOk, IfErr, OnOk};
+ghost use Rattle.std.specs.Prelude.{◌≡◌, ◌≤◌, ◌⊎◌, false, true, codes, length, IfOk};
 ghost use Rattle.std.specs.Io.KnownBytes.{Appends};
-ghost use Rattle.dmr_recording.specs.Endings.{IfFile, IfNotWritten};
 ghost use Rattle.dmr_lines.specs.Line.{PutsError, error_octets, first_line};
 ghost use Rattle.dmr_lines.specs.Status.{failure, success};
-ghost use Rattle.dmr_show.specs.Showing.{BeginsWithStrip, IsAtFault, IsShownInPart, IsShownWhole, IsWithoutStrip, TellsFault};
+ghost use Rattle.dmr_show.specs.Showing.{BeginsWithStrip, HaveFailed, IsShown, IsShownInPart, IsShownWhole, TellsFault};
 
 use crate::file_listing::{Shown, show_all};
 use crate::filter::Filter;
@@ -19,7 +18,7 @@ use std::alloc::{AllocError, Global};
 const LONGEST_LINE: usize = 2 * OCTET_LIMIT + 200;
 
 /// Prints a file in a form to a sink, which has all that was printed once this answers.
-#[tactic(auto, using(crate::proofs::Shown::whole_begun, crate::proofs::Shown::fault_begun, crate::proofs::Shown::none_begun))]
+#[tactic(auto, using(crate::proofs::Shown::shown_begun))]
 fn show_to<S: Source, K: Sink>(
     form: Form,
     source: &mut S,
@@ -32,16 +31,8 @@ fn show_to<S: Source, K: Sink>(
     requires source { S.has_failed source.old ≡ false }
     requires out { K.has_failed out.old ≡ false }
     requires room { 65535 ≤ length room.old }
-    ensures whole { IfOk result (λ shown. shown ≡ Shown.Whole → IsShownWhole form filter
-        (S.left source.old) (S.left source.new) (K.held out.old) (K.held out.new)) }
-    ensures strip { IfOk result (λ shown. shown ≡ Shown.Whole → form ≡ Form.Strip → BeginsWithStrip true (S.left source.old)) }
-    ensures none { IfOk result (λ shown. shown ≡ Shown.NoStrip
-        → IsWithoutStrip form (S.left source.old) (K.held out.old) (K.held out.new)) }
-    ensures fault { IfErr result (λ e. IfFile e (λ fault. IsAtFault form filter fault
-        (S.left source.old) (S.left source.new) (K.held out.old) (K.held out.new))) }
-    ensures output { IfErr result (λ e. IfNotWritten e (K.has_failed out.new ≡ true)) }
-    ensures others { IfErr result (λ e. IfFile e (λ fault. K.has_failed out.new ≡ false)) }
-    ensures well { OnOk result (K.has_failed out.new ≡ false) }
+    ensures shown { IsShown form filter result (S.left source.old) (S.left source.new) (K.held out.old) (K.held out.new) }
+    ensures failed { HaveFailed result (S.has_failed source.new) (K.has_failed out.new) }
 {
     let mut lines = Lines::new(out, form.notation(), filter, is_live, text);
     show_all(form, source, room, &mut lines)

@@ -1,6 +1,7 @@
 use Rattle.dmr_recording.specs.declared.recording.Recording.TheVariants.{Uplink, Downlink}
 use Rattle.dmr_show.proofs.Shown.{outgoing_shown, outgoing_shown_up_to_fault, received_shown, received_shown_up_to_fault}
 use Rattle.dmr_show.proofs.Shown.{recording_shown, recording_shown_up_to_fault, told}
+use Rattle.dmr_show.proofs.Shown.{failed_at}
 use Rattle.dmr_show.specs.Held.{held_by}
 use Rattle.dmr_show.proofs.file_listing.list_behind.Goals as goal
 
@@ -52,3 +53,19 @@ returns-in-Err-list_received-clause-fault g c = told c.in-Err-list_received.end 
     (λ fault listed.
     rw c.in-Received.is (received_shown_up_to_fault c.args.lines.now c.list_received.new.lines _ (λ l. l.filter)
     (λ l. held_by (g.K.Sink.held l.sink.now) l.waiting) fault _ _ listed (λ a x b t. (t.0, t.2))))
+
+pub returns-in-Err-clause-failed : goal.returns-in-Err-clause-failed
+returns-in-Err-clause-failed g c = failed_at c.in-Err.end _ _ c.in-Err.ensures.source
+    c.in-Err.ensures.lines c.in-Err.ensures.others
+
+pub returns-in-Err-list_recording-clause-failed : goal.returns-in-Err-list_recording-clause-failed
+returns-in-Err-list_recording-clause-failed g c = failed_at c.in-Err-list_recording.end _ _ c.in-Err-list_recording.ensures.source
+    c.in-Err-list_recording.ensures.lines c.in-Err-list_recording.ensures.others
+
+pub returns-in-Err-list_outgoing-clause-failed : goal.returns-in-Err-list_outgoing-clause-failed
+returns-in-Err-list_outgoing-clause-failed g c = failed_at c.in-Err-list_outgoing.end _ _ c.in-Err-list_outgoing.ensures.source
+    c.in-Err-list_outgoing.ensures.lines c.in-Err-list_outgoing.ensures.others
+
+pub returns-in-Err-list_received-clause-failed : goal.returns-in-Err-list_received-clause-failed
+returns-in-Err-list_received-clause-failed g c = failed_at c.in-Err-list_received.end _ _ c.in-Err-list_received.ensures.source
+    c.in-Err-list_received.ensures.lines c.in-Err-list_received.ensures.others
