@@ -8,7 +8,7 @@ use crate::places::Places;
 use clap::{ArgMatches, Error};
 use dmr_files::Place;
 use dmr_gateway::{Config, ConfigFault};
-use dmr_options::{given_text_of, repeating_commands, text_of};
+use dmr_options::{Listed, given_text_of, repeating_commands, text_of};
 use std::alloc::Global;
 use std::convert::AsStr;
 
@@ -130,12 +130,18 @@ fn run_request<'a>(run: &ArgMatches<'a>) -> Request<'a>
 pub(crate) fn request_by<'a>(command: Option<(&'a str, &ArgMatches<'a>)>) -> Request<'a>
     ensures asked { IsAskedBy (option_map (λ c. (c.0.now, found_of c.1.now)) command.entry) result }
 {
-    match command {
-        Some(("run", run)) => run_request(run),
-        Some(("slot", slot)) => Request::Slot(text_of(slot, "burst")),
-        Some((name, _)) => Request::Elsewhere(name),
-        // Not reached, since a command is required. No burst has no digits.
-        None => Request::Slot(""),
+    // Not reached, since a command is required. No burst has no digits.
+    let Some((name, given)) = command else {
+        return Request::Slot("");
+    };
+    // Not reached, since the parser knows no other name.
+    let Some(listed) = Listed::named(name) else {
+        return Request::Elsewhere(name);
+    };
+    match listed {
+        Listed::Run => run_request(given),
+        Listed::Slot => Request::Slot(text_of(given, "burst")),
+        Listed::Show | Listed::Import | Listed::Export => Request::Elsewhere(name),
     }
 }
 

@@ -1,16 +1,14 @@
 -- What is listed goes on, slot by slot.
-use Rattle.std.proofs.Common.{◌≡◌, ℕ, ◌+◌, ◌≤◌, List, [], ◌∷◌, ◌++◌, length, map, Option, None, Some, refl, sym, ap, ◌∙◌, subst}
+use Rattle.std.proofs.Common.{◌≡◌, ℕ, ◌+◌, ◌≤◌, List, [], ◌∷◌, ◌++◌, length, map, Option, None, Some, refl, ap, ◌∙◌, subst}
 use Rattle.std.proofs.Common.{arith, append-nil}
 use Rattle.std.proofs.ByRecursion.{All-push}
-use Rattle.std.proofs.lemmas.List.{length-append}
-use Rattle.std.proofs.lemmas.List.Concat.{flat_map-append}
 use Rattle.std.specs.List.{flat_map}
 use Rattle.std.specs.Io.KnownBytes.{Consumes}
 use Rattle.std.proofs.KnownBytes.{Consumes-trans, Consumes-nil}
 use Rattle.dmr_recording.proofs.Spelled.{spelled_more}
 use Rattle.dmr_listing.specs.ListingRules.{GivenInTurn, IsLineAt, IsListed, IsRead, Lists, ListingTurn, begun, turn_after}
 use Rattle.dmr_listing.specs.ListingRules.{turn_passed}
-use Rattle.dmr_recording.specs.Places.{entries, octet_behind}
+use Rattle.dmr_recording.specs.Places.{entries}
 use Rattle.dmr_recording.specs.declared.place.Place.{Place}
 use Rattle.dmr_recording.specs.Recordings.{IsBurstOf, IsSlotOf, RecordedSlot, slot_limit_of, spelling}
 use Rattle.dmr_listing.specs.declared.burst_line.BurstLine.{BurstLine}

@@ -1,8 +1,8 @@
 -- What a listing of a received list shows: a line for each record, in order, each once.
-use Rattle.std.specs.Prelude.{◌≡◌, ℕ, List, [], ◌∷◌, ◌++◌, Option, Some, None, length}
+use Rattle.std.specs.Prelude.{◌≡◌, ℕ, List, ◌++◌, Option, None, length}
 use Rattle.std.specs.Io.KnownBytes.{Consumes}
 use Rattle.std.specs.List.{AllByRecursion}
-use Rattle.dmr_record.specs.Received.{FollowEachOther, ReceivedFields, IsReadable, Receipt, ShowsReceivedFault, received_fields}
+use Rattle.dmr_record.specs.Received.{FollowEachOther, IsReadable, Receipt, ShowsReceivedFault}
 use Rattle.dmr_record.specs.Received.{last_fields, received_limit}
 use Rattle.dmr_record.specs.Received.{receipt_octets, receipts_octets}
 use Rattle.dmr_recording.specs.Places.{octet_behind}

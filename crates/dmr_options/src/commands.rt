@@ -1,46 +1,66 @@
 //! The commands of `dmrgate`, whichever program has them.
+ghost use Rattle.std.specs.Prelude.{◌≡◌, IfNone, IfSome};
+ghost use Rattle.dmr_options.specs.Commands.{command_name};
+ghost use Rattle.dmr_options.specs.declared.commands.Listed.{Listed};
 
 use crate::texts::VERSION;
 use clap::Command;
 use std::alloc::{AllocError, Global};
 
-/// A command by its name, with its line of help.
-#[derive(Clone, Copy)]
-pub struct Listed {
-    pub name: &'static str,
-    pub about: &'static str,
+/// A command of `dmrgate`. Each program lists all of them, and does those that it has.
+#[derive(Clone, Copy, Drop)]
+pub enum Listed {
+    Run,
+    Slot,
+    Show,
+    Import,
+    Export,
 }
 
 impl Listed {
-    pub const RUN: Listed = Listed {
-        name: "run",
-        about: "Repeats a recording of the uplink into the downlink",
-    };
+    /// The command of a name, if there is one.
+    pub fn named(name: &str) -> Option<Listed>
+        ensures name { IfSome result (λ command. name.now ≡ command_name command) }
+        ensures none { IfNone result ((command : Listed) → name.now ≡ command_name command → ⊥) }
+    {
+        match name {
+            "run" => Some(Listed::Run),
+            "slot" => Some(Listed::Slot),
+            "show" => Some(Listed::Show),
+            "import" => Some(Listed::Import),
+            "export" => Some(Listed::Export),
+            _ => None,
+        }
+    }
 
-    pub const SLOT: Listed = Listed {
-        name: "slot",
-        about: "Says what one burst is",
-    };
+    /// Its name.
+    fn name<'a>(self) -> &'a str
+        ensures name { result.now ≡ command_name self }
+    {
+        match self {
+            Listed::Run => "run",
+            Listed::Slot => "slot",
+            Listed::Show => "show",
+            Listed::Import => "import",
+            Listed::Export => "export",
+        }
+    }
 
-    pub const SHOW: Listed = Listed {
-        name: "show",
-        about: "Lists what a file holds",
-    };
-
-    pub const IMPORT: Listed = Listed {
-        name: "import",
-        about: "Makes a file of a run from another format",
-    };
-
-    pub const EXPORT: Listed = Listed {
-        name: "export",
-        about: "Writes a file of a run in another format",
-    };
+    /// Its line of help.
+    fn about<'a>(self) -> &'a str {
+        match self {
+            Listed::Run => "Repeats a recording of the uplink into the downlink",
+            Listed::Slot => "Says what one burst is",
+            Listed::Show => "Lists what a file holds",
+            Listed::Import => "Makes a file of a run from another format",
+            Listed::Export => "Writes a file of a run in another format",
+        }
+    }
 }
 
 /// A command with its line of help and no options, which is all that a program knows of another program's.
 pub fn bare_command<'a>(alloc: Global, command: Listed) -> Command<'a> {
-    Command::new(alloc, command.name).about(command.about)
+    Command::new(alloc, command.name()).about(command.about())
 }
 
 /// The whole command line of a program, with these commands in the order in which help has them.

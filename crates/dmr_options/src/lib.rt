@@ -1,7 +1,7 @@
 //! The command line of `dmrgate`: its commands, the options of `run` and `slot`, and what its programs share of reading words.
 //!
 //! `dmrgate` is several programs behind one command, so that whoever needs one waits for none of the others. Each program knows
-//! every command by name, with a line of help (`Listed`, `bare_command`), and has the options of its own commands alone. `command`
+//! every command, with a line of help (`Listed`, `bare_command`), and has the options of its own commands alone. `command`
 //! makes a command line of these, for the command line parser. `repeating_commands` is that of the program that repeats; those of
 //! other programs are made of the same pieces (`number`, `frame`, `word`).
 //!

@@ -95,7 +95,7 @@ fn burst<'a>(alloc: Global) -> Arg<'a> {
 fn run_command<'a>(alloc: Global) -> Result<Command<'a>, AllocError> {
     let files = files(alloc)?;
     let settings = settings(alloc)?;
-    bare_command(alloc, Listed::RUN)
+    bare_command(alloc, Listed::Run)
         .after_help(ABOUT_RUNS)
         .args(files)?
         .args(settings)
@@ -103,7 +103,7 @@ fn run_command<'a>(alloc: Global) -> Result<Command<'a>, AllocError> {
 
 /// `slot`, with its burst.
 fn slot_command<'a>(alloc: Global) -> Result<Command<'a>, AllocError> {
-    bare_command(alloc, Listed::SLOT)
+    bare_command(alloc, Listed::Slot)
         .after_help(ABOUT_SLOTS)
         .arg(burst(alloc))
 }
@@ -112,9 +112,9 @@ fn slot_command<'a>(alloc: Global) -> Result<Command<'a>, AllocError> {
 pub fn repeating_commands<'a>(alloc: Global) -> Result<Command<'a>, AllocError> {
     let run = run_command(alloc)?;
     let slot = slot_command(alloc)?;
-    let show = bare_command(alloc, Listed::SHOW);
-    let import = bare_command(alloc, Listed::IMPORT);
-    let export = bare_command(alloc, Listed::EXPORT);
+    let show = bare_command(alloc, Listed::Show);
+    let import = bare_command(alloc, Listed::Import);
+    let export = bare_command(alloc, Listed::Export);
     let commands = vec![in alloc; run, slot, show, import, export]?;
     command(alloc, commands)
 }

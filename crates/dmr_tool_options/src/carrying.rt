@@ -61,12 +61,12 @@ fn import_text_command<'a>(alloc: Global) -> Result<Command<'a>, AllocError> {
 pub(crate) fn export_command<'a>(alloc: Global) -> Result<Command<'a>, AllocError> {
     let text = export_text_command(alloc)?;
     let formats = vec![in alloc; text]?;
-    with_formats(alloc, Listed::EXPORT, formats)
+    with_formats(alloc, Listed::Export, formats)
 }
 
 /// `import`, with the formats from which a file can be made.
 pub(crate) fn import_command<'a>(alloc: Global) -> Result<Command<'a>, AllocError> {
     let text = import_text_command(alloc)?;
     let formats = vec![in alloc; text]?;
-    with_formats(alloc, Listed::IMPORT, formats)
+    with_formats(alloc, Listed::Import, formats)
 }

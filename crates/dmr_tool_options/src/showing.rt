@@ -48,7 +48,7 @@ fn listing<'a>(alloc: Global) -> Result<Vec<Arg<'a>>, AllocError> {
 /// `show`, with its file and the lines that are asked for.
 pub(crate) fn show_command<'a>(alloc: Global) -> Result<Command<'a>, AllocError> {
     let listing = listing(alloc)?;
-    bare_command(alloc, Listed::SHOW)
+    bare_command(alloc, Listed::Show)
         .after_help(ABOUT_LISTINGS)
         .args(listing)
 }

@@ -11,8 +11,8 @@ pub fn tool_commands<'a>(alloc: Global) -> Result<Command<'a>, AllocError> {
     let show = show_command(alloc)?;
     let import = import_command(alloc)?;
     let export = export_command(alloc)?;
-    let run = bare_command(alloc, Listed::RUN);
-    let slot = bare_command(alloc, Listed::SLOT);
+    let run = bare_command(alloc, Listed::Run);
+    let slot = bare_command(alloc, Listed::Slot);
     let commands = vec![in alloc; run, slot, show, import, export]?;
     command(alloc, commands)
 }

@@ -8,7 +8,7 @@ ghost use Rattle.dmr_tools.specs.Request.{ArePairPlaces, IsCarriedBetween, Names
 
 use clap::{ArgMatches, Error};
 use dmr_files::Place;
-use dmr_options::{flag_of, text_of};
+use dmr_options::{Listed, flag_of, text_of};
 use dmr_show::{Filter, Form};
 use dmr_tool_options::tool_commands;
 use std::alloc::Global;
@@ -160,13 +160,19 @@ fn export_request<'a>(export: &ArgMatches<'a>) -> Request<'a>
 pub(crate) fn request_by<'a>(command: Option<(&'a str, &ArgMatches<'a>)>) -> Request<'a>
     ensures asked { IsAskedOfTools (option_map (λ c. (c.0.now, c.1.now)) command.entry) result }
 {
-    match command {
-        Some(("show", show)) => show_request(show),
-        Some(("import", import)) => import_request(import),
-        Some(("export", export)) => export_request(export),
-        Some((name, _)) => Request::Elsewhere(name),
-        // Not reached, since a command is required.
-        None => Request::Elsewhere(""),
+    // Not reached, since a command is required.
+    let Some((name, given)) = command else {
+        return Request::Elsewhere("");
+    };
+    // Not reached, since the parser knows no other name.
+    let Some(listed) = Listed::named(name) else {
+        return Request::Elsewhere(name);
+    };
+    match listed {
+        Listed::Show => show_request(given),
+        Listed::Import => import_request(given),
+        Listed::Export => export_request(given),
+        Listed::Run | Listed::Slot => Request::Elsewhere(name),
     }
 }
 

@@ -1,6 +1,7 @@
-use Rattle.std.proofs.Common.{rules, ◌+◌, [], ◌∷◌, ◌++◌, refl, ap, ◌∙◌, arith}
+use Rattle.std.proofs.Common.{rules, ◌+◌, [], ◌∷◌, ◌++◌, refl, sym, ap, ◌∙◌, subst, arith}
 use Rattle.std.proofs.lemmas.List.{length_push}
-use Rattle.dmr_record.specs.Outgoing.{Sending, sending_octets, sending_of}
+use Rattle.dmr_record.specs.Head.{record_limit}
+use Rattle.dmr_record.specs.Outgoing.{Sending, ShowsOutgoingFault, last_frame, sending_octets, sending_of}
 use Rattle.dmr_listing.proofs.OutgoingListings.{last_more, outgoing_more, outgoing_octets_more, outgoing_part}
 use Rattle.dmr_listing.proofs.outgoing_listing.list_outgoing.Goals as goal
 
@@ -48,4 +49,28 @@ loop-record-preserved g c =
         outgoing_more g.L.OutgoingLines.Takes sendings datagram read _ _ _ _ _ _ listed keeps is_sending
             (omega (arith, frame, behind)) took (search rules),
       );
+    }
+
+pub returns-in-Ok-None-clause-all : goal.returns-in-Ok-None-clause-all
+returns-in-Ok-None-clause-all g c =
+    let (sendings, counted, frame, octet, listed) = c.loop-record.invariant.so_far in
+    let (took, ended) = rw c.in-Ok-None.field-0-is at c.in-Ok-None.ensures.end in
+    (sendings, record { read = outgoing_part sendings [] _ _ _ listed.read took; given = listed.given }, sym counted)
+
+pub returns-in-Err-clause-fault : goal.returns-in-Err-clause-fault
+returns-in-Err-clause-fault g c =
+    let (sendings, counted, frame, octet, listed) = c.loop-record.invariant.so_far in
+    let (taken, took, shown) = c.in-Err.ensures.fault in
+    let fault = c.in-Err.fault in
+    record {
+      sendings = sendings;
+      read = record {
+        part = taken;
+        before = outgoing_part sendings taken _ _ _ listed.read took;
+        shown = subst (λ n. ShowsOutgoingFault record_limit n (last_frame 0 sendings) fault taken) (sym counted)
+            (subst (λ n. ShowsOutgoingFault record_limit c.loop-record.count n fault taken) (sym frame) shown);
+        octet = octet;
+        place = refl;
+      };
+      given = listed.given;
     }

@@ -1,7 +1,7 @@
-use Rattle.std.proofs.Common.{rules, ◌≡◌, ◌+◌, ℕ, [], ◌∷◌, ◌++◌, Option, None, Some, take, sym, ap, ◌∙◌, subst, arith}
+use Rattle.std.proofs.Common.{rules, ◌≡◌, ◌+◌, ℕ, [], ◌∷◌, ◌++◌, Option, None, Some, take, refl, sym, ap, ◌∙◌, subst, arith}
 use Rattle.std.proofs.lemmas.List.{length_push}
 use Rattle.dmr_record.specs.Received.{ReceivedFields, Follows, Receipt, received_fields, fields_read, kind_octet, last_read}
-use Rattle.dmr_record.specs.Received.{receipt_octets, receipt_of}
+use Rattle.dmr_record.specs.Received.{ShowsReceivedFault, receipt_octets, receipt_of, received_limit}
 use Rattle.dmr_record.specs.declared.received.Received.{Received}
 use Rattle.dmr_record.specs.Received.{last_fields}
 use Rattle.dmr_listing.proofs.ReceivedListings.{last_more, received_more, received_octets_more, received_part}
@@ -53,4 +53,28 @@ loop-received-preserved g c =
         ap (λ n. c.loop-received.octet + (12 + n)) (from ∙ sym whole) ∙ begins,
         received_more g.L.ReceivedLines.Takes receipts next _ _ _ _ _ _ listed (is_receipt, is_slot) behind took (search rules),
       );
+    }
+
+pub returns-in-Ok-None-clause-all : goal.returns-in-Ok-None-clause-all
+returns-in-Ok-None-clause-all g c =
+    let (receipts, counted, last, octet, listed) = c.loop-received.invariant.so_far in
+    let (took, ended) = rw c.in-Ok-None.field-0-is at c.in-Ok-None.ensures.end in
+    (receipts, record { read = received_part receipts [] _ _ _ listed.read took; given = listed.given }, sym counted)
+
+pub returns-in-Err-clause-fault : goal.returns-in-Err-clause-fault
+returns-in-Err-clause-fault g c =
+    let (receipts, counted, last, octet, listed) = c.loop-received.invariant.so_far in
+    let (taken, took, shown) = c.in-Err.ensures.fault in
+    let fault = c.in-Err.fault in
+    record {
+      receipts = receipts;
+      read = record {
+        part = taken;
+        before = received_part receipts taken _ _ _ listed.read took;
+        shown = subst (λ n. ShowsReceivedFault received_limit n (last_fields None receipts) fault taken) (sym counted)
+            (subst (λ l. ShowsReceivedFault received_limit c.loop-received.count l fault taken) (sym last) shown);
+        octet = octet;
+        place = refl;
+      };
+      given = listed.given;
     }

@@ -1,0 +1,8 @@
+use Rattle.std.proofs.Common.{refl}
+use Rattle.dmr_options.specs.declared.commands.Listed.TheVariants.{Run, Slot}
+use Rattle.dmr_command.proofs.request.request_by.Goals as goal
+
+pub returns-in_default-named : goal.returns-in_default-named
+returns-in_default-named c =
+    let none = c.in_default-named.ensures.none in
+    rw c.in-Some.is (record { asked = (none Run, none Slot, refl) })
