@@ -1,4 +1,4 @@
-use Rattle.std.proofs.Common.{◌∷◌, refl}
+use Rattle.std.proofs.Common.{rules, ◌∷◌, refl}
 use Rattle.std.proofs.lemmas.Result.{err_from_is_err_and}
 use Rattle.dmr_record.proofs.DownlinkLemmas.{ShowsDownlinkFault-part}
 use Rattle.dmr_record.proofs.Pieces.{tagged}
@@ -17,3 +17,6 @@ returns-in_err-sent-in-1-clause-fault g c =
         fewer,
       ),
     )
+
+pub returns-in_default-clause-end : goal.returns-in_default-clause-end
+returns-in_default-clause-end g c = search rules

@@ -19,3 +19,6 @@ returns-in_err-read_octets-clause-fault g c =
       ShowsOutgoingFault-datagram _ _ _ _ f part below order fit (slot, mode_of-low read.confirmed read.full) fewer
           c.in_err-read_octets.ensures.cause,
     )
+
+pub returns-clause-sending : goal.returns-clause-sending
+returns-clause-sending g c = search rules

@@ -19,3 +19,6 @@ returns-in_err-fill_whole-clause-fault g c =
       ShowsOutgoingFault-datagram _ _ _ _ f part below order fit (slot, mode_of-low read.confirmed read.full) (omega (arith, fewer))
           c.in_err-fill_whole.ensures.cause,
     )
+
+pub returns-clause-sending : goal.returns-clause-sending
+returns-clause-sending g c = search rules

@@ -1,4 +1,4 @@
-use Rattle.std.proofs.Common.{[], ◌∷◌}
+use Rattle.std.proofs.Common.{rules, [], ◌∷◌}
 use Rattle.std.proofs.lemmas.Result.{err_from_is_err_and}
 use Rattle.std.proofs.KnownBytes.{Consumes-trans}
 use Rattle.dmr_record.proofs.UplinkLemmas.{ShowsUplinkSlotFault-within}
@@ -14,3 +14,6 @@ returns-in_err-slot-clause-fault g c =
       Consumes-trans _ _ _ (c.in-Some.tag ∷ []) rest octet took,
       ShowsUplinkSlotFault-within _ _ _ _ c.if-before-ge-UPLINK_SLOT_LIMIT.false shows,
     )
+
+pub returns-clause-slot : goal.returns-clause-slot
+returns-clause-slot g c = search rules
