@@ -17,7 +17,7 @@ use Rattle.dmr_data.proofs.Contents.{sealed_content, unsealed_content, same_bloc
 use Rattle.dmr_data.proofs.HeaderForms.{same_some}
 use Rattle.dmr_gateway.specs.declared.heard.Heard.{Heard}
 use Rattle.dmr_gateway.specs.Heard.{Tells, IsConfirmedOf, ConfirmedByOctets, IsReadByGateway, kind_of_rate, nothing_said}
-use Rattle.dmr_gateway.proofs.Telling.{told, untrue, block_reading}
+use Rattle.dmr_gateway.proofs.OneHearing.{told, untrue, block_reading}
 
 -- 1. The start of a confirmed block.
 

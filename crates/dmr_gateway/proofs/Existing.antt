@@ -34,7 +34,7 @@ use Rattle.dmr_arq.specs.declared.answer.Verdict.TheVariants.{Ack, Failed, Selec
 use Rattle.dmr_arq.specs.declared.sender.GateBurst.{GateBurst}
 use Rattle.dmr_arq.specs.declared.sender.GateBurst.TheVariants as of_try
 use Rattle.dmr_arq.specs.declared.sender_state.Route.{Route}
-use Rattle.dmr_arq.proofs.Kept.{HoldsOfBlocks, HoldsOfBurst}
+use Rattle.dmr_arq.proofs.PacketInHand.{HoldsOfBlocks, HoldsOfBurst}
 use Rattle.dmr_arq.proofs.Sound.{by_cond}
 use Rattle.dmr_ip.specs.Contents.{Contents, datagram_of, radio_address, address, shown_contents}
 use Rattle.dmr_ip.specs.Datagram.{parse}

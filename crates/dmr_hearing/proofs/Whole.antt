@@ -9,7 +9,7 @@ use Rattle.dmr_bits.proofs.Octets.{bits_of_octets-octets_of}
 use Rattle.dmr_bits.proofs.Parts.{length-part}
 use Rattle.dmr_burst.specs.Layout.{information_field, embedded_field}
 use Rattle.dmr_embedded.specs.declared.fault.EmbedFault.{EmbedFault}
-use Rattle.dmr_embedded.proofs.Made.{embedded_somehow}
+use Rattle.dmr_embedded.proofs.EveryLinkControl.{embedded_somehow}
 use Rattle.dmr_hearing.specs.DataTypes.{payload_of}
 use Rattle.dmr_hearing.specs.Fields.{IsCarrier, IsSpelled, IsReadFrom}
 use Rattle.dmr_hearing.specs.Fit.{IsFitDataBurst}

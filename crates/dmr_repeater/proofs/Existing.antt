@@ -7,7 +7,7 @@ use Rattle.dmr_record.specs.Outgoing.{Sending, IsSending}
 use Rattle.dmr_record.specs.Received.{received_file}
 use Rattle.dmr_station.specs.GatewayMeaning.{AreForSlots}
 use Rattle.dmr_station.proofs.Existing.{recording_is_sent}
-use Rattle.dmr_station.proofs.Made.{sends_what_is_meant}
+use Rattle.dmr_station.proofs.FramesBySlot.{sends_what_is_meant}
 use Rattle.dmr_repeater.specs.Files.{KnownOctets}
 use Rattle.dmr_repeater.specs.Headline.{HasResult, HasResultOfFrames}
 

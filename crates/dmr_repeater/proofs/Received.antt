@@ -12,7 +12,7 @@ use Rattle.dmr_record.specs.Received.{receipt_octets}
 use Rattle.dmr_station.specs.StationRules.{received_of, received_taken}
 use Rattle.dmr_station.specs.GatewayMeaning.{receipt_in}
 use Rattle.dmr_station.specs.Station.{State, taken_once, all_received_taken}
-use Rattle.dmr_station.proofs.Taking.{received_step, taken_step, nothing_waits}
+use Rattle.dmr_station.proofs.TakenInOrder.{received_step, taken_step, nothing_waits}
 use Rattle.dmr_repeater.specs.Files.{FrontOf, KnownOctets}
 
 -- the octets of what was received in a frame

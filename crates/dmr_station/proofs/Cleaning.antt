@@ -24,7 +24,7 @@ use Rattle.dmr_station.specs.GatewayMeaning.{Given, AreGiven}
 use Rattle.dmr_station.proofs.Frames.{slot_in, gates_of, claims_in}
 use Rattle.dmr_station.specs.StationRules.{Settings, Counts, marked}
 use Rattle.dmr_station.proofs.CleanGate.{clean_givens, gate_pairs, first_gates, second_gates}
-use Rattle.dmr_station.proofs.Made.{given_length}
+use Rattle.dmr_station.proofs.FramesBySlot.{given_length}
 use Rattle.std.specs.List.{AllZip}
 use Rattle.dmr_station.specs.Sent.{fragment_lcss, IsCachOf, IsSentAs, AreSentAs}
 

@@ -8,7 +8,7 @@ use Rattle.dmr_arq.specs.declared.sender_state.Outcome.{Outcome}
 use Rattle.dmr_arq.specs.declared.sender_state.Outcome.TheVariants.{Delivered, Sent, GivenUp}
 use Rattle.dmr_station.specs.GatewayMeaning.{Given, receipt_in, receipts_of, counts_of}
 use Rattle.dmr_station.specs.StationRules.{Counts, outcome_count}
-use Rattle.dmr_station.proofs.Passing.{FrameGiven, added, all_counted, counted_frame}
+use Rattle.dmr_station.proofs.FrameAfterFrame.{FrameGiven, added, all_counted, counted_frame}
 use Rattle.dmr_station.specs.Station.{receipts_from}
 use Rattle.dmr_station.proofs.Exchanging.{given_in, givens_of}
 

@@ -12,10 +12,10 @@ use Rattle.dmr_gateway.specs.declared.received.Received.{Received}
 use Rattle.dmr_record.specs.declared.outgoing.Outgoing.{Outgoing}
 use Rattle.dmr_station.specs.DownlinkRules.{Makes}
 use Rattle.dmr_station.specs.StationRules.{StationMemory, Counts, marked_slots, IsAsked}
-use Rattle.dmr_station.proofs.Passing.{FrameGiven, IsPassed, ArePassed, given_of}
+use Rattle.dmr_station.proofs.FrameAfterFrame.{FrameGiven, IsPassed, ArePassed, given_of}
 use Rattle.dmr_station.specs.StationRules.{received_of}
 use Rattle.dmr_station.specs.StationRules.{outcomes_to_tell, received_taken, outcomes_told}
-use Rattle.dmr_station.proofs.Passing.{added, all_counted, counted_frame}
+use Rattle.dmr_station.proofs.FrameAfterFrame.{added, all_counted, counted_frame}
 use Rattle.dmr_station.specs.StationRules.{nothing_counted}
 use Rattle.dmr_station.specs.Sent.{AreSentAs}
 use Rattle.dmr_station.specs.Station.{State, fresh, IsOffered, AreOfferedOneByOne, after_offer, IsExchanged, AreExchanged}
@@ -24,7 +24,7 @@ use Rattle.dmr_station.specs.Station.{with_outcomes, all_received_taken, SendsBy
 use Rattle.dmr_station.proofs.Counting.{same_counts}
 use Rattle.dmr_station.proofs.Cleaning.{clean_made, sent_bursts_are_clean, two_sent}
 use Rattle.dmr_station.proofs.Encodings.{encoded-append}
-use Rattle.dmr_station.proofs.Made.{makes}
+use Rattle.dmr_station.proofs.FramesBySlot.{makes}
 
 -- ---- one frame has two slots
 two_marked : (m : Message) (a b : SlotOut) (bursts : List (Option Burst)) → length bursts ≡ 2

@@ -24,7 +24,7 @@ use Rattle.dmr_record.specs.Outgoing.{AreReadFrom}
 use Rattle.dmr_station.specs.GatewayMeaning.{record_fault, Given, AreGiven, Happens, IsGiven}
 use Rattle.dmr_station.proofs.Frames.{gates_of, claims_in}
 use Rattle.dmr_station.specs.StationRules.{Settings, StationMemory, IsAsked, is_free}
-use Rattle.dmr_station.proofs.Passing.{FrameGiven, IsPassed, ArePassed, taken_of}
+use Rattle.dmr_station.proofs.FrameAfterFrame.{FrameGiven, IsPassed, ArePassed, taken_of}
 use Rattle.std.specs.List.{AllZip}
 use Rattle.dmr_station.specs.declared.announcing.Message.{Message}
 use Rattle.dmr_station.specs.Sent.{DownlinkBurst}

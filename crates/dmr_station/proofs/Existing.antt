@@ -9,7 +9,7 @@ use Rattle.std.proofs.lemmas.List.Elements.{All-get_or, All-take}
 use Rattle.dmr_burst.specs.declared.burst.Burst.{Burst}
 use Rattle.dmr_burst.specs.declared.sync.Side.TheVariants.{Bs}
 use Rattle.dmr_burst.proofs.Existing.{encoding_somehow, cach_somehow}
-use Rattle.dmr_embedded.proofs.Made.{short_lc_somehow}
+use Rattle.dmr_embedded.proofs.EveryLinkControl.{short_lc_somehow}
 use Rattle.dmr_gateway.specs.GatewayRules.{IsSlot, refusal}
 use Rattle.dmr_gateway.specs.declared.received.Received.{Received}
 use Rattle.dmr_gateway.proofs.Existing.{AreSmall, IsWholeBurst as IsWholeGateBurst}

@@ -18,7 +18,7 @@ use Rattle.dmr_slot.specs.declared.line.SlotOut.{SlotOut}
 use Rattle.dmr_voice.specs.CallMeaning.{Cell}
 use Rattle.dmr_station.proofs.Encodings.{one_encoding}
 use Rattle.dmr_station.proofs.Frames.{gates_of, claims_in}
-use Rattle.dmr_station.proofs.Made.{one_downlink}
+use Rattle.dmr_station.proofs.FramesBySlot.{one_downlink}
 use Rattle.dmr_station.proofs.OneResult.{zip_alike, givens_alike}
 use Rattle.dmr_station.specs.Announced.{AreAnnounced}
 use Rattle.dmr_station.specs.DownlinkMeaning.{IsDownlinkOfWhatIsMeant, IsFrontOfTheDownlink, line_of_meaning}

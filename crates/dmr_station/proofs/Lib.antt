@@ -6,14 +6,14 @@ pub mod Encodings
 pub mod Exchanges
 pub mod Exchanging
 pub mod Existing
+pub mod FrameAfterFrame
 pub mod Frames
+pub mod FramesBySlot
 pub mod FrontResult
 pub mod LookingBack
-pub mod Made
 pub mod Offering
 pub mod Offers
 pub mod OneReception
 pub mod OneResult
-pub mod Passing
 pub mod Readings
-pub mod Taking
+pub mod TakenInOrder

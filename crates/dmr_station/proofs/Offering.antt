@@ -10,7 +10,7 @@ use Rattle.dmr_gateway.specs.Packets.{IsPacketFor, IsOutgoingPacket, offer_fault
 use Rattle.dmr_gateway.specs.Packets as asked
 use Rattle.dmr_gateway.specs.declared.fault.GatewayFault.{GatewayFault}
 use Rattle.dmr_gateway.specs.declared.queue.Queued.{Queued}
-use Rattle.dmr_gateway.proofs.Kept.{kept}
+use Rattle.dmr_gateway.proofs.KeptOctets.{kept}
 use Rattle.dmr_station.specs.GatewayMeaning.{record_fault}
 use Rattle.dmr_record.specs.Outgoing.{IsReadOutgoing}
 use Rattle.std.specs.List.{AllZip}

@@ -1,6 +1,6 @@
 -- What a slot means is heard in one way, and so a gateway receives one thing of it.
 use Rattle.std.proofs.Common.{◌≡◌, ℕ, List, [], ◌∷◌, refl, sym, ◌∙◌, ap, subst}
-use Rattle.dmr_gateway.proofs.Alike.{read_alike}
+use Rattle.dmr_gateway.proofs.OneOfEach.{read_alike}
 use Rattle.dmr_gateway.specs.RecordMeaning.{received_now}
 use Rattle.dmr_gateway.specs.declared.heard.Heard.{Heard}
 use Rattle.dmr_gateway.specs.declared.received.Received.{Received}

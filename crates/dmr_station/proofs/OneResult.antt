@@ -7,12 +7,12 @@ use Rattle.dmr_record.specs.Received.{Receipt}
 use Rattle.dmr_slot.proofs.Unique.{one_slot_out}
 use Rattle.dmr_slot.specs.Bursts.{IsSlotOut}
 use Rattle.dmr_slot.specs.declared.line.SlotOut.{SlotOut}
-use Rattle.dmr_gateway.proofs.Alike.{heard_alike, queued_alike, sent_alike}
+use Rattle.dmr_gateway.proofs.OneOfEach.{heard_alike, queued_alike, sent_alike}
 use Rattle.dmr_gateway.specs.Packets.{IsPacketFor}
 use Rattle.dmr_gateway.specs.Runs.{Happening}
 use Rattle.dmr_gateway.specs.declared.queue.Queued.{Queued}
 use Rattle.dmr_voice.specs.CallMeaning.{Cell}
-use Rattle.dmr_station.proofs.Made.{one_downlink}
+use Rattle.dmr_station.proofs.FramesBySlot.{one_downlink}
 use Rattle.dmr_station.specs.DownlinkMeaning.{IsDownlinkOfWhatIsMeant, line_of_meaning}
 use Rattle.dmr_station.specs.DownlinkRules.{IsDownlinkOf, slots_in}
 use Rattle.dmr_station.specs.GatewayMeaning.{Given, Happens, IsGiven, AreGiven, IsGatewayOf, record_fault}

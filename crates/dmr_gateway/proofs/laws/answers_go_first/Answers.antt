@@ -1,4 +1,4 @@
-use Rattle.dmr_gateway.proofs.Owing.{answers_go_first}
+use Rattle.dmr_gateway.proofs.AnswersFirst.{answers_go_first}
 use Rattle.dmr_gateway.proofs.laws.answers_go_first.Goals as goal
 
 pub returns : goal.returns

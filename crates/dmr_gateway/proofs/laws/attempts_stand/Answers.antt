@@ -1,4 +1,4 @@
-use Rattle.dmr_gateway.proofs.Lasting as lasting
+use Rattle.dmr_gateway.proofs.WholeAttempts as lasting
 use Rattle.dmr_gateway.proofs.laws.attempts_stand.Goals as goal
 
 pub returns : goal.returns

@@ -1,4 +1,4 @@
-use Rattle.dmr_gateway.proofs.Trying.{four_tries}
+use Rattle.dmr_gateway.proofs.FourTries.{four_tries}
 use Rattle.dmr_gateway.proofs.laws.four_tries.Goals as goal
 
 pub returns : goal.returns

@@ -1,4 +1,4 @@
-use Rattle.dmr_gateway.proofs.Kept.{kept}
+use Rattle.dmr_gateway.proofs.KeptOctets.{kept}
 use Rattle.dmr_gateway.proofs.laws.keeps_enough.Goals as goal
 
 pub returns : goal.returns

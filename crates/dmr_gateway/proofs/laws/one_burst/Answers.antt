@@ -1,4 +1,4 @@
-use Rattle.dmr_gateway.proofs.Alike.{sent_alike}
+use Rattle.dmr_gateway.proofs.OneOfEach.{sent_alike}
 use Rattle.dmr_gateway.proofs.laws.one_burst.Goals as goal
 
 pub returns : goal.returns

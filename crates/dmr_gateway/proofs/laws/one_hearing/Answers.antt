@@ -1,4 +1,4 @@
-use Rattle.dmr_gateway.proofs.Alike.{heard_alike}
+use Rattle.dmr_gateway.proofs.OneOfEach.{heard_alike}
 use Rattle.dmr_gateway.proofs.laws.one_hearing.Goals as goal
 
 pub returns : goal.returns

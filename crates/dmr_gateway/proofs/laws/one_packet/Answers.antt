@@ -1,4 +1,4 @@
-use Rattle.dmr_gateway.proofs.Alike.{queued_alike}
+use Rattle.dmr_gateway.proofs.OneOfEach.{queued_alike}
 use Rattle.dmr_gateway.proofs.laws.one_packet.Goals as goal
 
 pub returns : goal.returns

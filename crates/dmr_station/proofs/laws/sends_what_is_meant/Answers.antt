@@ -1,4 +1,4 @@
-use Rattle.dmr_station.proofs.Made.{sends_what_is_meant}
+use Rattle.dmr_station.proofs.FramesBySlot.{sends_what_is_meant}
 use Rattle.dmr_station.proofs.laws.sends_what_is_meant.Goals as goal
 
 pub returns : goal.returns

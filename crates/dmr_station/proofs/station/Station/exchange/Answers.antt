@@ -1,6 +1,6 @@
 use Rattle.std.proofs.Common.{arith, ap}
 use Rattle.dmr_station.specs.Station.{State}
-use Rattle.dmr_station.proofs.Taking.{few_received}
+use Rattle.dmr_station.proofs.TakenInOrder.{few_received}
 use Rattle.dmr_station.proofs.station.Station.exchange.Goals as goal
 
 pub invariant_of-self : goal.invariant_of-self

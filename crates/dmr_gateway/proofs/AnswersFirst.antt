@@ -11,11 +11,11 @@ use Rattle.dmr_gateway.specs.Answers.{flag_count}
 use Rattle.dmr_gateway.specs.AttemptMeaning.{Stage, Ready, Begun, Awaits, Hand, Owing, Ledger, Goes, Brings, attempts, goes}
 use Rattle.dmr_gateway.specs.AttemptMeaning.{goes_on, try_stands, due_try, rests, ledger_owes}
 use Rattle.dmr_gateway.specs.Courses.{begins_try, ends_answer, still_due_after, AnswersGoFirst}
-use Rattle.dmr_gateway.proofs.Attempting.{FitsLedger, joined, heard, readied, readied_fits, hand_fits, owing_fits, answer_from}
-use Rattle.dmr_gateway.proofs.Attempting.{cut_answer, cut_in_stage}
-use Rattle.dmr_gateway.proofs.Going.{FitsStage, FitsHand, FitsBegun, FitsOwing, Leaves, hears_leaves, takes_owing}
-use Rattle.dmr_gateway.proofs.Lasting.{carries}
-use Rattle.dmr_gateway.proofs.Standing.{answer_bursts, length_answers, try_bursts}
+use Rattle.dmr_gateway.proofs.AttemptBursts.{FitsLedger, joined, heard, readied, readied_fits, hand_fits, owing_fits, answer_from}
+use Rattle.dmr_gateway.proofs.AttemptBursts.{cut_answer, cut_in_stage}
+use Rattle.dmr_gateway.proofs.FrameSteps.{FitsStage, FitsHand, FitsBegun, FitsOwing, Leaves, hears_leaves, takes_owing}
+use Rattle.dmr_gateway.proofs.WholeAttempts.{carries}
+use Rattle.dmr_gateway.proofs.KeptByAttempts.{answer_bursts, length_answers, try_bursts}
 
 -- The answer that is held.
 abbrev due_of : Option Owing → Option Due

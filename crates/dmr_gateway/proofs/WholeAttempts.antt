@@ -13,12 +13,12 @@ use Rattle.dmr_gateway.specs.AttemptMeaning.{ledger_owes}
 use Rattle.dmr_gateway.specs.AttemptMeaning.{told}
 use Rattle.dmr_gateway.specs.Courses.{up_to, StandsInFrame, is_answer, IsBrokenOff, HasEnded, HasCourse, joined_by}
 use Rattle.dmr_gateway.specs.Courses.{all_attempts, AttemptsStand}
-use Rattle.dmr_gateway.proofs.Standing.{length_bursts, length_answers, burst_at_place}
-use Rattle.dmr_gateway.proofs.Going.{Leaves, hears_leaves}
-use Rattle.dmr_gateway.proofs.Attempting.{FitsLedger, joined, heard, readied, readied_fits, both_fits, hand_fits}
-use Rattle.dmr_gateway.proofs.Attempting.{frame_fits}
-use Rattle.dmr_gateway.proofs.Moving.{begun_by, unfinished, burst_in, replaced_by, Moves, goes_moves, told_begun, waits_begun}
-use Rattle.dmr_gateway.proofs.Moving.{owes_begun, taken_begun}
+use Rattle.dmr_gateway.proofs.KeptByAttempts.{length_bursts, length_answers, burst_at_place}
+use Rattle.dmr_gateway.proofs.FrameSteps.{Leaves, hears_leaves}
+use Rattle.dmr_gateway.proofs.AttemptBursts.{FitsLedger, joined, heard, readied, readied_fits, both_fits, hand_fits}
+use Rattle.dmr_gateway.proofs.AttemptBursts.{frame_fits}
+use Rattle.dmr_gateway.proofs.AttemptSteps.{begun_by, unfinished, burst_in, replaced_by, Moves, goes_moves, told_begun, waits_begun}
+use Rattle.dmr_gateway.proofs.AttemptSteps.{owes_begun, taken_begun}
 
 -- 1. What was begun, and what is.
 

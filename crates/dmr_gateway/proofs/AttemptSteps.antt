@@ -16,8 +16,8 @@ use Rattle.dmr_gateway.specs.AttemptMeaning.{bursts_of, goes, goes_on, try_stand
 use Rattle.dmr_gateway.specs.AttemptMeaning.{due_try, over, rests, waiting_goes, told, judged, waits, ledger_owes}
 use Rattle.dmr_gateway.specs.AttemptMeaning.{ledger_takes}
 use Rattle.dmr_gateway.specs.Courses.{is_answer, HasNothingDue}
-use Rattle.dmr_gateway.proofs.Attempting.{NotBegun, FitsBoth, BothHand, answer_from, cut_answer, cut_in_stage}
-use Rattle.dmr_gateway.proofs.Standing.{burst_at_place, is_fitting, try_bursts, answer_bursts}
+use Rattle.dmr_gateway.proofs.AttemptBursts.{NotBegun, FitsBoth, BothHand, answer_from, cut_answer, cut_in_stage}
+use Rattle.dmr_gateway.proofs.KeptByAttempts.{burst_at_place, is_fitting, try_bursts, answer_bursts}
 
 -- 1. The attempt that is begun, in what is kept.
 

@@ -18,11 +18,11 @@ use Rattle.dmr_gateway.specs.AttemptMeaning.{Stage, Ready, Begun, Awaits, Hand, 
 use Rattle.dmr_gateway.specs.AttemptMeaning.{goes_on, due_try, over, rests, told, judged, waits, ledger_owes}
 use Rattle.dmr_gateway.specs.AttemptMeaning.{ledger_takes}
 use Rattle.dmr_gateway.specs.Courses.{begins_try, tries_since_told, HasFourTries}
-use Rattle.dmr_gateway.proofs.Attempting.{FitsLedger, joined, heard, readied, readied_fits, hand_fits, answer_from, cut_answer}
-use Rattle.dmr_gateway.proofs.Attempting.{cut_in_stage}
-use Rattle.dmr_gateway.proofs.Going.{FitsStage, FitsHand}
-use Rattle.dmr_gateway.proofs.Lasting.{carries}
-use Rattle.dmr_gateway.proofs.Standing.{is_fitting, try_bursts, length_bursts}
+use Rattle.dmr_gateway.proofs.AttemptBursts.{FitsLedger, joined, heard, readied, readied_fits, hand_fits, answer_from, cut_answer}
+use Rattle.dmr_gateway.proofs.AttemptBursts.{cut_in_stage}
+use Rattle.dmr_gateway.proofs.FrameSteps.{FitsStage, FitsHand}
+use Rattle.dmr_gateway.proofs.WholeAttempts.{carries}
+use Rattle.dmr_gateway.proofs.KeptByAttempts.{is_fitting, try_bursts, length_bursts}
 
 -- 1. What is in hand.
 

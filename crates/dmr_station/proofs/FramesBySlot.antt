@@ -32,7 +32,7 @@ use Rattle.dmr_station.specs.GatewayMeaning.{AreForSlots, Given, AreGiven}
 use Rattle.dmr_record.specs.Outgoing.{AreReadFrom}
 use Rattle.dmr_station.proofs.Frames.{slot_in, gates_of, claims_in}
 use Rattle.dmr_station.specs.StationRules.{Settings, StationMemory, start}
-use Rattle.dmr_station.proofs.Passing.{FrameGiven, ArePassed, all_counted}
+use Rattle.dmr_station.proofs.FrameAfterFrame.{FrameGiven, ArePassed, all_counted}
 use Rattle.dmr_station.specs.Station.{receipts_from}
 use Rattle.dmr_station.proofs.Counting.{receipts_of_both, counted_of_both}
 use Rattle.dmr_station.proofs.Exchanging.{exchanged}
