@@ -26,3 +26,12 @@ pub returns-in-Confirmed-clause-fit : goal.returns-in-Confirmed-clause-fit
 returns-in-Confirmed-clause-fit c =
     subst IsFitReceiverOut (sym (returns-in-Confirmed-clause-out c))
     (placed_fit _ c.args.self.now (subst IsFitReceiver c.self.view_is c.self.invariant)).out
+
+pub returns-in-Partial-clause-state : goal.returns-in-Partial-clause-state
+returns-in-Partial-clause-state c = search rules
+
+pub returns-in-Single-clause-state : goal.returns-in-Single-clause-state
+returns-in-Single-clause-state c = search rules
+
+pub returns-in-Confirmed-clause-state : goal.returns-in-Confirmed-clause-state
+returns-in-Confirmed-clause-state c = search rules
