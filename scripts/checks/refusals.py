@@ -1,6 +1,7 @@
 """The text and the status of each refusal, and of what is no fault but might be taken for one."""
 
 import os
+import resource
 
 from checks import recordings as it
 from checks.bursts import data_burst, information_of, unreadable_burst, untyped_data_burst, voice_burst, voice_sync_burst
@@ -160,6 +161,80 @@ def check_devices(report):
                 report.expect(f"{file} to a full standard output", ran.is_error(f"{file}: write failed"), ran)
 
 
+def told_more(room, *more, **places):
+    """What a run tells more with --verbose. All else is as it is without that."""
+    plain, outputs = room.run(*more, **places), room.outputs()
+    ran = room.run("--verbose", *more, **places)
+    is_same = (ran.status, ran.out, room.outputs()) == (plain.status, plain.out, outputs)
+    room.report.expect(f"{more} {places} with --verbose", is_same and ran.err.startswith(plain.err), (plain, ran))
+    return ran.err[len(plain.err) :].decode()
+
+
+def check_places(report):
+    """With --verbose a fault of an input is told with its place, as a listing tells it, and so is one of an output."""
+    for file, rows in (("uplink", UPLINKS), ("outgoing", OUTGOINGS)):
+        for octets, fault in rows:
+            # A listing takes each of the four magics.
+            if fault == "bad magic":
+                continue
+            with Room(report, it.ONE_CSBK, it.OUTGOING_HEAD) as room:
+                getattr(room, file).write_bytes(octets)
+                told, shown = told_more(room), report.call("show", getattr(room, file))
+                report.expect(f"{file} {octets[:60]}: where {fault} is", told == shown.err.decode(), (told, shown))
+    with Room(report, (report.top / "samples/call/uplink.dmru").read_bytes(), it.OUTGOING_HEAD) as room:
+        limited = {"preexec_fn": lambda: resource.setrlimit(resource.RLIMIT_FSIZE, (100, 100)), "restore_signals": False}
+        told = told_more(room, streams=limited)
+        shown = report.call("show", room.downlink).err.decode()
+        wanted = shown.replace("cut record", "write failed").replace("\n", ": File too large (os error 27)\n")
+        report.expect("a downlink of 100 octets", "write failed" in told and told == wanted, (told, shown))
+
+
+def check_reasons(report):
+    """With --verbose the reason of the system is told, where there is one."""
+    with Room(report, it.ONE_CSBK, it.OUTGOING_HEAD) as room:
+        nowhere = room.path / "nowhere" / "file"
+        missing = "No such file or directory (os error 2)"
+        for file in ("uplink", "outgoing", "downlink", "received"):
+            told = told_more(room, **{file: nowhere})
+            report.expect(f"{file} is nowhere", told == f"error: {nowhere}: cannot open: {missing}\n", told)
+        for file in ("uplink", "outgoing"):
+            told = told_more(room, **{file: "."})
+            wanted = "error: .: read failed at octet 0: Is a directory (os error 21)\n"
+            report.expect(f"{file} is a folder", told == wanted, told)
+        for file in ("downlink", "received"):
+            told = told_more(room, **{file: "/dev/full"})
+            wanted = "error: /dev/full: write failed at octet 0: No space left on device (os error 28)\n"
+            report.expect(f"{file} is a full device", told == wanted, told)
+            told = told_more(room, **{file: room.uplink})
+            report.expect(f"{file} is the uplink", told == f"error: {room.uplink}: cannot open\n", told)
+        report.expect("a hang that is refused", told_more(room, "--call-hang", 6) == "")
+
+
+def check_unrepeated(report):
+    """With --verbose it is told what was heard where nothing is repeated, and nothing of a run that repeats."""
+    block = information_of(bytes(12))
+    for bursts, colour, counts in (
+        ([], 1, (0, 0, 0)),
+        ([it.CSBK, it.CSBK], 2, (2, 2, 0)),
+        ([bytes.fromhex(it.IDLE)], 1, (1, 0, 1)),
+        ([bytes.fromhex(it.IDLE), voice_sync_burst("BS")], 5, (2, 1, 2)),
+        ([untyped_data_burst("BS"), unreadable_burst()], 1, (2, 0, 1)),
+        ([data_burst(9, block, 3), voice_burst(3, colour=4)], 1, (2, 2, 0)),
+    ):
+        slots = [b"\1" + burst for burst in bursts] + [b"\0"] * (2 - len(bursts))
+        with Room(report, it.UPLINK_HEAD + b"".join(slots), it.OUTGOING_HEAD) as room:
+            told = told_more(room, "--colour", colour)
+            words = "bursts {}, of other colour codes {}, of base stations {}".format(*counts)
+            wanted = f"error: {room.uplink}: nothing was repeated: {words}\n"
+            report.expect(f"{counts} heard, colour code {colour}", told == wanted, told)
+    with Room(report, it.ONE_CSBK, it.OUTGOING_HEAD) as room:
+        report.expect("a run that repeats", told_more(room) == "")
+        ran = room.run("--verbose", "--colour", 2, downlink="-", uplink="-", given=it.ONE_CSBK)
+        words = "error: -: nothing was repeated: bursts 1, of other colour codes 1, of base stations 0\n"
+        is_so = (ran.status, ran.err) == (0, summary(7) + words.encode())
+        report.expect("behind the line, where the downlink is a hyphen", is_so, ran)
+
+
 def check_words(report):
     with Room(report, it.ONE_CSBK, it.OUTGOING_HEAD) as room:
         hang = "call hang is longer than channel hang"
@@ -258,6 +333,9 @@ def check_bursts(report):
 def check(report):
     check_files(report)
     check_devices(report)
+    check_places(report)
+    check_reasons(report)
+    check_unrepeated(report)
     check_words(report)
     check_elsewhere(report)
     check_bursts(report)

@@ -60,6 +60,7 @@ Options:
       --call-hang <N>     Frames that a call is held behind its end [default: 3]
       --channel-hang <N>  Frames that the channel stays on the air [default: 5]
       --queue <N>         Datagrams waiting in a slot, 1 to 64 [default: 9]
+      --verbose           Tells where a fault is, or why nothing is repeated
   -h, --help              Print help
 
 A frame is slot 1 and slot 2, 60 ms. The downlink is six frames behind the
@@ -69,7 +70,9 @@ Where an input is a pipe, each frame is written as soon as it is decided.
 
 Status 0: done, and the numbers of the run are printed, to standard error where
 a file goes to standard output; 1: a fault, which is told on standard error;
-2: the command line.
+2: the command line. With --verbose one more line on standard error has the
+file, the octet, the frame and the slot of a fault, and the system's reason;
+or, where nothing is repeated, what was heard.
 
 Example:
   dmrgate run --uplink in.dmru --downlink out.dmrd --llid 1

@@ -7,7 +7,7 @@ use Rattle.dmr_files.specs.declared.place.Place.{Place}
 use Rattle.dmr_gateway.specs.Config.{setting_fault}
 use Rattle.dmr_gateway.specs.declared.config.Config.{Config}
 use Rattle.dmr_gateway.specs.declared.config.ConfigFault.{ConfigFault}
-use Rattle.dmr_options.specs.Found.{IsNumberOf, text_of}
+use Rattle.dmr_options.specs.Found.{IsFlagOf, IsNumberOf, text_of}
 use Rattle.dmr_command.specs.declared.places.Places.{Places}
 use Rattle.dmr_command.specs.declared.request.Request.{Request}
 use Rattle.dmr_command.specs.declared.request.Request.TheVariants.{Slot, Run, Shared, Elsewhere}
@@ -51,16 +51,16 @@ pub record AreSettingsOf (found : Found) (config : Result Config ConfigFault) : 
   pub fault : IfErr config (λ e. setting_fault colour llid call_hang channel_hang queue ≡ Some e)
 
 -- What a command with these options asks for: `run` for a run, which is refused where both inputs or both outputs would be one
--- standard stream; `slot` for what its burst is; and any other what isn't done here.
+-- standard stream, and tells more where `verbose` is given; `slot` for what its burst is; and any other what isn't done here.
 abbrev pub IsAskedBy : Option (Text × Found) → Request → Type 0
 IsAskedBy None (Slot burst) = burst.now ≡ []
-IsAskedBy None (Run config places) = ⊥
+IsAskedBy None (Run config places is_verbose) = ⊥
 IsAskedBy None (Shared stream) = ⊥
 IsAskedBy None (Elsewhere name) = ⊥
 IsAskedBy (Some command) (Slot burst) = (command.0 ≡ codes "slot") × (burst.now ≡ text_of command.1 (codes "burst"))
-IsAskedBy (Some command) (Run config places) =
+IsAskedBy (Some command) (Run config places is_verbose) =
     (command.0 ≡ codes "run") × AreSettingsOf command.1 config × ArePlacesOf command.1 places
-    × (share_input places ≡ false) × (share_output places ≡ false)
+    × IsFlagOf command.1 (codes "verbose") is_verbose × (share_input places ≡ false) × (share_output places ≡ false)
 IsAskedBy (Some command) (Shared Input) =
     (command.0 ≡ codes "run") × ((places : Places) × ArePlacesOf command.1 places × (share_input places ≡ true))
 IsAskedBy (Some command) (Shared Output) =

@@ -8,7 +8,7 @@ use crate::places::Places;
 use clap::{ArgMatches, Error};
 use dmr_files::Place;
 use dmr_gateway::{Config, ConfigFault};
-use dmr_options::{Listed, given_text_of, repeating_commands, text_of};
+use dmr_options::{Listed, flag_of, given_text_of, repeating_commands, text_of};
 use std::alloc::Global;
 use std::convert::AsStr;
 
@@ -26,10 +26,11 @@ pub enum SharedStream {
 pub enum Request<'a> {
     /// To say what a burst is, of hexadecimal digits.
     Slot(&'a str),
-    /// To run with these settings, or to say why they are refused.
+    /// To run with these settings, or to say why they are refused, and whether to tell more of how the run ends.
     Run {
         config: Result<Config, ConfigFault>,
         places: Places<'a>,
+        is_verbose: bool,
     },
     /// A run two files of which would be one standard stream.
     Shared(SharedStream),
@@ -123,6 +124,7 @@ fn run_request<'a>(run: &ArgMatches<'a>) -> Request<'a>
     Request::Run {
         config: config_of(run),
         places,
+        is_verbose: flag_of(run, "verbose"),
     }
 }
 

@@ -19,7 +19,8 @@ use Rattle.dmr_arq.specs.declared.receiver_state.ReceiverState.{ReceiverState}
 use Rattle.dmr_arq.specs.declared.sender.GateBurst.{GateBurst}
 use Rattle.dmr_arq.specs.declared.sender_state.Held.{Held}
 use Rattle.dmr_arq.proofs.Arriving.{PlacedFits, header_fit, placed_fit}
-use Rattle.dmr_arq.proofs.PacketInHand.{HoldsInHand, HoldsOfBlocks, HoldsOfBurst, offered_keeps, ticked_keeps, answered_keeps, cut_keeps}
+use Rattle.dmr_arq.proofs.PacketInHand.{HoldsInHand, HoldsOfBlocks, HoldsOfBurst, offered_keeps}
+use Rattle.dmr_arq.proofs.PacketInHand.{ticked_keeps, answered_keeps, cut_keeps}
 use Rattle.dmr_arq.proofs.PacketInHand.{sent_keeps, burst_has}
 use Rattle.dmr_arq.proofs.Leaving.{offered_fit, ticked_fit, answered_fit, cut_fit, sent_fit, burst_fits}
 use Rattle.dmr_arq.proofs.Sound.{by_cond}

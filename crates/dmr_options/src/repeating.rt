@@ -3,7 +3,7 @@
 use crate::arguments::{file, number, word};
 use crate::commands::{Listed, bare_command, command};
 use crate::texts::{ABOUT_RUNS, ABOUT_SLOTS};
-use clap::{Arg, Command, value_parser};
+use clap::{Arg, ArgAction, Command, value_parser};
 use std::alloc::{AllocError, Global};
 
 /// The gateway's address.
@@ -36,6 +36,14 @@ fn queue<'a>(alloc: Global) -> Arg<'a> {
         .default_value("9")
 }
 
+/// Whether more is told of how a run ends.
+fn verbose<'a>(alloc: Global) -> Arg<'a> {
+    Arg::new(alloc, "verbose")
+        .long("verbose")
+        .help("Tells where a fault is, or why nothing is repeated")
+        .action(ArgAction::SetTrue)
+}
+
 /// The options of `run` that name files.
 fn files<'a>(alloc: Global) -> Result<Vec<Arg<'a>>, AllocError> {
     Ok(vec![in alloc;
@@ -64,7 +72,7 @@ fn files<'a>(alloc: Global) -> Result<Vec<Arg<'a>>, AllocError> {
     ]?)
 }
 
-/// The options of `run` that are settings.
+/// The options of `run` that are settings, or tell more.
 fn settings<'a>(alloc: Global) -> Result<Vec<Arg<'a>>, AllocError> {
     let colour = colour(alloc)?;
     Ok(vec![in alloc;
@@ -83,6 +91,7 @@ fn settings<'a>(alloc: Global) -> Result<Vec<Arg<'a>>, AllocError> {
             "5",
         ),
         queue(alloc),
+        verbose(alloc),
     ]?)
 }
 

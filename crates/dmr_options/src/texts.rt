@@ -11,7 +11,9 @@ most as many as the channel hang. No output may be another file of the run.\n\
 Where an input is a pipe, each frame is written as soon as it is decided.\n\n\
 Status 0: done, and the numbers of the run are printed, to standard error where\n\
 a file goes to standard output; 1: a fault, which is told on standard error;\n\
-2: the command line.\n\n\
+2: the command line. With --verbose one more line on standard error has the\n\
+file, the octet, the frame and the slot of a fault, and the system's reason;\n\
+or, where nothing is repeated, what was heard.\n\n\
 Example:\n  dmrgate run --uplink in.dmru --downlink out.dmrd --llid 1\n\n\
 The files are described in docs/protocol.md.";
 

@@ -10,12 +10,17 @@
 //! with `error: ` goes to the second, and every other to the first. Where standard output is a file of the run, `print_end_beside`
 //! prints to the second whatever there is (`specs/Summary.antt`).
 //!
+//! Where more is to be told, the files of the run are watched (`dmr_watch`). Then one more line tells where a file is at fault, and
+//! why by the system, or what was heard where nothing was repeated (`specs/More.antt`, `specs/Told.antt`). A run without that is
+//! not watched.
+//!
 //! `fulfil` does what a request asks for (`dmr_command`), on a system (`dmr_files`). `obey` does what the words of a command line
 //! ask for, and `program` does that on the system that it runs on. All three print to two sinks (`dmr_record`): what was asked for
 //! to the first, errors to the second.
 #![tactic(auto)]
 
 mod devices;
+mod more;
 mod obeying;
 mod opening;
 mod process;
@@ -23,6 +28,7 @@ mod run_end;
 mod running;
 mod slot;
 mod text;
+mod watched_run;
 
 pub use obeying::{fulfil, obey};
 pub use process::program;

@@ -7,6 +7,7 @@ ghost use Rattle.dmr_program.specs.Summary.{is_sent_out};
 use dmr_command::Places;
 use dmr_files::{Identity, Open, Place, StandardFiles, System};
 use dmr_repeater::Stream;
+use std::io::Error;
 
 /// The files of a run, open.
 #[derive(Drop)]
@@ -23,6 +24,13 @@ pub struct Taken {
     pub uplink: Identity,
     pub outgoing: Option<Identity>,
     pub standard: StandardFiles,
+}
+
+/// A file that can't be opened or emptied, and why, where the system says so. It says nothing of one that is in use.
+#[derive(Clone, Copy, Drop)]
+pub(crate) struct Unopened {
+    pub(crate) stream: Stream,
+    pub(crate) reason: Option<Error>,
 }
 
 /// Which file an open one is, where there is one.
@@ -43,6 +51,14 @@ pub(crate) fn are_live(uplink: &Identity, outgoing: &Option<Identity>) -> bool
     }
 }
 
+/// An open file, where there is one.
+pub(crate) fn file_if_any<F>(open: Option<Open<F>>) -> Option<F> {
+    match open {
+        Some(open) => Some(open.file),
+        None => None,
+    }
+}
+
 impl<I, O> Opened<I, O> {
     /// Whether more of an input may come while it is read, so that what is decided is written at once.
     pub(crate) fn is_live(&self) -> bool {
@@ -55,12 +71,15 @@ fn open_input<S: System>(
     system: &S,
     place: Place<'_>,
     stream: Stream,
-) -> Result<Open<S::Input>, Stream>
-    ensures named { IfErr result (λ e. e ≡ stream) }
+) -> Result<Open<S::Input>, Unopened>
+    ensures named { IfErr result (λ e. e.stream ≡ stream) }
 {
     match system.open_input(place) {
         Ok(open) => Ok(open),
-        Err(_) => Err(stream),
+        Err(error) => Err(Unopened {
+            stream,
+            reason: Some(error),
+        }),
     }
 }
 
@@ -69,8 +88,8 @@ fn open_input_if_any<S: System>(
     system: &S,
     place: Option<Place<'_>>,
     stream: Stream,
-) -> Result<Option<Open<S::Input>>, Stream>
-    ensures named { IfErr result (λ e. e ≡ stream) }
+) -> Result<Option<Open<S::Input>>, Unopened>
+    ensures named { IfErr result (λ e. e.stream ≡ stream) }
 {
     match place {
         Some(place) => Ok(Some(open_input(system, place, stream)?)),
@@ -103,13 +122,20 @@ fn open_output<S: System>(
     place: Place<'_>,
     stream: Stream,
     taken: &Taken,
-) -> Result<Open<S::Output>, Stream>
+) -> Result<Open<S::Output>, Unopened>
     ensures apart { IfOk result (λ output. IsApart taken.now output.identity) }
-    ensures named { IfErr result (λ e. e ≡ stream) }
+    ensures named { IfErr result (λ e. e.stream ≡ stream) }
 {
     match system.open_output(place) {
         Ok(open) if is_apart(&open.identity, taken) => Ok(open),
-        _ => Err(stream),
+        Ok(_) => Err(Unopened {
+            stream,
+            reason: None,
+        }),
+        Err(error) => Err(Unopened {
+            stream,
+            reason: Some(error),
+        }),
     }
 }
 
@@ -119,9 +145,9 @@ fn open_output_if_any<S: System>(
     place: Option<Place<'_>>,
     stream: Stream,
     taken: &Taken,
-) -> Result<Option<Open<S::Output>>, Stream>
+) -> Result<Option<Open<S::Output>>, Unopened>
     ensures apart { IfOk result (λ output. IfSome output (λ file. IsApart taken.now file.identity)) }
-    ensures named { IfErr result (λ e. e ≡ stream) }
+    ensures named { IfErr result (λ e. e.stream ≡ stream) }
 {
     match place {
         Some(place) => Ok(Some(open_output(system, place, stream, taken)?)),
@@ -139,23 +165,40 @@ fn gets_into<F>(received: &Option<Open<F>>, downlink: &Identity) -> bool
     }
 }
 
+/// Empties an output, which is no other file of the run and none behind a standard stream.
+fn empty_output<S: System>(
+    system: &S,
+    output: &Open<S::Output>,
+    stream: Stream,
+    taken: &Taken,
+) -> Result<(), Unopened>
+    requires apart { IsApart taken.now output.now.identity }
+    ensures named { IfErr result (λ e. e.stream ≡ stream) }
+{
+    match system.empty(output) {
+        Ok(()) => Ok(()),
+        Err(error) => Err(Unopened {
+            stream,
+            reason: Some(error),
+        }),
+    }
+}
+
 /// Empties the outputs, which are no other file of the run and none behind a standard stream.
 fn empty_outputs<S: System>(
     system: &S,
     downlink: &Open<S::Output>,
     received: &Option<Open<S::Output>>,
     taken: &Taken,
-) -> Result<(), Stream>
+) -> Result<(), Unopened>
     requires downlink { IsApart taken.now downlink.now.identity }
     requires received { IfSome received.now (λ file. IsApart taken.now file.identity) }
     requires outputs { IfSome received.now (λ file. clashes file.identity downlink.now.identity ≡ false) }
 {
-    if system.empty(downlink).is_err() {
-        return Err(Stream::Downlink);
-    }
+    empty_output(system, downlink, Stream::Downlink, taken)?;
     match received {
-        Some(received) if system.empty(received).is_err() => Err(Stream::Received),
-        _ => Ok(()),
+        Some(received) => empty_output(system, received, Stream::Received, taken),
+        None => Ok(()),
     }
 }
 
@@ -164,7 +207,7 @@ fn empty_outputs<S: System>(
 pub(crate) fn open_files<S: System>(
     system: &S,
     places: &Places<'_>,
-) -> Result<Opened<S::Input, S::Output>, Stream> {
+) -> Result<Opened<S::Input, S::Output>, Unopened> {
     let standard = system.standard_files().in_use(places.take_output());
     let uplink = open_input(system, places.uplink, Stream::Uplink)?;
     let outgoing = open_input_if_any(system, places.outgoing, Stream::Outgoing)?;
@@ -176,7 +219,10 @@ pub(crate) fn open_files<S: System>(
     let downlink = open_output(system, places.downlink, Stream::Downlink, &taken)?;
     let received = open_output_if_any(system, places.received, Stream::Received, &taken)?;
     if gets_into(&received, &downlink.identity) {
-        return Err(Stream::Received);
+        return Err(Unopened {
+            stream: Stream::Received,
+            reason: None,
+        });
     }
     empty_outputs(system, &downlink, &received, &taken)?;
     Ok(Opened {

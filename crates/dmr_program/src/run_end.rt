@@ -1,7 +1,9 @@
 //! How a run ended.
 ghost use Rattle.std.specs.Prelude.{◌≡◌, ◌↔◌, false, true, IsTrue};
-ghost use Rattle.dmr_lines.specs.Line.{PutsError, PutsLine};
-ghost use Rattle.dmr_program.specs.RunEnd.{IsDone, status_of};
+ghost use Rattle.std.specs.Io.KnownBytes.{Appends};
+ghost use Rattle.dmr_lines.specs.Line.{IsOneLine, PutsError, PutsLine, error_octets};
+ghost use Rattle.dmr_program.specs.RunEnd.{IsDone, end_of, status_of};
+ghost use Rattle.dmr_program.specs.Told.{PutsErrorAnd, PutsLineAnd};
 ghost use Rattle.dmr_lines.specs.Status.{failure, success};
 
 use crate::text::text_of;
@@ -60,6 +62,16 @@ fn write_summary<W: fmt::Write>(summary: &Summary, f: &mut fmt::Formatter<W>) ->
 }
 
 impl RunEnd {
+    /// How a run over open files ended.
+    pub(crate) fn of(end: Result<Summary, RunFault>) -> RunEnd
+        ensures value { result ≡ end_of end }
+    {
+        match end {
+            Ok(summary) => RunEnd::Done(summary),
+            Err(fault) => RunEnd::Fault(fault),
+        }
+    }
+
     /// Whether it came to the end of its files.
     fn is_done(&self) -> bool
         ensures done { IsTrue result ↔ IsDone self.now }
@@ -125,5 +137,75 @@ pub fn print_end_beside<E: Sink>(end: &RunEnd, err: &mut E) -> u8
         print_line(err, line, end.status())
     } else {
         print_error(err, line, end.status())
+    }
+}
+
+/// Prints a line that tells an error, and behind it one more, and answers the status that is to follow them. Where the first can't
+/// be printed, the other isn't.
+fn print_errors<E: Sink>(line: &str, more: &str, status: u8, err: &mut E) -> u8
+    requires err { E.has_failed err.old ≡ false }
+    requires one { IsOneLine line.now }
+    ensures both { E.has_failed err.new ≡ false → PutsErrorAnd more.now (E.held err.old) (E.held err.new) }
+    ensures status { E.has_failed err.new ≡ false → result ≡ status }
+    ensures failed { E.has_failed err.new ≡ true → result ≡ failure }
+{
+    match print_error(err, line, SUCCESS) {
+        SUCCESS => print_error(err, more, status),
+        _ => FAILURE,
+    }
+}
+
+/// Prints a line, and behind it one that tells an error, as `print_errors` prints two of these.
+fn print_line_and_error<E: Sink>(line: &str, more: &str, status: u8, err: &mut E) -> u8
+    requires err { E.has_failed err.old ≡ false }
+    requires one { IsOneLine line.now }
+    ensures both { E.has_failed err.new ≡ false → PutsLineAnd more.now (E.held err.old) (E.held err.new) }
+    ensures status { E.has_failed err.new ≡ false → result ≡ status }
+    ensures failed { E.has_failed err.new ≡ true → result ≡ failure }
+{
+    match print_line(err, line, SUCCESS) {
+        SUCCESS => print_error(err, more, status),
+        _ => FAILURE,
+    }
+}
+
+/// Prints how a run ended, and behind that a line that tells more of it, and answers the exit status. The numbers of a run that
+/// came to its end go to the first sink, but where standard output is a file of the run; all else goes to the second. Where the
+/// first line can't be printed, the other isn't.
+pub(crate) fn print_end_and_more<K: Sink, E: Sink>(
+    end: &RunEnd,
+    more: &str,
+    is_beside: bool,
+    out: &mut K,
+    err: &mut E,
+) -> u8
+    requires out { K.has_failed out.old ≡ false }
+    requires err { E.has_failed err.old ≡ false }
+    ensures line { IsDone end.now → is_beside ≡ false → K.has_failed out.new ≡ false → PutsLine (K.held out.old) (K.held out.new) }
+    ensures more { IsDone end.now → is_beside ≡ false → K.has_failed out.new ≡ false → E.has_failed err.new ≡ false
+        → Appends (E.held err.old) (E.held err.new) (error_octets more.now) }
+    ensures unwritten { K.has_failed out.new ≡ true → err.new ≡ err.old }
+    ensures both { IsDone end.now → is_beside ≡ true → E.has_failed err.new ≡ false
+        → PutsLineAnd more.now (E.held err.old) (E.held err.new) }
+    ensures errors { (IsDone end.now → ⊥) → E.has_failed err.new ≡ false
+        → PutsErrorAnd more.now (E.held err.old) (E.held err.new) }
+    ensures error_alone { (IsDone end.now → ⊥) → out.new ≡ out.old }
+    ensures beside { is_beside ≡ true → out.new ≡ out.old }
+
+    ensures status { K.has_failed out.new ≡ false → E.has_failed err.new ≡ false → result ≡ status_of end.now }
+    ensures out_failed { K.has_failed out.new ≡ true → result ≡ failure }
+    ensures err_failed { E.has_failed err.new ≡ true → result ≡ failure }
+{
+    let text = text_of(end);
+    let line = line_of(text.as_str());
+    if !end.is_done() {
+        return print_errors(line, more, end.status(), err);
+    }
+    if is_beside {
+        return print_line_and_error(line, more, end.status(), err);
+    }
+    match print_line(out, line, SUCCESS) {
+        SUCCESS => print_error(err, more, end.status()),
+        _ => FAILURE,
     }
 }

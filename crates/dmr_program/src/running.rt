@@ -5,10 +5,10 @@ ghost use Rattle.dmr_program.specs.Ending.{IfDone, IfFault, IsRefused, IfTermina
 ghost use Rattle.dmr_program.specs.Summary.{is_sent_out};
 
 use crate::devices::{OutgoingList, ReceivedFile};
-use crate::opening::{Opened, open_files, sent_to_terminal};
+use crate::opening::{Opened, file_if_any, open_files, sent_to_terminal};
 use crate::run_end::RunEnd;
 use dmr_command::Places;
-use dmr_files::{Open, System, buffered_sink, buffered_source, kept_back, write_out};
+use dmr_files::{System, buffered_sink, buffered_source, kept_back, write_out};
 use dmr_gateway::Config;
 use dmr_record::{DeviceFault, RecordFault};
 use dmr_repeater::{RunFault, Stream, Summary, run};
@@ -37,15 +37,7 @@ pub fn run_places<S: System>(
     }
     match open_files(system, places) {
         Ok(files) => run_files(alloc, config, files),
-        Err(stream) => RunEnd::CannotOpen(stream),
-    }
-}
-
-/// An open file, where there is one.
-fn file_if_any<F>(open: Option<Open<F>>) -> Option<F> {
-    match open {
-        Some(open) => Some(open.file),
-        None => None,
+        Err(fault) => RunEnd::CannotOpen(fault.stream),
     }
 }
 
@@ -67,7 +59,7 @@ fn run_files<I: Read + Drop, O: Write + Drop>(
         downlink,
         received,
     } = files;
-    match run_buffered(
+    RunEnd::of(run_buffered(
         alloc,
         config,
         capacity,
@@ -75,10 +67,7 @@ fn run_files<I: Read + Drop, O: Write + Drop>(
         OutgoingList::of(file_if_any(outgoing)),
         downlink.file,
         ReceivedFile::of(file_if_any(received)),
-    ) {
-        Ok(summary) => RunEnd::Done(summary),
-        Err(fault) => RunEnd::Fault(fault),
-    }
+    ))
 }
 
 /// Runs over readers and writers, each behind a buffer, that of a writer with this capacity. What is written before a fault is
@@ -116,7 +105,7 @@ fn run_buffered<U: Read + Drop, O: Read + Drop, D: Write + Drop, R: Write + Drop
 }
 
 /// What a run ends with where there is no memory for a buffer.
-fn with_memory<T>(made: Result<T, AllocError>) -> Result<T, RunFault>
+pub(crate) fn with_memory<T>(made: Result<T, AllocError>) -> Result<T, RunFault>
     ensures value { IfOk result (λ value. made ≡ Ok value) }
     ensures fault { IfErr result (λ e. e ≡ RunFault.Memory) }
 {
@@ -127,7 +116,10 @@ fn with_memory<T>(made: Result<T, AllocError>) -> Result<T, RunFault>
 }
 
 /// What a run ends with where a file can't be written out.
-fn with_octets<W: Drop>(written: Result<W, DeviceFault>, stream: Stream) -> Result<(), RunFault>
+pub(crate) fn with_octets<W: Drop>(
+    written: Result<W, DeviceFault>,
+    stream: Stream,
+) -> Result<(), RunFault>
     ensures fault { IfErr result (λ e. e ≡ RunFault.File stream RecordFault.Write) }
 {
     match written {

@@ -3,3 +3,4 @@ mod command;
 mod files;
 mod report;
 mod stand_in;
+mod watch;

@@ -18,6 +18,7 @@ complete -c dmrgate -n '__fish_seen_subcommand_from run' -l colour -x -d 'The co
 complete -c dmrgate -n '__fish_seen_subcommand_from run' -l call-hang -x -d 'Frames of 60 ms that a call is held'
 complete -c dmrgate -n '__fish_seen_subcommand_from run' -l channel-hang -x -d 'Frames of 60 ms that the channel stays on the air'
 complete -c dmrgate -n '__fish_seen_subcommand_from run' -l queue -x -d 'Datagrams that may wait in a slot, 1 to 64'
+complete -c dmrgate -n '__fish_seen_subcommand_from run' -l verbose -d 'Tell where a fault is, or why nothing is repeated'
 complete -c dmrgate -n '__fish_seen_subcommand_from show' -F
 complete -c dmrgate -n '__fish_seen_subcommand_from show' -l strip -d 'A letter for each slot, 50 frames a line'
 complete -c dmrgate -n '__fish_seen_subcommand_from show' -l json -d 'An object a line, for programs'

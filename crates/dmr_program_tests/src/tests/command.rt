@@ -80,7 +80,7 @@ const BESIDE: [&str; 8] = [
 ];
 
 /// Words, with the status that they end with, and what is printed.
-const OBEYED: [(&[&str], u8, &str, &str); 6] = [
+const OBEYED: [(&[&str], u8, &str, &str); 9] = [
     (&["other", "-V"], 0, "dmrgate 0.2.0\n", ""),
     (
         &[
@@ -115,6 +115,56 @@ const OBEYED: [(&[&str], u8, &str, &str); 6] = [
             "dmrgate",
             "run",
             "--uplink",
+            "up",
+            "--downlink",
+            "down",
+            "--llid",
+            "1",
+            "--verbose",
+        ],
+        0,
+        "frames 7 repeated 1 received 0 delivered 0 sent 0 given-up 0 refused 0 unoffered 0\n",
+        "",
+    ),
+    (
+        &[
+            "dmrgate",
+            "run",
+            "--uplink",
+            "up",
+            "--downlink",
+            "down",
+            "--llid",
+            "1",
+            "--verbose",
+            "--colour",
+            "2",
+        ],
+        0,
+        "frames 7 repeated 0 received 0 delivered 0 sent 0 given-up 0 refused 0 unoffered 0\n",
+        "error: up: nothing was repeated: bursts 1, of other colour codes 1, of base stations 0\n",
+    ),
+    (
+        &[
+            "dmrgate",
+            "run",
+            "--uplink",
+            "no\nwhere",
+            "--downlink",
+            "down",
+            "--llid",
+            "1",
+            "--verbose",
+        ],
+        1,
+        "",
+        "error: uplink: cannot open\nerror: no?where: cannot open: entity not found\n",
+    ),
+    (
+        &[
+            "dmrgate",
+            "run",
+            "--uplink",
             "-",
             "--outgoing",
             "-",
@@ -138,7 +188,7 @@ fn run_with<'a>(llid: &'a str, option: &'a str, value: &'a str) -> [&'a str; 14]
 /// The settings that the words of a run ask for.
 fn settings(alloc: Global, words: &[&str]) -> Result<Result<Config, ConfigFault>, Fail> {
     match request_of(alloc, words)? {
-        Request::Run { config, places: _ } => Ok(config),
+        Request::Run { config, .. } => Ok(config),
         _ => Err(Fail::from("no run")),
     }
 }
@@ -160,7 +210,7 @@ fn places_by_their_options(rt: HostRuntime) -> Result<(), Fail> {
         if let Some(word) = words.get_mut(hyphen) {
             *word = "-";
         }
-        let Request::Run { config: _, places } = request_of(rt.alloc(), &words)? else {
+        let Request::Run { places, .. } = request_of(rt.alloc(), &words)? else {
             return Err(Fail::from("no run"));
         };
         assert!(rt; is_named(Some(places.uplink), &words, 3), "{hyphen}");
@@ -174,7 +224,7 @@ fn places_by_their_options(rt: HostRuntime) -> Result<(), Fail> {
 /// Lists may be left out, and two files can't be one standard stream.
 #[test]
 fn places_that_are_left_out(rt: HostRuntime) -> Result<(), Fail> {
-    let Request::Run { config: _, places } = request_of(rt.alloc(), &BESIDE)? else {
+    let Request::Run { places, .. } = request_of(rt.alloc(), &BESIDE)? else {
         return Err(Fail::from("no run"));
     };
     assert!(rt; places.outgoing.is_none());
@@ -204,6 +254,19 @@ fn settings_by_their_options(rt: HostRuntime) -> Result<(), Fail> {
         let wanted = Config::new(colour, address, call_hang, channel_hang, queue);
         let words = run_with(llid, option, value);
         assert!(rt; settings(alloc, &words)? == wanted, "{option} {value}");
+    }
+    Ok(())
+}
+
+/// More is told where that is asked for, and only there.
+#[test]
+fn more_where_it_is_asked_for(rt: HostRuntime) -> Result<(), Fail> {
+    for (option, value, asked) in [("--queue", "1", false), ("--verbose", "--queue=1", true)] {
+        let words = run_with("1", option, value);
+        let Request::Run { is_verbose, .. } = request_of(rt.alloc(), &words)? else {
+            return Err(Fail::from("no run"));
+        };
+        assert!(rt; is_verbose == asked, "{option}");
     }
     Ok(())
 }

@@ -1,0 +1,4 @@
+pub mod Devices
+pub mod Ears
+pub mod Heard
+pub mod Reached
