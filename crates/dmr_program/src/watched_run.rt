@@ -1,6 +1,6 @@
 //! A run over files at their places that is watched, so that more can be told of how it ended.
 ghost use Rattle.std.specs.Prelude.{◌≡◌, ◌≤◌, ◌+◌, ◌^◌, true, false, IfOk, IfErr};
-ghost use Rattle.dmr_repeater.specs.Runs.{is_of_its_stream};
+ghost use Rattle.dmr_repeater.specs.Causes.{is_of_its_stream};
 ghost use Rattle.dmr_program.specs.Ending.{IfDone, IfFault, IsRefused, IfTerminal};
 ghost use Rattle.dmr_program.specs.Summary.{is_sent_out};
 
