@@ -10,8 +10,8 @@ use Rattle.dmr_repeater.specs.declared.fault.Stream.TheVariants.{Uplink, Outgoin
 
 -- 1. By cause.
 
--- One thing of each cause: that room was refused, a fault of the uplink, a fault of the outgoing file, and a write of an output
--- that failed. An output has no other fault.
+-- What holds where a run ended early, by its cause. The first holds where room was refused, the second of a fault of the uplink,
+-- and the third of one of the outgoing file. The last holds of the output whose write failed, since an output has no other fault.
 abbrev pub ByCause : Type 0 → (RecordFault → Type 0) → (RecordFault → Type 0) → (Stream → Type 0) → RunFault → Type 0
 ByCause Refused OfUplink OfOutgoing OfOutput Memory = Refused
 ByCause Refused OfUplink OfOutgoing OfOutput (File Uplink fault) = OfUplink fault
