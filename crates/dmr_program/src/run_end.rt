@@ -140,8 +140,8 @@ pub fn print_end_beside<E: Sink>(end: &RunEnd, err: &mut E) -> u8
     }
 }
 
-/// Prints a line that tells an error, and behind it one more, and answers the status that is to follow them. Where the first can't be
-/// printed, the other isn't.
+/// Prints a line that tells an error, and behind it one more, and answers the status that is to follow them. Where the first can't
+/// be printed, the other isn't.
 fn print_errors<E: Sink>(line: &str, more: &str, status: u8, err: &mut E) -> u8
     requires err { E.has_failed err.old ≡ false }
     requires one { IsOneLine line.now }
