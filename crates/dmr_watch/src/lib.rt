@@ -7,12 +7,14 @@
 //!
 //! Three devices do what the one behind them does, and remember something beside it. `KeptReader` has the error of the last read
 //! that failed. `WatchedSource` has an ear for what is read. `WatchedWriter` has where the octets that were written have got to,
-//! and the error of the last write that failed (`specs/Devices.antt`).
+//! and the error of the last write that failed (`specs/Devices.antt`). `laws` says that a fault of a recording is told at the slot
+//! that has it (`specs/Slots.antt`).
 #![tactic(auto)]
 
 mod ear;
 mod heard;
 mod kept_reader;
+pub mod laws;
 mod reached;
 mod watched_source;
 mod watched_writer;
