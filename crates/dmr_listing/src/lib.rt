@@ -19,6 +19,7 @@
 //! - which place follows, and what a place means over all that a slot was read as (`specs/VoicePlace.antt`);
 //! - what a burst of a type holds (`specs/Contents.antt`), and what four frames carry (`specs/Fragments.antt`);
 //! - what a CACH announces (`specs/AccessType.antt`), and which bits are wrong (`specs/Wrong.antt`);
+//! - who sends a data header to whom (`specs/Ways.antt`);
 //! - what is counted (`specs/Summaries.antt`).
 //!
 //! Of a whole file they say that each burst or record has a line, in order and once, and that a fault is told exactly where the
