@@ -163,7 +163,7 @@ fn heard_in_pieces(format: FileFormat, colour: u8, piece: usize) -> Heard {
     let mut ear = Ear::new(format, colour);
     let parts: [&[u8]; 6] = [b"DMRU\x01\x00\x00\x00", &[0], &[1], &IDLE, &[1], &BLOCK];
     for part in parts {
-        for octets in part.chunks(piece) {
+        for octets in part.chunks(piece.max(1)) {
             ear.hear(octets);
         }
     }
