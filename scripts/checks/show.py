@@ -163,9 +163,9 @@ def check_closed_streams(report):
     for closed, words, status, told in (
         (0, ["show", "-"], 1, b"error: -: cut record at octet 0\n"),
         (0, ["show", call], 0, b""),
-        (1, ["show", call], 1, b""),
-        (1, ["show", call, "--json"], 1, b""),
-        (1, ["show", call, "--strip"], 1, b""),
+        (1, ["show", call], 1, UNWRITTEN),
+        (1, ["show", call, "--json"], 1, UNWRITTEN),
+        (1, ["show", call, "--strip"], 1, UNWRITTEN),
         (2, ["show", "nowhere"], 1, b""),
         (2, ["show", call], 0, b""),
     ):

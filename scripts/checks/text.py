@@ -300,7 +300,8 @@ def check_places(report):
                 ran = report.call(command, "text", "in", "-", cwd=room.path, stdout=full)
                 report.expect(f"{command} to a full standard output", ran.is_error("-: write failed"), ran)
                 ran = report.call(command, "text", "in", "out", cwd=room.path, stdout=full)
-                is_so = (ran.status, ran.err) == (1, b"") and (room.path / "out").read_bytes() == out
+                told = b"error: standard output: write failed\n"
+                is_so = (ran.status, ran.err) == (1, told) and (room.path / "out").read_bytes() == out
                 report.expect(f"{command}, and its line can't be printed", is_so, ran)
                 ran = report.call(command, "text", "in", "-", cwd=room.path, stderr=full)
                 report.expect(f"{command}, and standard error is full", (ran.status, ran.out) == (1, out), ran)

@@ -416,7 +416,7 @@ def check_readme(report):
         for name in ("one.dmru", "two.dmru"):
             shutil.copy(sample / "uplink.dmru", room.path / name)
         room.uplink.unlink()
-        shell("rm -f mine.dmru", room.path)
+        shell("rm -f mine.dmru calls.dmru", room.path)
         ran = shell(re.search(r"^    (ls .* xargs .*)$", text, re.MULTILINE)[1], room.path)
         report.expect("many at once", (ran.returncode, ran.stdout) == (0, 2 * (line + "\n")), ran)
         made = [(room.path / f"{name}.dmru.dmrd").read_bytes() for name in ("one", "two")]

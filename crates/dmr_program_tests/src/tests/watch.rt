@@ -1,6 +1,7 @@
 //! Where the octets of a file have got to, and what is heard of an uplink.
 use arrayvec::ArrayString;
 use dmr_record::{FileFormat, RecordFault};
+use dmr_recording::FaultLine;
 use dmr_watch::{Ear, Heard, Reached};
 use std::fmt::Write;
 
@@ -124,21 +125,35 @@ const PLACES: [(FileFormat, &[u8], RecordFault, &str); 17] = [
     ),
 ];
 
+/// Where octets behind a head have got to that come one by one.
+fn reached_one_by_one(head: Reached, format: FileFormat, octets: &[u8]) -> Reached {
+    let mut reached = head;
+    for octet in octets {
+        reached = reached.with(format, *octet);
+    }
+    reached
+}
+
+/// How a fault is told.
+fn told(line: FaultLine) -> ArrayString<64> {
+    let mut told = ArrayString::new();
+    // There is room for each of them.
+    let _ = write!(told, "{line}");
+    told
+}
+
 /// Each fault is told where its record begins, in however many pieces the octets come.
 #[test]
 fn places_of_faults(rt: HostRuntime) {
     for (format, octets, fault, text) in PLACES {
         let head = Reached::nothing().by(format, b"DMR?\x01\x00\x00\x00");
-        let mut one_by_one = head;
-        for octet in octets {
-            one_by_one = one_by_one.with(format, *octet);
-        }
-        for reached in [head.by(format, octets), one_by_one] {
-            let mut told = ArrayString::<64>::new();
-            // There is room for each of them.
-            let _ = write!(told, "{}", reached.fault_line(format, fault));
-            assert!(rt; told.as_str() == text, "{told}, not {text}");
-        }
+        let reached = head.by(format, octets);
+        assert!(rt;
+            reached == reached_one_by_one(head, format, octets),
+            "{text}"
+        );
+        let told = told(reached.fault_line(format, fault));
+        assert!(rt; told.as_str() == text, "{told}, not {text}");
     }
 }
 
