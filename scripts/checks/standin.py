@@ -1,9 +1,11 @@
 """A small repository with the scripts of this one, and a kit of a few lines that stands in for the real one."""
 
 import concurrent.futures
+import functools
 import os
 import pathlib
 import shutil
+import signal
 import subprocess
 import sys
 import tempfile
@@ -211,7 +213,9 @@ class Tree:
         """Starts the script, behind what a shell does before."""
         streams = {"stdin": subprocess.DEVNULL, "stdout": subprocess.PIPE, "stderr": subprocess.PIPE, **streams}
         command = ["sh", "-c", f'{before}\nexec "$@"', "sh", sys.executable, self.script, *words]
-        return subprocess.Popen(command, **self.how(), **streams)
+        # A shell's command in the background ignores INT, and so would all that it starts.
+        hear = functools.partial(signal.signal, signal.SIGINT, signal.SIG_DFL)
+        return subprocess.Popen(command, preexec_fn=hear, **self.how(), **streams)
 
     def run(self, *words, script=None, **environment):
         """Runs the script. That of the repository is run by Python at once, which is faster."""
