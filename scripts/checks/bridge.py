@@ -3,6 +3,7 @@
 import contextlib
 import ctypes
 import fcntl
+import itertools
 import os
 import pathlib
 import select
@@ -18,6 +19,9 @@ from checks.program import Ran
 
 # How long a test waits for what has to come, in seconds. It goes on as soon as that is there.
 PATIENCE = 30
+
+# How long the script waits for a modem that doesn't read, in seconds. An end that waits for none takes less.
+WAITED_FOR = 5
 
 BRIDGE, DEVICE = "share/bridge/dmrgate-bridge", "dmr0"
 
@@ -83,8 +87,8 @@ def children_of(pid):
     return found
 
 
-def is_device_there():
-    return DEVICE in [name for _, name in socket.if_nameindex()]
+def is_device_there(device=DEVICE):
+    return device in [name for _, name in socket.if_nameindex()]
 
 
 def mtu_of(device):
@@ -155,17 +159,20 @@ class Host:
 class Gateway:
     """The script that is tried, while it runs. The test is its modem, at a Unix socket where no other is told."""
 
-    def __init__(self, report, *options, modem=None, clock="modem", program=None, folder=None, streams=None, prepare=None, by=()):
-        self.report = report
+    def __init__(
+        self, report, *options, llid=1, modem=None, clock="modem", program=None, folder=None, streams=None, prepare=None, by=()
+    ):
+        self.report, self.llid, self.name = report, llid, f"a gateway with {options}"
         self.held = tempfile.TemporaryDirectory(prefix="dmrgate-check-")
         self.path = pathlib.Path(self.held.name)
         self.kept = folder or self.path / "kept"
         self.kept.mkdir(exist_ok=True)
+        self.first = 1 + len([*self.kept.glob("*.dmru")])
         self.listener = socket.socket(socket.AF_UNIX)
         self.listener.settimeout(PATIENCE)
         self.listener.bind(str(self.path / "modem.sock"))
         self.listener.listen()
-        words = [*by, report.top / BRIDGE, "--program", program or report.programs["dmrgate"], "--llid", 1, "--clock", clock]
+        words = [*by, report.top / BRIDGE, "--program", program or report.programs["dmrgate"], "--llid", llid, "--clock", clock]
         words += ["--modem", modem or self.path / "modem.sock", "--record", self.kept, *options]
         with open(self.path / "out", "wb") as out, open(self.path / "err", "wb") as err:
             streams = {"stdin": subprocess.DEVNULL, "stdout": out, "stderr": err, **(streams or {})}
@@ -175,12 +182,14 @@ class Gateway:
     def __enter__(self):
         return self
 
-    def __exit__(self, *_):
+    def __exit__(self, kind, *_):
         self.process.kill()
         self.process.wait()
         for end in (self.modem, self.listener, self.process.stdin, self.process.stdout):
             if end:
                 end.close()
+        if kind is None:
+            self.expect_as_over_files()
         self.held.cleanup()
 
     def accept(self):
@@ -260,6 +269,14 @@ class Gateway:
             self.process.wait(PATIENCE)
         return Ran(self.process.returncode, *self.printed())
 
+    def ended_at_once(self):
+        """How it ended, without waiting for a modem that doesn't read."""
+        begun = time.monotonic()
+        ran = self.ended()
+        waited = time.monotonic() - begun
+        self.expect(f"{self.name}: it ends at once", waited < WAITED_FOR, waited)
+        return ran
+
     def run(self):
         """The run that it has started."""
         found = []
@@ -282,27 +299,32 @@ class Gateway:
     def expect(self, name, is_so, why=""):
         self.report.expect(name, is_so, why)
 
-    def expect_order(self, name, *runs, counts="", behind=5, first=1, status=0, error=b"", is_beside=False):
-        """It ended in order. It printed the numbers of these runs and of the gateway, of which those that aren't told are 0. Each
-        run is that over its files. The modem got all downlinks, so many frames behind its end. Nothing is left behind."""
+    def expect_order(self, name, *runs, counts="", **how):
+        """It ended in order, and printed the numbers of these runs and of the gateway, of which those that aren't told are 0."""
+        ran, lines, last = self.expect_ended(name, len(runs), **how)
+        self.expect_numbers(f"{name}: the gateway", last, OF_GATEWAY, counts)
+        for number, (line, numbers) in enumerate(zip(lines, runs), self.first):
+            self.expect_numbers(f"{name}: run {number}", line, OF_RUN, numbers)
+        return ran
+
+    def expect_ended(self, name, runs, behind=5, status=0, error=b"", is_beside=False):
+        """It ended at once, and printed a line for each of so many runs, and one of its own, which are answered. The modem got all
+        downlinks, so many frames behind its end. Nothing is left behind."""
+        self.name = name
         got_behind = self.close() if behind is not None else None
-        ran = self.ended()
+        ran = self.ended_at_once()
         self.expect_nothing_left(name)
         self.expect(f"{name}: the frames behind the end", got_behind == behind, got_behind)
         told, others = (ran.err, ran.out) if is_beside else (ran.out, ran.err)
         self.expect(f"{name}: its end", (ran.status, others) == (status, error), ran)
         *lines, last = told.decode().splitlines() or [""]
-        self.expect_numbers(f"{name}: the gateway", last, OF_GATEWAY, counts)
-        self.expect(f"{name}: {len(runs)} runs", len(lines) == len(runs), ran)
-        for number, (line, numbers) in enumerate(zip(lines, runs), first):
-            self.expect_numbers(f"{name}: run {number}", line, OF_RUN, numbers)
-            self.expect_as_over_files(f"{name}: run {number}", number, line)
-        downlinks = [self.file("dmrd", number) for number in range(first, first + len(runs))]
-        wanted = it.DOWNLINK_HEAD + b"".join(downlink[8:] for downlink in downlinks)
+        self.expect(f"{name}: {runs} runs", len(lines) == runs, ran)
+        numbers = range(self.first, self.first + runs)
+        wanted = it.DOWNLINK_HEAD + b"".join(self.file("dmrd", number)[8:] for number in numbers)
         self.expect(f"{name}: what the modem got", self.got == wanted, (len(self.got), len(wanted)))
-        wanted = {f"{number}.{kind}" for number in range(1, first + len(runs)) for kind in KINDS}
+        wanted = {f"{number}.{kind}" for number in range(1, self.first + runs) for kind in KINDS}
         self.expect(f"{name}: the files", {file.name for file in self.kept.iterdir()} == wanted, [*self.kept.iterdir()])
-        return ran
+        return ran, lines, last
 
     def expect_nothing_left(self, name):
         """No process is left behind, and no device. The script has waited for both."""
@@ -316,14 +338,26 @@ class Gateway:
             wanted["not-for-radios"] = has["not-for-radios"]
         self.expect(f"{name}: its numbers", list(has.items()) == list(wanted.items()), line)
 
-    def expect_as_over_files(self, name, number, line):
-        """A run over the inputs of a live run writes its outputs, and prints its line."""
+    def expect_as_over_files(self):
+        """Each run is the run over its files. One that didn't end in order printed no line, and what it wrote is a front."""
+        told = b"".join(self.printed()).decode().splitlines()
+        lines = [line for line in told if line.startswith("frames ")]
+        count = len([*self.kept.glob("*.dmru")])
+        for number, line in itertools.zip_longest(range(self.first, count + 1), lines):
+            self.expect_run_as_over_files(f"{self.name}: run {number}", number, line)
+
+    def expect_run_as_over_files(self, name, number, line):
+        """A run over the inputs of a live run writes its outputs, and prints its line, where it has one."""
         over = [self.path / f"over-files.{kind}" for kind in ("dmrd", "dmri")]
         words = ["--uplink", self.kept / f"{number}.dmru", "--outgoing", self.kept / f"{number}.dmro"]
-        ran = self.report.call("run", "--llid", 1, *words, "--downlink", over[0], "--received", over[1])
+        ran = self.report.call("run", "--llid", self.llid, *words, "--downlink", over[0], "--received", over[1])
+        outputs = [(self.file(file.suffix[1:], number), file.read_bytes()) for file in over]
+        if line is None:
+            is_so = all(whole.startswith(output) for output, whole in outputs)
+            self.expect(f"{name}: a front of the outputs over files", is_so, "other octets")
+            return
         self.expect(f"{name}: the line over files", (ran.status, ran.out, ran.err) == (0, f"{line}\n".encode(), b""), ran)
-        outputs = [self.file("dmrd", number), self.file("dmri", number)]
-        self.expect(f"{name}: the outputs over files", [file.read_bytes() for file in over] == outputs, "other octets")
+        self.expect(f"{name}: the outputs over files", all(output == whole for output, whole in outputs), "other octets")
         frames = [frame for frame, *_ in outgoing_in(self.file("dmro", number))]
         self.expect(f"{name}: the frames of the records", frames == [*range(1, len(frames) + 1)], frames)
         given = len(in_frames(self.file("dmru", number), OF_UPLINK)) - 1

@@ -1,7 +1,8 @@
 """The documents are true of the sources: links lead somewhere, definitions stand in their files, words in their crates, and the
-public calls in their table. No sentence of theirs, or of a docstring, is longer than 40 words."""
+public calls in their table; counts are as they are counted. No sentence of theirs, or of a docstring, is longer than 40 words."""
 
 import re
+import subprocess
 
 WIDTH = 132
 # Words that a sentence may have.
@@ -54,6 +55,10 @@ FENCE = re.compile(r" *```")
 # Code, and a link of a text. Both may go over several lines.
 CODE = re.compile(r"`[^`]*`")
 LINKED = re.compile(r"\[([^\]]*)\](?:\([^)\s]*\)|\[[^\]]*\])")
+# A word of code without spaces, what makes it a file's name, and where the files stand.
+WORD = re.compile(r"`([^`\s]+)`")
+FILE = re.compile(r"/|\.(?:rt|antt|edit|py|md|txt|1)$")
+TOLD_FOLDERS = "crates", "docs", "scripts", "share", "samples"
 # The last word of a sentence, with brackets, quotes and marks behind it.
 LAST_WORD = re.compile(r"[.!?:][)\]\"'*_]*$")
 
@@ -92,6 +97,16 @@ def check_link(report, file, target):
     place = (file.parent / path).resolve() if path else file
     is_there = place.exists() and (not anchor or anchor in anchors_in(place.read_text()))
     report.expect(f"{file.name} links to {target}", is_there, place)
+
+
+def check_files_told(report):
+    """CONTRIBUTING.md names no file that isn't there, by its name or by the end of its path."""
+    told = {it for it in WORD.findall((report.top / "CONTRIBUTING.md").read_text()) if "NAME" not in it and FILE.search(it)}
+    files = [it for folder in TOLD_FOLDERS for it in report.top.glob(f"{folder}/**/*") if "out" not in it.parts]
+    paths = {f"/{it.relative_to(report.top)}" for it in [*files, *report.top.iterdir()]}
+    missing = sorted(name for name in told if not any(path.endswith("/" + name.strip("./")) for path in paths))
+    report.expect("CONTRIBUTING.md names files", len(told) > 100, len(told))
+    report.expect("the files that CONTRIBUTING.md names are there", not missing, missing)
 
 
 def check_links(report):
@@ -305,6 +320,52 @@ def check_public_calls(report):
         report.expect(f"the table has the public calls of {crate}", in_row == calls, f"missing {missing}, unknown {unknown}")
 
 
+def check_counts(report):
+    """docs/testing.md has the numbers that its commands count, and those of its two tables are as many together."""
+    text = (report.top / "docs/testing.md").read_text()
+    told = [(what, int(count)) for what, count in tables_of(text, "| What | How many |")]
+    commands = re.findall(r"^    (\S.*)$", text[: text.index("\n## ")], re.MULTILINE)
+    report.expect("docs/testing.md has a command for each count", len(commands) == len(told), commands)
+    for (what, count), command in zip(told, commands):
+        ran = subprocess.run(["sh", "-c", command], cwd=report.top, capture_output=True, text=True)
+        counted = [int(it) for it in re.findall(r"\d+", ran.stdout.splitlines()[-1] if ran.stdout else "")]
+        report.expect(f"docs/testing.md counts {what}", count in counted, f"{count}, and it is one of {counted}")
+    counts = dict(told)
+    for head, what in (("| Crate | Tests |", "tests"), ("| Layer | Wrong bodies |", "wrong bodies")):
+        together = sum(int(count) for _, count in tables_of(text, head))
+        report.expect(f"the {what} of docs/testing.md, together", together == counts[what], f"{together} and {counts[what]}")
+    parts = re.findall(r'^    "(\w+)": \w+\.check', (report.top / "check").read_text(), re.MULTILINE)
+    in_table = [NAME.match(part)[1] for part, *_ in tables_of(text, "| Part | Tries | For what |")]
+    report.expect("docs/testing.md has each part of ./check, in order", in_table == parts, in_table)
+
+
+def crates_above(crates_txt):
+    """For each crate the others that stand on it, at whatever distance, those of tests too."""
+    above = {}
+    # Lowest first, so that those below are known.
+    below = {}
+    for name, words in re.findall(r"^(\w+):(.*)$", crates_txt, re.MULTILINE):
+        below[name] = set(words.split()).union(*(below.get(it, ()) for it in words.split()))
+        for it in below[name]:
+            above.setdefault(it, set()).add(name)
+    return above
+
+
+def check_callers(report):
+    """Each function and method that a library shows is named by a crate above it, in its code, its definitions or its proofs."""
+    crates = report.top / "crates"
+    above = crates_above((report.top / "crates.txt").read_text())
+    words = {}
+    for crate in (it for it in crates.iterdir() if (it / "src").is_dir()):
+        files = [it for kind in ("src/**/*.rt", "specs/*.antt", "proofs/**/*.antt") for it in crate.glob(kind)]
+        words[crate.name] = {word for file in files for word in re.findall(r"\w+", file.read_text())}
+    for crate in (it for it in libraries_of(report) if (it / "src/lib.rt").exists()):
+        named = set().union(*(words[it] for it in above.get(crate.name, ())))
+        calls = {it for it in public_calls_of(crate) if re.match(r"[a-z]\w*$", it.split("::")[-1])}
+        alone = {it for it in calls if it.split("::")[-1] not in named}
+        report.expect(f"each public call of {crate.name} is named above it", not alone, sorted(alone))
+
+
 def is_prose(line):
     """A line of a document that is neither a row of a table, a command nor what a link means: those can't be broken."""
     return not line.startswith(("|", "    ", "["))
@@ -434,6 +495,7 @@ def check_sentences(report):
 
 def check(report):
     check_links(report)
+    check_files_told(report)
     check_definitions(report)
     check_promises(report)
     check_headline(report)
@@ -443,5 +505,7 @@ def check(report):
     check_crates(report)
     check_picture(report)
     check_public_calls(report)
+    check_counts(report)
+    check_callers(report)
     check_width(report)
     check_sentences(report)

@@ -19,8 +19,9 @@ import traceback
 
 from building.programs import PROGRAMS
 from checks import recordings as it
-from checks.bridge import DEVICE, GATEWAY, OF_RUN, PATIENCE, PMTUDISC_DO, PMTUDISC_DONT, RADIO, SILENCE, Gateway, Host, add_routes
-from checks.bridge import are_children_gone, call_ip, comes_true, in_slot, is_device_there, mtu_of, numbers_of, take_orphans
+from checks.bridge import BRIDGE, DEVICE, GATEWAY, HOST_PORT, OF_RUN, PATIENCE, PMTUDISC_DO, PMTUDISC_DONT, RADIO, RADIO_PORT
+from checks.bridge import SILENCE, WAITED_FOR, Gateway, Host, add_routes, are_children_gone, call_ip, comes_true, in_slot
+from checks.bridge import is_device_there, mtu_of, numbers_of, take_orphans
 from checks.pipes import OF_DOWNLINK, OF_UPLINK, Reader, Sample, in_frames
 from checks.program import Report
 
@@ -89,8 +90,15 @@ HALVES = {
 # A pipe takes more as long as one of its pages is free, so many octets. Linux has a call that tells how many a pipe holds.
 PAGE, F_GETPIPE_SZ = os.sysconf("SC_PAGESIZE"), 1032
 
-# How a program is started that may not make a device, and what is told of a modem that breaks off.
+# How a program is started that may not make a device, and how one in Python for which each folder is empty. What is told of a modem
+# that breaks off.
 WITHOUT_RIGHTS = "unshare", "--user"
+SEES_NO_FILES = """
+import os, runpy, sys
+os.listdir = lambda _: []
+del sys.argv[0]
+runpy.run_path(sys.argv[0], run_name="__main__")
+"""
 BROKEN_OFF = b"error: modem: broken off\n"
 
 
@@ -130,6 +138,21 @@ def check_recording(report, name, uplink, sample):
         report.expect(f"{name}: the downlink", live.got == sample.downlink, "other octets")
 
 
+def check_as_typed(report):
+    """As a user starts it: the program is on the path, and nothing is kept."""
+    sample = Sample(report, "call")
+    with tempfile.TemporaryDirectory(prefix="dmrgate-check-") as folder:
+        pathlib.Path(folder, "dmrgate").symlink_to(report.programs["dmrgate"])
+        with open(report.top / "samples/call/uplink.dmru", "rb") as given:
+            words = [report.top / BRIDGE, "--llid", "1", "--modem", "-", "--clock", "modem"]
+            env = {**os.environ, "PATH": f"{folder}:{os.environ['PATH']}"}
+            ran = subprocess.run(words, stdin=given, capture_output=True, cwd=folder, env=env, timeout=PATIENCE)
+        is_so = (ran.returncode, ran.stdout) == (0, sample.downlink)
+        is_told = ran.stderr.startswith(sample.line.replace(b"refused 0", b"refused 21") + b"to-radios 0 refused 0 ")
+        report.expect("as a user starts it", is_so and is_told, ran)
+        report.expect("as a user starts it: no file is made", os.listdir(folder) == ["dmrgate"], os.listdir(folder))
+
+
 def check_slow_reader(report):
     """Where standard output is a pipe that nobody reads for a while, the script waits, and writes all of it."""
     head, *frames = in_frames(Sample(report, "call").uplink, OF_UPLINK)
@@ -138,7 +161,7 @@ def check_slow_reader(report):
         # All of it has room in a pipe, and the downlink hasn't.
         live.process.stdin.write(uplink)
         live.process.stdin.close()
-        time.sleep(6)
+        time.sleep(WAITED_FOR + 1)
         report.expect("it goes on while nobody reads", live.process.poll() is None, live.printed())
         live.got = Reader(live.process.stdout).rest()
         numbers = f"frames {100 * len(frames) + 6} repeated 700 refused {100 * len(frames) + 1}"
@@ -163,6 +186,26 @@ def check_datagram(report):
             report.expect(f"{name}: the record", records == [(12, 1, 0, wanted)], records)
             strip = [f"{12 * '.'}{shown}".ljust(46, ".") for shown in (marks, len(marks) * "i")]
             report.expect(f"{name}: the picture", live.strip() == strip, live.strip())
+
+
+def check_other_names(report):
+    """The gateway has another address and another device, and its radios are in slot 2."""
+    address, device, llid = "12.1.17.112", "radios", 70000
+    with Gateway(report, "--tun", device, "--slot", 2, llid=llid) as live:
+        live.begin()
+        report.expect("another device", is_device_there(device) and not is_device_there())
+        host = Host(address)
+        host.send(b"how are you")
+        live.be_silent(20)
+        host.close()
+        live.expect_order("other names", "frames 26 sent 1 refused 20", counts="to-radios 1")
+        report.expect("another device is gone", not is_device_there(device))
+        ends = [(socket.inet_aton(end), port) for end, port in ((address, HOST_PORT), (RADIO, RADIO_PORT))]
+        wanted = [(2, 2, 0, without_marks(it.datagram(*ends, b"how are you")))]
+        records = [(*at, without_marks(packet)) for *at, packet in live.records()]
+        report.expect("other names: the record", records == wanted, records)
+        strip = [f"..{shown}".ljust(26, ".") for shown in (10 * "i", "ccDbbiiiii")]
+        report.expect("other names: the picture", live.strip() == strip, live.strip())
 
 
 def check_both_ways(report):
@@ -263,7 +306,7 @@ def check_restart(report):
             with Gateway(report, "--restart", 20, folder=pathlib.Path(folder)) as live:
                 live.begin().be_silent(50)
                 report.expect("a frame for each one", len(in_frames(live.got, OF_DOWNLINK)) == 1 + 51, len(live.got))
-                live.expect_order(f"runs from {number} on", *runs, first=number)
+                live.expect_order(f"runs from {number} on", *runs)
                 files = {file.name: file.read_bytes() for file in live.kept.iterdir()}
                 report.expect("no file is written over", {name: files[name] for name in before} == before)
                 before = files
@@ -394,15 +437,31 @@ def check_longest(report):
 def expect_refused(report, name, text, *options, head=None, status=1, **how):
     """A gateway that can't begin, or whose modem sends no uplink, tells so."""
     with Gateway(report, *options, **how) as live:
+        live.name = name
         if head is not None:
             live.begin(head)
-        ran = live.ended()
+        ran = live.ended_at_once()
         report.expect(name, (ran.status, ran.err) == (status, f"error: {text}\n".encode()), ran)
         live.expect_nothing_left(name)
+        report.expect(f"{name}: no file is left behind", head is not None or not [*live.kept.iterdir()])
+
+
+def check_same_moment(report):
+    """Another script begins a recording in the same folder, once this one has looked which number is free."""
+    with tempfile.TemporaryDirectory() as folder:
+        file = pathlib.Path(folder, "1.dmru")
+        file.write_bytes(b"of another run")
+        with Gateway(report, folder=pathlib.Path(folder), by=(sys.executable, "-c", SEES_NO_FILES)) as live:
+            ran = live.ended_at_once()
+            report.expect("another run has the name", (ran.status, ran.err) == (1, f"error: {file}: File exists\n".encode()), ran)
+            live.expect_nothing_left("another run has the name")
+            is_so = os.listdir(folder) == [file.name] and file.read_bytes() == b"of another run"
+            report.expect("another run has the name: its file stays as it is", is_so, os.listdir(folder))
 
 
 def check_beginnings(report):
     """What isn't there, what can't be used, and a modem that sends something else."""
+    check_same_moment(report)
     expect_refused(report, "no program", "/no/program: No such file or directory", program="/no/program")
     expect_refused(report, "no modem", "modem /no/modem: No such file or directory", modem="/no/modem")
     expect_refused(report, "nobody listens", "modem 127.0.0.1:9: Connection refused", modem="127.0.0.1:9")
@@ -414,12 +473,12 @@ def check_beginnings(report):
     expect_refused(report, "no rights", "dmr0: Operation not permitted", by=WITHOUT_RIGHTS)
     call_ip("route add 12.0.0.0/8 dev lo")
     with Gateway(report) as live:
-        ran = live.ended()
+        ran = live.ended_at_once()
         is_so = ran.status == 1 and ran.err.endswith(b"\nerror: dmr0: cannot be set up\n") and not is_device_there()
         report.expect("a route that is there", is_so, ran)
     call_ip("route del 12.0.0.0/8 dev lo")
     with Gateway(report, "--", "--colour", 99) as live:
-        ran = live.ended()
+        ran = live.ended_at_once()
         told, error = ran.err.decode().partition("error: the run")[::2]
         told_alone = report.call("run", "--uplink", "a", "--downlink", "b", "--llid", 1, "--colour", 99).err.decode()
         is_so = (ran.status, told, error) == (1, told_alone, " has ended with status 2\n")
@@ -460,7 +519,7 @@ def check_modems_that_go(report):
         live.process.stdout.close()
         with contextlib.suppress(BrokenPipeError):
             live.process.stdin.write(SILENCE)
-        ran = live.ended()
+        ran = live.ended_at_once()
         lines = ran.err.splitlines(keepends=True)
         is_so = (ran.status, len(lines), lines[-1]) == (1, 3, BROKEN_OFF) and lines[0].startswith(b"frames 8 ")
         report.expect("the reader of standard output goes", is_so, ran)
@@ -468,13 +527,8 @@ def check_modems_that_go(report):
 
 def expect_end(report, name, live, numbers, status=0, error=b""):
     """A gateway ends, and prints the numbers of a run and its own, and this error. Its downlink isn't looked at."""
-    ran = live.ended()
-    lines = ran.out.decode().splitlines()
-    report.expect(f"{name}: its end", (ran.status, len(lines), ran.err) == (status, 2, error), ran)
-    live.expect_nothing_left(name)
-    if len(lines) == 2:
-        live.expect_numbers(name, lines[0], OF_RUN, numbers)
-        live.expect_as_over_files(name, 1, lines[0])
+    ran = expect_end_behind(report, name, live, error, status)
+    live.expect_numbers(name, ran.out.decode().partition("\n")[0], OF_RUN, numbers)
 
 
 def check_signals(report):
@@ -482,8 +536,10 @@ def check_signals(report):
     for clock, number in (("modem", signal.SIGTERM), ("modem", signal.SIGHUP), ("own", signal.SIGINT)):
         with Gateway(report, clock=clock) as live:
             live.begin()
+            begun = time.monotonic()
             live.process.send_signal(number)
             live.take_rest()
+            report.expect(f"{number!r}: at once", time.monotonic() - begun < WAITED_FOR)
             frames = len(in_frames(live.got, OF_DOWNLINK)) - 1
             counts = f"late {frames - 6}" if clock == "own" else ""
             report.expect(f"{number!r}: the frames", clock == "own" or frames == 6, frames)
@@ -507,7 +563,7 @@ def check_signals(report):
             live.process.send_signal(signal.SIGINT)
             live.process.send_signal(signal.SIGTERM)
             live.process.send_signal(signal.SIGCONT)
-            ran = live.ended()
+            ran = live.ended_at_once()
             report.expect(f"{name} ends it at once", ran.status == -signal.SIGTERM and b"to-radios" not in ran.err, ran)
             report.expect(f"{name}: nothing is left behind", comes_true(are_children_gone) and not is_device_there())
 
@@ -550,7 +606,7 @@ def check_waiting(report):
         live.modem.sendall(it.UPLINK_HEAD + 2000 * SILENCE)
         ran = live.ended()
         waited = time.monotonic() - begun
-        is_so = (ran.status, ran.err) == (1, b"error: modem: takes nothing more\n") and waited >= 5
+        is_so = (ran.status, ran.err) == (1, b"error: modem: takes nothing more\n") and waited >= WAITED_FOR
         report.expect("2,000 frames, never read", is_so and len(ran.out.splitlines()) == 2, (ran, waited))
         live.expect_nothing_left("2,000 frames, never read")
 
@@ -559,35 +615,30 @@ def check_waiting_for_pipes(report):
     """A pipe that nobody reads is waited for without limit, and from a signal on five seconds."""
     with Gateway(report, modem="-", streams={"stdin": subprocess.PIPE, "stdout": subprocess.PIPE}) as live:
         report.expect("what nobody reads is full", fill(live))
-        time.sleep(6)
+        time.sleep(WAITED_FOR + 1)
         report.expect("it is waited for without limit", live.process.poll() is None, live.printed())
         begun = time.monotonic()
         live.process.terminate()
         ran = live.ended()
         waited = time.monotonic() - begun
-        is_so = ran.status == 0 and waited >= 5 and len(ran.err.splitlines()) == 2
+        is_so = ran.status == 0 and waited >= WAITED_FOR and len(ran.err.splitlines()) == 2
         report.expect("and from a signal on five seconds", is_so, (ran, waited))
 
 
 def check_not_waiting(report):
     """With a clock of its own the script waits for no modem that doesn't read."""
-    for _ in range(5):
-        # A busy machine may take longer.
-        begun = time.monotonic()
-        with Gateway(report, "--frame", 0.01, clock="own") as live:
-            live.accept()
-            expect_end_behind(report, "the modem never reads", live, b"error: modem: takes nothing more\n")
-        waited = time.monotonic() - begun
-        if waited < 5:
-            break
-    report.expect("the modem never reads: at once", waited < 5, waited)
+    with Gateway(report, "--frame", 0.01, clock="own") as live:
+        live.accept()
+        expect_end_behind(report, "the modem never reads", live, b"error: modem: takes nothing more\n")
 
 
-def expect_end_behind(report, name, live, error):
-    """A gateway prints two lines, and ends with this error."""
-    ran = live.ended()
-    report.expect(name, (ran.status, len(ran.out.splitlines()), ran.err) == (1, 2, error), ran)
+def expect_end_behind(report, name, live, error, status=1):
+    """A gateway prints two lines, and ends at once with this error."""
+    live.name = name
+    ran = live.ended_at_once()
+    report.expect(f"{name}: its end", (ran.status, len(ran.out.splitlines()), ran.err) == (status, 2, error), ran)
     live.expect_nothing_left(name)
+    return ran
 
 
 def check_killed(report):
@@ -596,7 +647,7 @@ def check_killed(report):
         with Gateway(report, clock=clock) as live:
             live.begin()
             os.kill(live.run(), signal.SIGKILL)
-            ran = live.ended()
+            ran = live.ended_at_once()
             is_so = (ran.status, ran.out, ran.err) == (1, b"", b"error: the run has ended with status -9\n")
             report.expect(f"the run is killed, {clock}", is_so, ran)
             live.expect_nothing_left(f"the run is killed, {clock}")
@@ -660,16 +711,13 @@ def check_mixed(report):
             if at % 50 == 0:
                 host.send(b"number %d" % (at // 50))
             live.exchange(frame)
-        live.close()
-        ran = live.ended()
-        line, last = ran.out.decode().splitlines()
-        numbers, counts, wanted = numbers_of(line), numbers_of(last), numbers_of(sample.line.decode())
+        _, lines, last = live.expect_ended("mixed traffic", 1)
         names = "frames", "repeated", "received"
-        is_so = [numbers[name] for name in names] == [wanted[name] for name in names] == [1506, 1563, 7]
-        report.expect("mixed traffic: the run", (ran.status, ran.err) == (0, b"") and is_so, ran)
+        numbers = [[numbers_of(line)[name] for name in names] for line in (lines[0], sample.line.decode())]
+        report.expect("mixed traffic: the run", numbers == 2 * [[1506, 1563, 7]], lines)
+        counts = numbers_of(last)
         names = "to-radios", "to-hosts", "not-of-the-radio", "not-datagrams", "not-taken", "not-for-hosts", "late"
         report.expect("mixed traffic: the gateway", [counts[name] for name in names] == [31, 1, 2, 4, 0, 0, 0], last)
-        live.expect_as_over_files("mixed traffic", 1, line)
         packets = [packet for *_, packet in live.records()]
         texts = [packet[28:] for packet in packets if packet[9] == 17]
         report.expect("mixed traffic: what the host sent", texts == [b"number %d" % at for at in range(30)], texts)
@@ -728,8 +776,10 @@ def check_other_modems(report):
 
 CASES = {
     "recordings": check_recordings,
+    "as_typed": check_as_typed,
     "slow_reader": check_slow_reader,
     "datagram": check_datagram,
+    "other_names": check_other_names,
     "both_ways": check_both_ways,
     "not_for_hosts": check_not_for_hosts,
     "many": check_many,

@@ -6,7 +6,7 @@ import itertools
 
 from checks import recordings as it
 from checks import talks
-from checks.talks import GATEWAY, HOST_END, RADIO, RADIO_END, SLOTS, datagrams_received, records_of
+from checks.talks import GATEWAY, HOST_END, RADIO, RADIO_END, SLOTS, datagrams_received, records_of, slots_of
 
 # Behind `talks`, which tells where these are.
 import dmr
@@ -46,15 +46,6 @@ DELAY, LISTENING = 6, 2
 
 # How many slots of each downlink are looked at, burst by burst.
 LOOKED_AT = 300
-
-
-def slots_of(octets, size):
-    """The slots of a recording whose bursts have so many octets with their tags: each without its tag."""
-    at = 8
-    while at < len(octets):
-        end = at + (size if octets[at] else 1)
-        yield octets[at + 1 : end]
-        at = end
 
 
 def check_values(report):

@@ -1,17 +1,20 @@
 """Talks of the radio with a run that it shares no code with: over pipes, and through the bridge between two network namespaces."""
 
+import contextlib
 import itertools
 import os
 import pathlib
 import random
 import shutil
+import signal
 import subprocess
 import sys
 import tempfile
 
 from checks import recordings as it
+from checks.bridge import comes_true
 from checks.live import can_be_tried
-from checks.pipes import PATIENCE, live, side_by_side
+from checks.pipes import OF_DOWNLINK, PATIENCE, live, side_by_side
 from checks.program import Room
 
 BRIDGE = pathlib.Path(__file__).resolve().parents[2] / "share/bridge"
@@ -19,6 +22,7 @@ TALKING = pathlib.Path(__file__).with_name("talking.py").resolve()
 sys.path.insert(0, str(BRIDGE))
 
 import dmr  # noqa: E402
+import packets  # noqa: E402
 from station import Path, Station  # noqa: E402
 
 RADIO, GATEWAY = 2, 1
@@ -26,6 +30,7 @@ HOST_END, RADIO_END = (bytes([12, 0, 0, 1]), 5016), (bytes([12, 0, 0, 2]), 5018)
 
 SLOTS = 1, 2
 KIND_OF_DATAGRAM = 0
+OCTETS_OF_CACH = 3
 CONFIRMED, FULL_RATE = 1, 2
 
 
@@ -42,6 +47,22 @@ def datagrams_received(octets):
     """The datagrams of a received file: each with its frame and its slot."""
     return [(int.from_bytes(head[1:5], "big"), head[5], octets) for head, octets in records_of(octets, 12)
             if head[6] == KIND_OF_DATAGRAM]
+
+
+def slots_of(octets, size):
+    """The slots of a recording whose bursts have so many octets with their tags: each without its tag."""
+    at = 8
+    while at < len(octets):
+        end = at + (size if octets[at] else 1)
+        yield octets[at + 1 : end]
+        at = end
+
+
+def headers_in(downlink):
+    """The data headers in a downlink that can be read."""
+    bursts = [dmr.DataBurst.read(slot[OCTETS_OF_CACH:]) for slot in slots_of(downlink, OF_DOWNLINK) if slot]
+    headers = [packets.read_header(burst.octets) for burst in bursts if burst and burst.data_type == dmr.DataType.DATA_HEADER]
+    return [header for header in headers if header]
 
 
 class Talk:
@@ -124,15 +145,28 @@ def expect_talk(report, name, mode, slot=1, count=4, spacing=120, **chances):
         report.expect(f"{name}: the line", (ran.status, ran.out) == (0, over_files.out), (ran, over_files))
         is_so = room.outputs() == [talk.downlink.octets, talk.received.octets]
         report.expect(f"{name}: the run over files", is_so, "other octets")
-        return talk.station
+        return talk
+
+
+def expect_asked_again(report, name, talk):
+    """Each side asks for blocks that are missing, and the other one sends these alone. All of it stands in the downlink."""
+    headers = headers_in(talk.downlink.octets)
+    for source in (RADIO, GATEWAY):
+        own = [header for header in headers if header.source == source]
+        asks = [it for it in own if isinstance(it, packets.Response) and it.answer == packets.Answer.SELECTIVE]
+        report.expect(f"{name}: {source} asks for what is missing", asks, own)
+        partial = [it for it in own if isinstance(it, packets.PacketHeader) and not it.is_full]
+        report.expect(f"{name}: {source} sends what is missing", partial, own)
 
 
 def check_with_run(report):
     """In each mode and slot without losses; and confirmed with 3 % of the bursts lost and 0.2 % of the bits wrong."""
     for mode, slot in itertools.product(range(4), SLOTS):
         expect_talk(report, f"over pipes, mode {mode}, slot {slot}", mode, slot, spacing=60)
-    station = expect_talk(report, "over pipes, with losses", CONFIRMED, count=40, loss=300, errors=20)
-    report.expect("a packet whose answer was lost came again", station.receiver.repeats > 0, station.receiver.repeats)
+    talk = expect_talk(report, "over pipes, with losses", CONFIRMED, count=40, loss=300, errors=20)
+    expect_asked_again(report, "over pipes, with losses", talk)
+    repeats = talk.station.receiver.repeats
+    report.expect("a packet whose answer was lost came again", repeats > 0, repeats)
 
 
 # How often each side asks, and how many answers it gets of each kind of question where nothing is lost.
@@ -146,6 +180,11 @@ MOST = {"pings": 8, "datagrams": 8}
 
 # How long a talk goes on at most, in seconds.
 LIMIT = 300
+
+
+def lines_of_runs(ran):
+    """The lines of runs that a bridge has printed."""
+    return [line for line in ran.stdout.splitlines() if " repeated " in line]
 
 
 def expect_runs_over_files(report, name, folder, lines):
@@ -189,7 +228,7 @@ def expect_talk_between_namespaces(report, name, of_bridge, of_radio, rounds, le
             lines_of_kind = 0 if (address, kind) == ("12.0.0.2", "group") else 1
             is_enough = all(count.isdigit() and int(count) >= least[kind] for count in counts)
             report.expect(f"{name}: {kind} of {address}", len(counts) == lines_of_kind and is_enough, (counts, ran))
-        expect_runs_over_files(report, name, pathlib.Path(folder), [it for it in lines if " repeated " in it])
+        expect_runs_over_files(report, name, pathlib.Path(folder), lines_of_runs(ran))
 
 
 def check_unconfirmed(report):
@@ -223,15 +262,84 @@ def check_ends(report):
         ("/nowhere/dmrgate", "--frame 0", UNTIL_THE_END, 1, nowhere),
         (report.started_for(["run"]), "--slot 3", "exit 7", 1, option),
     ):
-        words = [BRIDGE / "two-namespaces", "--program", program, "--radio", of_radio, "sh", "-c", command]
+        name = f"namespaces that end with status {status}, {told!r}"
         with tempfile.TemporaryDirectory(prefix="dmrgate-check-") as folder:
-            ran = ended(words, env={**os.environ, "TMPDIR": folder})
+            kept, own = pathlib.Path(folder, "kept"), pathlib.Path(folder, "own")
+            kept.mkdir()
+            own.mkdir()
+            options = ["--program", program, "--bridge", f"--record {kept}", "--radio", of_radio]
+            words = [BRIDGE / "two-namespaces", *options, "sh", "-c", command]
+            ran = ended(words, env={**os.environ, "TMPDIR": str(own)})
             is_so = ran.returncode == status and ran.stderr.startswith(told) and bool(ran.stderr) == bool(told)
-            report.expect(f"namespaces that end with status {status}, {told!r}", is_so, ran)
-            report.expect(f"nothing is left behind status {status}, {told!r}", not os.listdir(folder), os.listdir(folder))
+            report.expect(name, is_so, ran)
+            report.expect(f"{name}: nothing is left behind", not os.listdir(own), os.listdir(own))
+            if told:
+                report.expect(f"{name}: no run is recorded", not os.listdir(kept), os.listdir(kept))
+            else:
+                expect_runs_over_files(report, name, kept, lines_of_runs(ran))
 
 
-BETWEEN_NAMESPACES = check_unconfirmed, check_confirmed, check_full_rate, check_losses, check_ends
+def processes_of(folder):
+    """The processes that keep temporary files in a folder, by their numbers: the words of each."""
+    found, mark = {}, f"TMPDIR={folder}".encode()
+    for process in pathlib.Path("/proc").glob("[0-9]*"):
+        # Others' can't be read, and one may end meanwhile.
+        with contextlib.suppress(OSError):
+            if mark in (process / "environ").read_bytes().split(b"\0"):
+                found[int(process.name)] = (process / "cmdline").read_text().split("\0")
+    return found
+
+
+def killed(program):
+    """An end: this one of the processes is killed, once all are there."""
+
+    def end(script, folder):
+        script.stdout.readline()
+        for number, words in processes_of(folder).items():
+            if str(program) in words[:2]:
+                os.kill(number, signal.SIGKILL)
+
+    return end
+
+
+def asked_to_end(number, is_up):
+    """An end: all are sent a signal, as by a terminal, once all are there, or as soon as the radio is."""
+
+    def end(script, folder):
+        if is_up:
+            script.stdout.readline()
+        else:
+            comes_true(lambda: [*pathlib.Path(folder).glob("*/modem")])
+        os.killpg(script.pid, number)
+
+    return end
+
+
+def expect_none_left(report, name, end):
+    """A bridge and a radio end in some way. No process goes on, and no file is left."""
+    with tempfile.TemporaryDirectory(prefix="dmrgate-check-") as folder:
+        words = [BRIDGE / "two-namespaces", "--program", report.started_for(["run"]), "sh", "-c", f"echo up && {UNTIL_THE_END}"]
+        how = {"env": {**os.environ, "TMPDIR": folder}, "start_new_session": True}
+        with subprocess.Popen(words, stdout=subprocess.PIPE, stderr=subprocess.DEVNULL, **how) as script:
+            end(script, folder)
+            is_over = comes_true(lambda: not processes_of(folder))
+            left = processes_of(folder)
+            for number in left:
+                os.kill(number, signal.SIGKILL)
+        report.expect(f"{name}: no process is left", is_over, left)
+        report.expect(f"{name}: the status tells so", script.returncode != 0, script.returncode)
+        report.expect(f"{name}: no file is left", not os.listdir(folder), os.listdir(folder))
+
+
+def check_killed(report):
+    """Whoever is killed between namespaces, and whenever all are asked to end, nobody goes on."""
+    for program in (report.started_for(["run"]), *(BRIDGE / name for name in ("dmrgate-bridge", "radio", "two-namespaces"))):
+        expect_none_left(report, f"{program.name} is killed", killed(program))
+    for number, is_up in itertools.product((signal.SIGINT, signal.SIGTERM, signal.SIGHUP), (True, False)):
+        expect_none_left(report, f"{number!r} {'behind' if is_up else 'before'} the start", asked_to_end(number, is_up))
+
+
+BETWEEN_NAMESPACES = check_unconfirmed, check_confirmed, check_full_rate, check_losses, check_ends, check_killed
 
 
 def check(report):

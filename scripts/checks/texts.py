@@ -38,6 +38,7 @@ Commands:
   run     Repeats a recording of the uplink into the downlink
   slot    Says what one burst is
   show    Lists what a file holds
+  log     Lists what a repeater repeats: who calls whom
   import  Makes a file of a run from another format
   export  Writes a file of a run in another format
   help    Print this message or the help of the given subcommand(s)
@@ -123,6 +124,47 @@ Example:
   dmrgate show uplink.dmru --slot 1 --from 100 --to 199
 
 The files are described in docs/protocol.md.
+""",
+    "log": """Lists what a repeater repeats: who calls whom
+
+Usage: dmrgate log [OPTIONS] <UPLINK>
+
+Arguments:
+  <UPLINK>  The uplink recording; - is standard input
+
+Options:
+      --colour <N>    The colour code, 0 to 15 [default: 1]
+      --llid <N>      Also what a gateway of this address (LLID) receives
+      --start <TIME>  When it began, as 2026-01-31T12:00:00Z
+      --csv           A table: a row of CSV for each
+      --json          An object a line, for programs
+      --slot <N>      The slot alone, 1 or 2
+      --from <FRAME>  The first frame that has lines
+      --to <FRAME>    The last frame that has lines
+  -h, --help          Print help
+
+What a repeater of this colour code repeats of a recording has a line for each
+transmission: when it begins and how many seconds it takes, its first frame, its
+slot, and what it is. Transmissions are calls, packets with the preambles in
+front of them, and rows of other control blocks. Lines stand in the order in
+which transmissions end. The last line counts all, whatever lines are asked for.
+
+A call has who calls whom, its places, filled ones among them, and how it ended:
+with a terminator; lost, where nothing is repeated behind it; cut, where another
+burst is; or with the end of the recording. It is late where it begins with a
+place. A packet has how many of its blocks came. [wrong: 21 of 263 bits] tells
+how many bits were wrong, of those that codes cover.
+
+--csv has a row for each line, behind one that names the columns. Where the
+recording is a pipe, each line is printed as soon as it is known.
+
+Status 0: the recording is whole; 1: it is at fault, which is told on standard
+error with the octet at which its record begins; 2: the command line.
+
+Example:
+  dmrgate log uplink.dmru --llid 1 --start 2026-01-31T12:00:00Z --csv
+
+The lines and the columns are described in docs/protocol.md.
 """,
     "import": """Makes a file of a run from another format
 
@@ -277,8 +319,8 @@ def offered(report, *words):
     return set(ran.stdout.split())
 
 
-def check_completions(report, top, run, slot, show, carrying):
-    commands = {"run", "slot", "show", "import", "export"}
+def check_completions(report, top, run, slot, show, log, carrying):
+    commands = {"run", "slot", "show", "log", "import", "export"}
     for words, wanted in (
         (["dmrgate", ""], {*commands, "help"} | top),
         (["dmrgate", "-"], top),
@@ -302,6 +344,10 @@ def check_completions(report, top, run, slot, show, carrying):
         (["dmrgate", "show", "--from", ""], set()),
         (["dmrgate", "show", "--", "-"], set()),
         (["dmrgate", "show", "--", "READ"], {"README.md"}),
+        (["dmrgate", "log", "-"], log),
+        (["dmrgate", "log", "READ"], {"README.md"}),
+        (["dmrgate", "log", "--start", ""], set()),
+        (["dmrgate", "log", "--", "READ"], {"README.md"}),
         (["dmrgate", "help", ""], commands),
         (["dmrgate", "help", "show", ""], set()),
         (["dmrgate", "help", "import", ""], {"text"}),
@@ -316,9 +362,9 @@ def check_completions(report, top, run, slot, show, carrying):
         report.expect(f"bash offers for {words}", had == wanted, had ^ wanted)
     text = (report.top / ZSH).read_text()
     begin = text.index("    run)")
-    parts = [text[:begin], *re.split(r"^    (?:slot|show|import \| export|help)\)$", text[begin:], flags=re.MULTILINE)]
-    names = "the program", "run", "slot", "show", "import and export"
-    for name, part, wanted in zip(names, parts, (top, run, slot, show, carrying)):
+    parts = [text[:begin], *re.split(r"^    (?:slot|show|log|import \| export|help)\)$", text[begin:], flags=re.MULTILINE)]
+    names = "the program", "run", "slot", "show", "log", "import and export"
+    for name, part, wanted in zip(names, parts, (top, run, slot, show, log, carrying)):
         report.expect(f"zsh's options of {name}", options_in(part) == wanted, options_in(part) ^ wanted)
         is_so = name == "the program" or part.count("_arguments -S ") == 1
         report.expect(f"zsh offers no option of {name} behind --", is_so, part)
@@ -326,7 +372,10 @@ def check_completions(report, top, run, slot, show, carrying):
         report.expect(f"zsh takes each value of {name} behind = too", not without, without)
     lines = (report.top / FISH).read_text().splitlines()
     everywhere = {"--help"}
-    marks = ("the program", "__fish_use_subcommand", top), ("run", "from run'", run), ("show", "from show'", show)
+    marks = (
+        ("the program", "__fish_use_subcommand", top), ("run", "from run'", run), ("show", "from show'", show),
+        ("log", "from log'", log),
+    )
     for name, mark, wanted in marks:
         had = everywhere | {f"--{word}" for line in lines if mark in line for word in re.findall(r" -l ([a-z-]+)", line)}
         report.expect(f"fish's options of {name}", had == wanted, had ^ wanted)
@@ -395,11 +444,12 @@ def check_readme(report):
         report.expect("the README's pipe", is_so and strip.stdout, ran)
         live = re.search(r"^    (socat .*)$", text, re.MULTILINE)[1]
         expect_live(report, "the README's run between the ports of a modem", room, sample, live)
-        if shutil.which("xxd"):
-            (room.path / "slots.txt").write_text(recordings.CSBK.hex().upper() + "\n\n")
-            ran = shell(re.search(r"^    (\{ printf .* > mine\.dmru)$", text, re.MULTILINE)[1], room.path)
-            mine = (room.path / "mine.dmru").read_bytes()
-            report.expect("a recording by hand", mine == recordings.ONE_CSBK, mine)
+        script = re.search(r"^    (awk '.*?import text - mine\.dmru)$", text, re.MULTILINE | re.DOTALL)[1]
+        later = recordings.UPLINK_HEAD + bytes(2) + recordings.ONE_CSBK[8:]
+        for slots, octets in (("{}\n\n", recordings.ONE_CSBK), ("\n\n{}", later)):
+            (room.path / "slots.txt").write_text(slots.format(recordings.CSBK.hex().upper()))
+            ran = shell(script, room.path)
+            report.expect("the README's recording of one's own", (room.path / "mine.dmru").read_bytes() == octets, ran)
         carried = re.search(r"^    (\./dmrgate export text (\S+) .* (\S+))$", text, re.MULTILINE)
         ran, there = shell(carried[1], room.path), room.path / carried[3]
         is_so = ran.returncode == 0 and there.read_bytes() == (report.top / carried[2]).read_bytes()
@@ -426,14 +476,14 @@ def check_readme(report):
 def check(report):
     check_alike(report)
     options = check_help(report)
-    top, run, slot, show, carrying = (options[it] for it in ("", "run", "slot", "show", "import text"))
+    top, run, slot, show, log, carrying = (options[it] for it in ("", "run", "slot", "show", "log", "import text"))
     ran = report.call("--version")
     version = ran.out.decode().strip()
     is_version = re.fullmatch(r"dmrgate \d+\.\d+\.\d+", version) and ran.status == 0 and ran.err == b""
     report.expect("the version", is_version, ran)
     short = report.call("-V")
     report.expect("-V is --version", (short.status, short.out, short.err) == (ran.status, ran.out, ran.err), short)
-    check_manual(report, top | run | slot | show, version)
+    check_manual(report, top | run | slot | show | log, version)
     check_examples(report)
-    check_completions(report, top, run, slot, show, carrying)
+    check_completions(report, top, run, slot, show, log, carrying)
     check_readme(report)

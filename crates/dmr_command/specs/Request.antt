@@ -4,9 +4,9 @@ use Rattle.clap.specs.Words.{Text, first_value}
 use Rattle.clap.specs.declared.parser.matches.Found.{Found}
 use Rattle.dmr_files.specs.Place.{IsNamed}
 use Rattle.dmr_files.specs.declared.place.Place.{Place}
-use Rattle.dmr_gateway.specs.Config.{setting_fault}
-use Rattle.dmr_gateway.specs.declared.config.Config.{Config}
-use Rattle.dmr_gateway.specs.declared.config.ConfigFault.{ConfigFault}
+use Rattle.dmr_settings.specs.Config.{setting_fault}
+use Rattle.dmr_settings.specs.declared.config.Config.{Config}
+use Rattle.dmr_settings.specs.declared.config.ConfigFault.{ConfigFault}
 use Rattle.dmr_options.specs.Found.{IsFlagOf, IsNumberOf, text_of}
 use Rattle.dmr_command.specs.declared.places.Places.{Places}
 use Rattle.dmr_command.specs.declared.request.Request.{Request}

@@ -7,8 +7,8 @@ ghost use Rattle.dmr_options.specs.Found.{IsNumberOf};
 use crate::places::Places;
 use clap::{ArgMatches, Error};
 use dmr_files::Place;
-use dmr_gateway::{Config, ConfigFault};
 use dmr_options::{Listed, flag_of, given_text_of, repeating_commands, text_of};
+use dmr_settings::{Config, ConfigFault};
 use std::alloc::Global;
 use std::convert::AsStr;
 
@@ -143,7 +143,7 @@ pub(crate) fn request_by<'a>(command: Option<(&'a str, &ArgMatches<'a>)>) -> Req
     match listed {
         Listed::Run => run_request(given),
         Listed::Slot => Request::Slot(text_of(given, "burst")),
-        Listed::Show | Listed::Import | Listed::Export => Request::Elsewhere(name),
+        Listed::Show | Listed::Log | Listed::Import | Listed::Export => { Request::Elsewhere(name) }
     }
 }
 

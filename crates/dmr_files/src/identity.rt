@@ -47,7 +47,7 @@ impl Identity {
 
     /// Whether what is written to this file would get into what a standard stream reads or prints. A pipe takes both, one after
     /// the other; a regular file would be written over.
-    pub fn is_behind(&self, stream: &Option<Identity>) -> bool
+    fn is_behind(&self, stream: &Option<Identity>) -> bool
         ensures behind { result ≡ is_behind self.now stream.now }
     {
         match stream {

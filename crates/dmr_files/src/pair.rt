@@ -14,9 +14,9 @@ use std::io::{BufReader, BufWriter, Read, Write};
 
 /// An input and an output, open.
 #[derive(Drop)]
-pub struct Pair<I, O> {
-    pub input: Open<I>,
-    pub output: Open<O>,
+struct Pair<I, O> {
+    input: Open<I>,
+    output: Open<O>,
 }
 
 /// An input and an output, open, each behind a buffer. The output has none where the input is live.
@@ -79,7 +79,7 @@ fn empty_apart<S: System>(
 /// Opens an input and then an output, which is emptied once it is known to get neither into the input nor into what a standard
 /// stream reads or prints. Where that isn't so, it is refused, and what it holds is left as it is. An output that is standard
 /// output may be a regular file, since nothing else is printed there.
-pub fn open_pair<S: System>(
+fn open_pair<S: System>(
     system: &S,
     input: Place<'_>,
     output: Place<'_>,
@@ -111,7 +111,8 @@ fn buffered<I: Read + Drop, O: Write + Drop>(
     Ok(BufferedPair { source, sink })
 }
 
-/// Opens an input and an output as `open_pair` does, and puts each behind a buffer.
+/// Opens an input and then an output, each behind a buffer. The output is emptied once it is known to get neither into the input
+/// nor into what a standard stream reads or prints, and is refused where that isn't so.
 pub fn open_buffered<S: System>(
     system: &S,
     alloc: Global,

@@ -36,6 +36,10 @@ pub struct BurstLine {
 #[derive(Clone, Copy, Drop)]
 pub struct BurstName(pub Reading, pub Option<VoicePlace>);
 
+/// What a data burst is called, by its data type: by a number where that has no name.
+#[derive(Clone, Copy, Drop)]
+pub struct DataTypeName(pub u8);
+
 /// The name of a data type, if it has one. ETSI TS 102 361-1, clause 9.3.6.
 fn type_name(kind: u8) -> Option<&'static str> {
     match kind {
@@ -68,13 +72,19 @@ pub(crate) fn place_letter(place: Option<VoicePlace>) -> char {
     }
 }
 
+impl fmt::Display for DataTypeName {
+    fn fmt<W: fmt::Write>(&self, f: &mut fmt::Formatter<W>) -> fmt::Result {
+        match type_name(self.0) {
+            Some(name) => write!(f, "{name}"),
+            None => write!(f, "type {}", self.0),
+        }
+    }
+}
+
 impl fmt::Display for BurstName {
     fn fmt<W: fmt::Write>(&self, f: &mut fmt::Formatter<W>) -> fmt::Result {
         match self.0 {
-            Reading::Data(_, SlotType { kind, .. }, _) => match type_name(kind) {
-                Some(name) => write!(f, "{name}"),
-                None => write!(f, "type {kind}"),
-            },
+            Reading::Data(_, SlotType { kind, .. }, _) => write!(f, "{}", DataTypeName(kind)),
             Reading::Untyped(_) => write!(f, "data"),
             Reading::VoiceSync(_) => write!(f, "voice A"),
             Reading::Voice(_) => {

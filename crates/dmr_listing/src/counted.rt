@@ -3,7 +3,7 @@ use std::fmt;
 
 /// A number and what it counts, in the singular for one.
 #[derive(Drop)]
-pub(crate) struct Counted(pub(crate) usize, pub(crate) &'static str);
+pub struct Counted(pub usize, pub &'static str);
 
 /// The ending of a name behind a number.
 fn ending_of(count: usize) -> &'static str {

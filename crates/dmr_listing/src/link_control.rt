@@ -15,6 +15,10 @@ const OPTIONS: [(ServiceOptions, &str); 4] = [
     (ServiceOptions::OVCM, "OVCM"),
 ];
 
+/// What a link control that is no call is named, by its opcode: by a number where it has no name.
+#[derive(Clone, Copy, Drop)]
+pub struct LinkControlName(pub u8);
+
 /// The names of the link controls that are no call, from opcode 4 on. ETSI TS 102 361-2, clause 7.1.1 and annex B.1.
 fn name_of(flco: u8) -> Option<&'static str> {
     match flco {
@@ -62,13 +66,16 @@ impl fmt::Display for LinkControl {
         if let Some(call) = lc.voice() {
             return write_call(&call, f);
         }
-        let body = Digits(&lc.body);
-        match name_of(lc.flco) {
-            Some(name) => write!(f, "{name}, {body}"),
-            None => {
-                let code = lc.flco;
-                write!(f, "LC opcode {code}, {body}")
-            }
+        let name = LinkControlName(lc.flco);
+        write!(f, "{name}, {}", Digits(&lc.body))
+    }
+}
+
+impl fmt::Display for LinkControlName {
+    fn fmt<W: fmt::Write>(&self, f: &mut fmt::Formatter<W>) -> fmt::Result {
+        match name_of(self.0) {
+            Some(name) => write!(f, "{name}"),
+            None => write!(f, "LC opcode {}", self.0),
         }
     }
 }

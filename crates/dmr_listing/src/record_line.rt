@@ -24,6 +24,15 @@ pub struct ReceivedLine<'a> {
     pub octets: &'a [u8],
 }
 
+/// What a received record is, printed as how many octets it has, and what they say.
+#[derive(Clone, Copy, Drop)]
+pub struct ReceivedText<'a> {
+    /// What its octets are.
+    pub kind: ReceivedKind,
+    /// Its octets.
+    pub octets: &'a [u8],
+}
+
 /// How a packet is sent.
 fn mode_name(confirmed: bool) -> &'static str {
     if confirmed {
@@ -74,6 +83,18 @@ impl fmt::Display for StatusText<'_> {
     }
 }
 
+impl fmt::Display for ReceivedText<'_> {
+    fn fmt<W: fmt::Write>(&self, f: &mut fmt::Formatter<W>) -> fmt::Result {
+        let count = Counted(self.octets.len(), "octet");
+        write!(f, "{count}: ")?;
+        match self.kind {
+            ReceivedKind::Datagram => write!(f, "{}", DatagramText(self.octets)),
+            ReceivedKind::ShortData => write!(f, "{}", Digits(self.octets)),
+            ReceivedKind::Status => write!(f, "{}", StatusText(self.octets)),
+        }
+    }
+}
+
 /// What came.
 fn kind_name(kind: ReceivedKind) -> &'static str {
     match kind {
@@ -91,12 +112,10 @@ impl fmt::Display for ReceivedLine<'_> {
             slot: self.record.slot,
         };
         let kind = kind_name(self.record.kind);
-        let count = Counted(self.octets.len(), "octet");
-        write!(f, "{place}  {kind} from {}, {count}: ", self.record.source)?;
-        match self.record.kind {
-            ReceivedKind::Datagram => write!(f, "{}", DatagramText(self.octets)),
-            ReceivedKind::ShortData => write!(f, "{}", Digits(self.octets)),
-            ReceivedKind::Status => write!(f, "{}", StatusText(self.octets)),
-        }
+        let text = ReceivedText {
+            kind: self.record.kind,
+            octets: self.octets,
+        };
+        write!(f, "{place}  {kind} from {}, {text}", self.record.source)
     }
 }

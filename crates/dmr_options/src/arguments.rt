@@ -1,7 +1,7 @@
 //! The pieces of which the options of a command are made.
 
 use clap::{Arg, ArgAction, value_parser};
-use std::alloc::Global;
+use std::alloc::{AllocError, Global};
 
 /// An option that takes the path of a file.
 pub(crate) fn file<'a>(alloc: Global, name: &'a str, help: &'a str) -> Arg<'a> {
@@ -26,6 +26,14 @@ pub fn frame<'a>(alloc: Global, name: &'a str, help: &'a str) -> Arg<'a> {
     number(alloc, name, help)
         .value_name("FRAME")
         .value_parser(value_parser!(u32))
+}
+
+/// The colour code, in either spelling.
+pub fn colour<'a>(alloc: Global) -> Result<Arg<'a>, AllocError> {
+    number(alloc, "colour", "The colour code, 0 to 15")
+        .value_parser(value_parser!(u8).range(0..16))
+        .default_value("1")
+        .alias("color")
 }
 
 /// A word that has no option in front of it, and is required. The value is what help calls it.

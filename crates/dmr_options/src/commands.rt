@@ -13,6 +13,7 @@ pub enum Listed {
     Run,
     Slot,
     Show,
+    Log,
     Import,
     Export,
 }
@@ -27,6 +28,7 @@ impl Listed {
             "run" => Some(Listed::Run),
             "slot" => Some(Listed::Slot),
             "show" => Some(Listed::Show),
+            "log" => Some(Listed::Log),
             "import" => Some(Listed::Import),
             "export" => Some(Listed::Export),
             _ => None,
@@ -41,6 +43,7 @@ impl Listed {
             Listed::Run => "run",
             Listed::Slot => "slot",
             Listed::Show => "show",
+            Listed::Log => "log",
             Listed::Import => "import",
             Listed::Export => "export",
         }
@@ -52,6 +55,7 @@ impl Listed {
             Listed::Run => "Repeats a recording of the uplink into the downlink",
             Listed::Slot => "Says what one burst is",
             Listed::Show => "Lists what a file holds",
+            Listed::Log => "Lists what a repeater repeats: who calls whom",
             Listed::Import => "Makes a file of a run from another format",
             Listed::Export => "Writes a file of a run in another format",
         }

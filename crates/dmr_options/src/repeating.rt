@@ -1,6 +1,6 @@
 //! The command line of the program that repeats: `run` and `slot` with their options, and every other command by its name.
 
-use crate::arguments::{file, number, word};
+use crate::arguments::{colour, file, number, word};
 use crate::commands::{Listed, bare_command, command};
 use crate::texts::{ABOUT_RUNS, ABOUT_SLOTS};
 use clap::{Arg, ArgAction, Command, value_parser};
@@ -12,14 +12,6 @@ fn address<'a>(alloc: Global) -> Arg<'a> {
     number(alloc, "llid", help)
         .value_parser(value_parser!(u32).range(1..16_777_216))
         .required(true)
-}
-
-/// The colour code, in either spelling.
-fn colour<'a>(alloc: Global) -> Result<Arg<'a>, AllocError> {
-    number(alloc, "colour", "The colour code, 0 to 15")
-        .value_parser(value_parser!(u8).range(0..16))
-        .default_value("1")
-        .alias("color")
 }
 
 /// How many frames a hang has, and how many it has where that is left out.
@@ -122,8 +114,9 @@ pub fn repeating_commands<'a>(alloc: Global) -> Result<Command<'a>, AllocError> 
     let run = run_command(alloc)?;
     let slot = slot_command(alloc)?;
     let show = bare_command(alloc, Listed::Show);
+    let log = bare_command(alloc, Listed::Log);
     let import = bare_command(alloc, Listed::Import);
     let export = bare_command(alloc, Listed::Export);
-    let commands = vec![in alloc; run, slot, show, import, export]?;
+    let commands = vec![in alloc; run, slot, show, log, import, export]?;
     command(alloc, commands)
 }

@@ -1,7 +1,7 @@
 //! The version, and what help says behind the options of `run` and of `slot`.
 
 /// The version that each program prints.
-pub(crate) const VERSION: &str = "0.2.0";
+pub(crate) const VERSION: &str = "0.3.0";
 
 /// What help says behind the options of `run`.
 pub(crate) const ABOUT_RUNS: &str =

@@ -14,9 +14,8 @@
 //! why by the system, or what was heard where nothing was repeated (`specs/More.antt`, `specs/Told.antt`). A run without that is
 //! not watched.
 //!
-//! `fulfil` does what a request asks for (`dmr_command`), on a system (`dmr_files`). `obey` does what the words of a command line
-//! ask for, and `program` does that on the system that it runs on. All three print to two sinks (`dmr_record`): what was asked for
-//! to the first, errors to the second.
+//! `obey` does what the words of a command line ask for (`dmr_command`), on a system (`dmr_files`), and `program` does that on the
+//! system that it runs on. Both print to two sinks (`dmr_record`): what was asked for to the first, errors to the second.
 #![tactic(auto)]
 
 mod devices;
@@ -30,7 +29,7 @@ mod slot;
 mod text;
 mod watched_run;
 
-pub use obeying::{fulfil, obey};
+pub use obeying::obey;
 pub use process::program;
 pub use run_end::{RunEnd, print_end, print_end_beside};
 pub use running::run_places;

@@ -13,10 +13,10 @@ use crate::slot::print_slot;
 use crate::watched_run::{WatchedEnd, run_places_watched};
 use dmr_command::{Places, Request, SharedStream, request_of};
 use dmr_files::System;
-use dmr_gateway::{Config, ConfigFault};
 use dmr_lines::{USAGE, line_of, print_error};
 use dmr_options::{print_answer, print_elsewhere};
 use dmr_record::Sink;
+use dmr_settings::{Config, ConfigFault};
 use std::alloc::Global;
 use std::convert::AsStr;
 
@@ -126,7 +126,7 @@ fn print_shared<E: Sink>(stream: SharedStream, err: &mut E) -> u8
 }
 
 /// Does what is asked for, and answers the exit status.
-pub fn fulfil<S: System, K: Sink, E: Sink>(
+fn fulfil<S: System, K: Sink, E: Sink>(
     alloc: Global,
     request: Request<'_>,
     system: &S,

@@ -7,10 +7,10 @@ ghost use Rattle.dmr_program.specs.Told.{PutsErrorAnd, PutsLineAnd};
 ghost use Rattle.dmr_lines.specs.Status.{failure, success};
 
 use crate::text::text_of;
-use dmr_gateway::ConfigFault;
 use dmr_lines::{FAILURE, SUCCESS, USAGE, line_of, print_error, print_line};
 use dmr_record::Sink;
 use dmr_repeater::{RunFault, Stream, Summary};
+use dmr_settings::ConfigFault;
 use std::fmt;
 
 /// How a run ended.

@@ -9,9 +9,9 @@ use crate::opening::{Opened, file_if_any, open_files, sent_to_terminal};
 use crate::run_end::RunEnd;
 use dmr_command::Places;
 use dmr_files::{System, buffered_sink, buffered_source, kept_back, write_out};
-use dmr_gateway::Config;
 use dmr_record::{DeviceFault, RecordFault};
 use dmr_repeater::{RunFault, Stream, Summary, run};
+use dmr_settings::Config;
 use std::alloc::{AllocError, Global};
 use std::io::{Read, Write};
 

@@ -30,7 +30,7 @@ impl Filter {
     }
 
     /// Whether what stands in a place has a line.
-    pub(crate) fn passes(&self, place: Place) -> bool
+    pub fn passes(&self, place: Place) -> bool
         ensures passes { IsTrue result ↔ Passes self.now place }
         ensures value { result ≡ lets_pass self.now place }
     {

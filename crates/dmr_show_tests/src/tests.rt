@@ -1,6 +1,7 @@
 //! What is printed of files, and where.
 mod carrying;
 mod command_line;
+mod logging;
 mod text;
 
 use dmr_record::{FromRead, ToWrite};

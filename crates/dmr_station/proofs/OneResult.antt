@@ -1,11 +1,14 @@
--- What the gateway makes of frames is one thing, and what goes out for what is meant is one thing.
+-- What the gateway makes of frames is one thing. What goes out for what is meant is one thing, and so is what goes out by the
+-- rules.
 use Rattle.std.proofs.Common.{◌≡◌, ℕ, ◌==◌, List, [], ◌∷◌, Option, refl, sym, ◌∙◌, ap, subst, filter, is_none}
 use Rattle.std.specs.List.{AllZip}
 use Rattle.dmr_burst.specs.declared.burst.Burst.{Burst}
 use Rattle.dmr_record.specs.Outgoing.{Sending}
 use Rattle.dmr_record.specs.Received.{Receipt}
-use Rattle.dmr_slot.proofs.Unique.{one_slot_out}
+use Rattle.dmr_record.specs.Uplink.{UplinkSlots}
+use Rattle.dmr_slot.proofs.Unique.{one_push, one_slot_out}
 use Rattle.dmr_slot.specs.Bursts.{IsSlotOut}
+use Rattle.dmr_slot.specs.LineRules.{LineMemory, silent_line, ArePushed}
 use Rattle.dmr_slot.specs.declared.line.SlotOut.{SlotOut}
 use Rattle.dmr_gateway.proofs.OneOfEach.{heard_alike, queued_alike, sent_alike}
 use Rattle.dmr_gateway.specs.Packets.{IsPacketFor}
@@ -14,9 +17,9 @@ use Rattle.dmr_gateway.specs.declared.queue.Queued.{Queued}
 use Rattle.dmr_voice.specs.CallMeaning.{Cell}
 use Rattle.dmr_station.proofs.FramesBySlot.{one_downlink}
 use Rattle.dmr_station.specs.DownlinkMeaning.{IsDownlinkOfWhatIsMeant, line_of_meaning}
-use Rattle.dmr_station.specs.DownlinkRules.{IsDownlinkOf, slots_in}
+use Rattle.dmr_station.specs.DownlinkRules.{IsDownlinkOf, Makes, slots_in}
 use Rattle.dmr_station.specs.GatewayMeaning.{Given, Happens, IsGiven, AreGiven, IsGatewayOf, record_fault}
-use Rattle.dmr_station.specs.Sent.{DownlinkBurst}
+use Rattle.dmr_station.specs.Sent.{DownlinkBurst, DownlinkSlots}
 use Rattle.dmr_station.specs.StationRules.{Settings, Counts}
 
 -- two lists that stand one by one for a third are one, where each of its items is stood for by one thing
@@ -105,4 +108,40 @@ one_downlink_of_what_is_meant s first second frames offers sending sending' rece
     (subst (λ x. IsDownlinkOf s x u.second_outs u.gates sending') (sym in_first)
     (subst (λ x. IsDownlinkOf s v.first_outs x u.gates sending') (sym in_second)
     (subst (λ x. IsDownlinkOf s v.first_outs v.second_outs x sending') (sym heard.0) v.downlink))) in
+    (goes_out, heard.1, heard.2)
+
+-- ---- by the rules
+-- one push after another, slots come out in one way
+pushed_alike : (m : LineMemory) (slots : List (Option (List ℕ))) (a b : List SlotOut) (after after' : LineMemory)
+    → ArePushed m slots a after → ArePushed m slots b after' → a ≡ b
+pushed_alike m [] [] [] after after' u v = refl
+pushed_alike m [] [] (y ∷ b) after after' u v = absurd v
+pushed_alike m [] (x ∷ a) b after after' u v = absurd u
+pushed_alike m (slot ∷ slots) [] b after after' u v = absurd u
+pushed_alike m (slot ∷ slots) (x ∷ a) [] after after' u v = absurd v
+pushed_alike m (slot ∷ slots) (x ∷ a) (y ∷ b) after after' u v =
+    let same = one_push m slot x y u.0 v.0 u.1 v.1 in
+    let head : x ≡ y = same.0 in
+    let tail : a ≡ b = pushed_alike u.0 slots a b after after' u.2
+    (subst (λ n. ArePushed n slots b after') (sym same.1) v.2) in
+    cc
+
+-- what the rules make of frames and datagrams is one thing
+pub one_downlink_by_the_rules : (s : Settings) (offers : List (List Sending)) (frames : List UplinkSlots)
+    (sending sending' : List DownlinkSlots)
+    (receipts receipts' : List Receipt) (counts counts' : Counts) → Makes s offers frames sending receipts counts
+    → Makes s offers frames sending' receipts' counts'
+    → (sending ≡ sending') × (receipts ≡ receipts') × (counts ≡ counts')
+one_downlink_by_the_rules s offers frames sending sending' receipts receipts' counts counts' u v =
+    let in_first : u.first ≡ v.first = pushed_alike (silent_line s.colour s.call_hang) (slots_in 0 frames) u.first v.first
+    u.first_line.after v.first_line.after u.first_line.pushed v.first_line.pushed in
+    let in_second : u.second ≡ v.second = pushed_alike (silent_line s.colour s.call_hang) (slots_in 1 frames) u.second v.second
+    u.second_line.after v.second_line.after u.second_line.pushed v.second_line.pushed in
+    let heard = one_gateway s offers u.first u.second u.gates v.gates receipts receipts' counts counts' u.gateway
+    (subst (λ x. IsGatewayOf s offers x u.second v.gates receipts' counts') (sym in_first)
+    (subst (λ x. IsGatewayOf s offers v.first x v.gates receipts' counts') (sym in_second) v.gateway)) in
+    let goes_out = one_downlink s u.first u.second u.gates sending sending' u.downlink
+    (subst (λ x. IsDownlinkOf s x u.second u.gates sending') (sym in_first)
+    (subst (λ x. IsDownlinkOf s v.first x u.gates sending') (sym in_second)
+    (subst (λ x. IsDownlinkOf s v.first v.second x sending') (sym heard.0) v.downlink))) in
     (goes_out, heard.1, heard.2)

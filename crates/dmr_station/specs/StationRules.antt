@@ -6,7 +6,7 @@ use Rattle.dmr_arq.specs.declared.sender_state.Outcome.{Outcome}
 use Rattle.dmr_arq.specs.declared.sender_state.Outcome.TheVariants.{Delivered, Sent, GivenUp}
 use Rattle.dmr_gateway.specs.GatewayRules.{Gate, new_gate, IsAskedFor}
 use Rattle.dmr_gateway.specs.SideRules.{all_received, side_told, side_outcome}
-use Rattle.dmr_gateway.specs.declared.config.Config.{Config}
+use Rattle.dmr_settings.specs.declared.config.Config.{Config}
 use Rattle.dmr_gateway.specs.declared.received.Received.{Received}
 use Rattle.dmr_slot.specs.ChannelMeaning.{claims_of}
 use Rattle.dmr_slot.specs.ChannelRules.{OnAir, off_air, frame_out, after_frame}

@@ -9,7 +9,7 @@ ghost use Rattle.dmr_slot.specs.declared.line.SlotOut.{SlotOut};
 ghost use Rattle.dmr_voice.specs.CallMeaning.{Cell};
 ghost use Rattle.dmr_station.specs.Sent.{DownlinkSlots, SlotBursts};
 ghost use Rattle.dmr_station.specs.Clean.{AreCleanSlots, IsCleanDownlink, IsEncodedAs, bursts_in};
-ghost use Rattle.dmr_station.specs.DownlinkRules.{IsDownlinkOf};
+ghost use Rattle.dmr_station.specs.DownlinkRules.{IsDownlinkOf, Makes};
 ghost use Rattle.dmr_station.specs.GatewayMeaning.{IsGatewayOf};
 ghost use Rattle.dmr_station.specs.StationRules.{Settings, Counts};
 ghost use Rattle.dmr_station.specs.DownlinkMeaning.{IsDownlinkOfWhatIsMeant, SendsFrontOfWhatIsMeant, SendsWhatIsMeant};
@@ -63,6 +63,16 @@ pub fn one_downlink_of_what_is_meant()
         (sending other_sending : List DownlinkSlots) (receipts other_receipts : List Receipt)
         (counts other_counts : Counts) → IsDownlinkOfWhatIsMeant s first second frames offers sending receipts counts
         → IsDownlinkOfWhatIsMeant s first second frames offers other_sending other_receipts other_counts
+        → (sending ≡ other_sending) × (receipts ≡ other_receipts) × (counts ≡ other_counts) }
+{}
+
+/// What the rules make of frames is one thing, whatever these hold, with the datagrams that are offered: each slot of the downlink,
+/// the records of what is received, and the counts are pinned.
+pub fn one_downlink_by_the_rules()
+    ensures law { (s : Settings) (offers : List (List Sending)) (frames : List UplinkSlots)
+        (sending other_sending : List DownlinkSlots) (receipts other_receipts : List Receipt)
+        (counts other_counts : Counts) → Makes s offers frames sending receipts counts
+        → Makes s offers frames other_sending other_receipts other_counts
         → (sending ≡ other_sending) × (receipts ≡ other_receipts) × (counts ≡ other_counts) }
 {}
 

@@ -15,9 +15,9 @@
 #![tactic(auto)]
 
 mod announcing;
+mod decider;
 mod fragments;
 pub mod laws;
-mod lines;
 mod sending;
 mod station;
 

@@ -3,8 +3,8 @@ ghost use Rattle.std.specs.Prelude.{◌≡◌, ◌+◌, ◌*◌, ◌^◌, ◌<�
 ghost use Rattle.std.specs.List.{flat_map};
 ghost use Rattle.dmr_station.specs.StationRules.{outcome_count};
 
+use crate::decider::Decider;
 use crate::fragments::Fragments;
-use crate::lines::Lines;
 use dmr_gateway::{Config, Outcome, Received};
 use dmr_record::Outgoing;
 use std::alloc::{AllocError, Global};
@@ -43,7 +43,7 @@ pub struct Counts {
 /// A base station between two frames.
 #[derive(Drop)]
 pub struct Station {
-    lines: Lines,
+    decider: Decider,
     fragments: Fragments,
     counts: Counts,
 }
@@ -54,9 +54,9 @@ impl Model for Station {
 
     ghost Value = { State };
 
-    ghost view = { λ s. state_of s.lines s.counts };
+    ghost view = { λ s. state_of s.decider s.counts };
 
-    ghost invariant = { λ s. IsWithinFrames (state_of s.lines s.counts) };
+    ghost invariant = { λ s. IsWithinFrames (state_of s.decider s.counts) };
 }
 
 impl Station {
@@ -72,7 +72,7 @@ impl Station {
         ensures fresh { IfOk result (λ station. station ≡ fresh (settings_of config.now)) }
     {
         Ok(Station {
-            lines: Lines::new(alloc, config)?,
+            decider: Decider::new(alloc, config)?,
             fragments: Fragments::new(),
             counts: Counts {
                 frames: 0,
@@ -94,7 +94,7 @@ impl Station {
         ensures offered { IsOffered self.old outgoing.now self.new }
     {
         self.counts.offered += 1;
-        match self.lines.offer(outgoing) {
+        match self.decider.offer(outgoing) {
             Ok(()) => {}
             Err(_) => self.counts.refused += 1,
         }
@@ -107,8 +107,8 @@ impl Station {
         ensures exchanged { IsExchanged self.old frame.now result self.new }
     {
         let place = 2 * self.counts.frames;
-        let (records, repeated) = self.lines.pass(frame, place, &mut self.fragments);
-        let outcomes = self.lines.take_outcomes();
+        let (records, repeated) = self.decider.pass(frame, place, &mut self.fragments);
+        let outcomes = self.decider.take_outcomes();
         self.counts.frames += 1;
         self.counts.repeated += repeated;
         self.counts.delivered += count_outcome(Outcome::Delivered, &outcomes);
@@ -121,7 +121,7 @@ impl Station {
     pub fn has_nothing_received(&self) -> bool
         ensures value { IsTrue result ↔ HasNothingReceived self.now.memory.gate }
     {
-        self.lines.has_nothing_received()
+        self.decider.has_nothing_received()
     }
 
     /// What the gateway received in the frame, one after the other, slot 1's first and of a slot its status first. What isn't
@@ -131,7 +131,7 @@ impl Station {
         ensures taken { self.new ≡ taken_once self.old }
         ensures fit { IfSome result IsFitReceived }
     {
-        let received = self.lines.take_received();
+        let received = self.decider.take_received();
         self.counts.received += u32::from(received.is_some());
         received
     }

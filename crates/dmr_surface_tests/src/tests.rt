@@ -2,5 +2,6 @@
 mod codes;
 mod files;
 mod packets;
+mod refusals;
 mod units;
 mod voice;

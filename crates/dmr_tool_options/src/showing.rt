@@ -23,8 +23,18 @@ fn json<'a>(alloc: Global) -> Result<Arg<'a>, AllocError> {
 }
 
 /// The slot that has lines.
-fn slot<'a>(alloc: Global) -> Arg<'a> {
+pub(crate) fn slot<'a>(alloc: Global) -> Arg<'a> {
     number(alloc, "slot", "The slot alone, 1 or 2").value_parser(value_parser!(u8).range(1..3))
+}
+
+/// The first frame that has lines.
+pub(crate) fn from<'a>(alloc: Global) -> Arg<'a> {
+    frame(alloc, "from", "The first frame that has lines")
+}
+
+/// The last frame that has lines.
+pub(crate) fn to<'a>(alloc: Global) -> Arg<'a> {
+    frame(alloc, "to", "The last frame that has lines")
 }
 
 /// The file of `show`, its form, and the lines that are asked for.
@@ -40,8 +50,8 @@ fn listing<'a>(alloc: Global) -> Result<Vec<Arg<'a>>, AllocError> {
         strip(alloc),
         json,
         slot(alloc),
-        frame(alloc, "from", "The first frame that has lines"),
-        frame(alloc, "to", "The last frame that has lines"),
+        from(alloc),
+        to(alloc),
     ]?)
 }
 

@@ -14,6 +14,25 @@ with the octet at which its record begins; 2: the command line.\n\n\
 Example:\n  dmrgate show uplink.dmru --slot 1 --from 100 --to 199\n\n\
 The files are described in docs/protocol.md.";
 
+/// What help says behind the options of `log`.
+pub(crate) const ABOUT_LOGS: &str =
+    "What a repeater of this colour code repeats of a recording has a line for each\n\
+transmission: when it begins and how many seconds it takes, its first frame, its\n\
+slot, and what it is. Transmissions are calls, packets with the preambles in\n\
+front of them, and rows of other control blocks. Lines stand in the order in\n\
+which transmissions end. The last line counts all, whatever lines are asked for.\n\n\
+A call has who calls whom, its places, filled ones among them, and how it ended:\n\
+with a terminator; lost, where nothing is repeated behind it; cut, where another\n\
+burst is; or with the end of the recording. It is late where it begins with a\n\
+place. A packet has how many of its blocks came. [wrong: 21 of 263 bits] tells\n\
+how many bits were wrong, of those that codes cover.\n\n\
+--csv has a row for each line, behind one that names the columns. Where the\n\
+recording is a pipe, each line is printed as soon as it is known.\n\n\
+Status 0: the recording is whole; 1: it is at fault, which is told on standard\n\
+error with the octet at which its record begins; 2: the command line.\n\n\
+Example:\n  dmrgate log uplink.dmru --llid 1 --start 2026-01-31T12:00:00Z --csv\n\n\
+The lines and the columns are described in docs/protocol.md.";
+
 /// What help says behind the files of `export text`.
 pub(crate) const ABOUT_EXPORTED_TEXTS: &str =
     "A file is one of the four of a run, told by its first octets. Its text has a\n\

@@ -1,2 +1,4 @@
 pub mod Carrying
+pub mod Filters
+pub mod LogRequest
 pub mod Request

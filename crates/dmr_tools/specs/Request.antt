@@ -1,24 +1,20 @@
 -- What the words of a command line ask for.
-use Rattle.std.specs.Prelude.{◌≡◌, nat_lt, ℕ, Bool, true, false, [], Option, Some, None, codes, option_map}
+use Rattle.std.specs.Prelude.{◌≡◌, Bool, true, false, [], Option, Some, None, codes, option_map}
 use Rattle.clap.specs.Words.{Text, found_of, rows_of, subcommand_name_of, subcommand_rows_of}
 use Rattle.clap.specs.declared.parser.matches.ArgMatches.{ArgMatches}
 use Rattle.clap.specs.declared.parser.matches.Found.{Found}
 use Rattle.dmr_files.specs.Place.{IsNamed, is_standard}
-use Rattle.dmr_options.specs.Found.{IsFlagOf, IsGivenBy, text_of}
+use Rattle.dmr_options.specs.Found.{IsFlagOf, text_of}
 use Rattle.dmr_show.specs.declared.filter.Filter.{Filter}
 use Rattle.dmr_show.specs.declared.form.Form.{Form}
 use Rattle.dmr_show.specs.declared.form.Form.TheVariants as form_variant
+use Rattle.dmr_tools.specs.Filters.{IsFilterOf, is_backwards}
+use Rattle.dmr_tools.specs.LogRequest.{AreLogSettings}
 use Rattle.dmr_tools.specs.declared.request.Format.{Format}
 use Rattle.dmr_tools.specs.declared.request.Format.TheVariants as format_variant
 use Rattle.dmr_tools.specs.declared.request.PairPlaces.{PairPlaces}
 use Rattle.dmr_tools.specs.declared.request.Request.{Request}
-use Rattle.dmr_tools.specs.declared.request.Request.TheVariants.{Show, Backwards, Import, Export, Elsewhere}
-
--- Each part of a filter is the number of the option of its name, where that is given.
-pub record IsFilterOf (found : Found) (filter : Filter) : Type 0 where
-  pub slot : IsGivenBy 8 found (codes "slot") filter.slot
-  pub from : IsGivenBy 32 found (codes "from") filter.from
-  pub to : IsGivenBy 32 found (codes "to") filter.to
+use Rattle.dmr_tools.specs.declared.request.Request.TheVariants.{Show, Backwards, Log, LogRefused, Import, Export, Elsewhere}
 
 -- a strip where it is asked for, JSON where that alone is, and else a listing
 abbrev pub form_by : Bool → Bool → Form
@@ -33,16 +29,6 @@ pub record IsFormOf (found : Found) (form : Form) : Type 0 where
   pub json : Bool
   pub json_flag : IsFlagOf found (codes "json") json
   pub value : form ≡ form_by strip json
-
--- a first frame is beyond a last one, where both are given
-abbrev pub are_backwards : Option ℕ → Option ℕ → Bool
-are_backwards (Some from) (Some to) = nat_lt to from
-are_backwards (Some from) None = false
-are_backwards None to = false
-
--- The filter begins beyond its end.
-abbrev pub is_backwards : Filter → Bool
-is_backwards filter = are_backwards filter.from filter.to
 
 -- A command was given one of its own, of the name of a format, with this that was found of it.
 pub record IsGivenFormat (given : ArgMatches) (format : Text) (found : Found) : Type 0 where
@@ -68,11 +54,14 @@ pub record IsCarriedBetween (given : ArgMatches) (format : Format) (places : Pai
 abbrev pub NamesFormat : ArgMatches → Type 0
 NamesFormat given = (format : Format) × (subcommand_name_of given ≡ Some (format_name format))
 
--- What a command with these options asks for: `show` for a listing, which is refused where it begins beyond its end; `import` for a
--- file from another format, and `export` for one in it; and any other what isn't done here.
+-- What a command with these options asks for: `show` for a listing, which is refused where it begins beyond its end; `log` for a
+-- log, or for one that is refused; `import` for a file from another format, and `export` for one in it; and any other what isn't
+-- done here.
 abbrev pub IsAskedOfTools : Option (Text × ArgMatches) → Request → Type 0
 IsAskedOfTools None (Show name form filter) = ⊥
 IsAskedOfTools None Backwards = ⊥
+IsAskedOfTools None (Log name settings) = ⊥
+IsAskedOfTools None (LogRefused refusal) = ⊥
 IsAskedOfTools None (Import format places) = ⊥
 IsAskedOfTools None (Export format places) = ⊥
 IsAskedOfTools None (Elsewhere name) = name.now ≡ []
@@ -81,17 +70,22 @@ IsAskedOfTools (Some command) (Show name form filter) =
     × IsFilterOf (found_of command.1) filter × (is_backwards filter ≡ false)
 IsAskedOfTools (Some command) Backwards =
     (command.0 ≡ codes "show") × ((filter : Filter) × IsFilterOf (found_of command.1) filter × (is_backwards filter ≡ true))
+IsAskedOfTools (Some command) (Log name settings) =
+    (command.0 ≡ codes "log") × (name.now ≡ text_of (found_of command.1) (codes "uplink"))
+    × AreLogSettings (found_of command.1) settings × (is_backwards settings.filter ≡ false)
+IsAskedOfTools (Some command) (LogRefused refusal) = command.0 ≡ codes "log"
 IsAskedOfTools (Some command) (Import format places) =
     (command.0 ≡ codes "import") × IsCarriedBetween command.1 format places
 IsAskedOfTools (Some command) (Export format places) =
     (command.0 ≡ codes "export") × IsCarriedBetween command.1 format places
 IsAskedOfTools (Some command) (Elsewhere name) =
-    (command.0 ≡ codes "show" → ⊥) × (command.0 ≡ codes "import" → NamesFormat command.1 → ⊥)
+    (command.0 ≡ codes "show" → ⊥) × (command.0 ≡ codes "log" → ⊥) × (command.0 ≡ codes "import" → NamesFormat command.1 → ⊥)
     × (command.0 ≡ codes "export" → NamesFormat command.1 → ⊥) × (name.now ≡ command.0)
 
--- A file is to be listed.
+-- A file is to be listed, or what is repeated of it.
 abbrev pub IsShow : Request → Type 0
 IsShow (Show name form filter) = Unit {0}
+IsShow (Log name settings) = Unit {0}
 IsShow request = ⊥
 
 -- A file is to be carried from another format, or to it.
@@ -100,9 +94,10 @@ IsCarrying (Import format places) = Unit {0}
 IsCarrying (Export format places) = Unit {0}
 IsCarrying request = ⊥
 
--- Something is to be done here: no command of another program, and no listing that begins beyond its end.
+-- Something is to be done here: no command of another program, and no listing or log that is refused.
 abbrev pub IsTool : Request → Type 0
 IsTool (Show name form filter) = Unit {0}
+IsTool (Log name settings) = Unit {0}
 IsTool (Import format places) = Unit {0}
 IsTool (Export format places) = Unit {0}
 IsTool request = ⊥

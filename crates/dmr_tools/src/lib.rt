@@ -1,11 +1,11 @@
 //! The command line of the tools: what its words ask for, and doing that.
 //!
-//! The tools are what `dmrgate` does beside repeating: `show`, `import` and `export`. They are a program of their own, so that
-//! nobody who repeats waits for their proofs. `request_of` reads the words, by a command line parser whose texts are its own, and
-//! answers a `Request`. `fulfil` does what that asks for, on a system (`dmr_files`), and prints to two sinks (`dmr_record`): what
-//! was asked for to the first, errors to the second. `obey` is both, and `program` is that on the system that it runs on.
-//! `specs/Request.antt` says from which option each part of a request comes, and where a line goes that tells how much was written.
-//! What a file shows is `dmr_show`'s, and its text is `dmr_text`'s.
+//! The tools are what `dmrgate` does beside repeating: `show`, `log`, `import` and `export`. They are a program of their own, so
+//! that nobody who repeats waits for their proofs. `request_of` reads the words, by a command line parser whose texts are its own,
+//! and answers a `Request`. `obey` reads them and does what they ask for, on a system (`dmr_files`), and prints to two sinks
+//! (`dmr_record`): what was asked for to the first, errors to the second. `program` is that on the system that it runs on.
+//! `specs/Request.antt` says from which option each part of a request comes, with `Filters` and `LogRequest`, and where a line goes
+//! that tells how much was written. What a file shows is `dmr_show`'s, its log is `dmr_log_forms`'s, and its text is `dmr_text`'s.
 #![tactic(auto)]
 
 mod carrying;
@@ -13,6 +13,6 @@ mod obeying;
 mod process;
 mod request;
 
-pub use obeying::{fulfil, obey};
+pub use obeying::obey;
 pub use process::program;
-pub use request::{Format, PairPlaces, Request, request_of};
+pub use request::{Format, LogRefusal, PairPlaces, Request, request_of};

@@ -6,14 +6,18 @@ ghost use Rattle.dmr_show.specs.Showing.{TellsFault};
 ghost use Rattle.dmr_tools.specs.Request.{IsCarrying, IsTool, IsShow, is_to_output};
 
 use crate::carrying::{Direction, carry_file};
-use crate::request::{Request, request_of};
+use crate::request::{LogRefusal, Request, request_of};
 use dmr_files::{Open, OpenFault, Place, System, open_source};
 use dmr_lines::{FAILURE, ToldName, USAGE, line_of, print_error};
+use dmr_log_forms::{LogSettings, print_log};
 use dmr_options::{print_answer, print_elsewhere};
 use dmr_record::Sink;
 use dmr_show::{Filter, Form, print_want_of_memory, show};
 use std::alloc::Global;
 use std::convert::AsStr;
+
+/// What is told of lines that are asked for from one on that is beyond the last.
+const BACKWARDS: &str = "--from is beyond --to";
 
 /// Tells that a file can't be opened.
 fn print_cannot_open<E: Sink>(alloc: Global, name: &str, err: &mut E)
@@ -64,8 +68,47 @@ fn show_file<S: System, K: Sink, E: Sink>(
     }
 }
 
+/// Prints the log of the recording of this name, as far as it can be read.
+fn log_file<S: System, K: Sink, E: Sink>(
+    alloc: Global,
+    system: &S,
+    name: &str,
+    settings: LogSettings,
+    out: &mut K,
+    err: &mut E,
+) -> u8
+    requires out { K.has_failed out.old ≡ false }
+    requires err { E.has_failed err.old ≡ false }
+    ensures alone { (err.new ≡ err.old)
+        ⊎ TellsFault result (K.has_failed out.new) (E.has_failed err.new) (E.held err.old) (E.held err.new) }
+    ensures success { result ≡ success → err.new ≡ err.old }
+    ensures status { result ≤ 1 }
+    ensures out_failed { K.has_failed out.new ≡ true → result ≡ failure }
+    ensures err_failed { E.has_failed err.new ≡ true → result ≡ failure }
+{
+    match open_source(system, alloc, Place::named(name)) {
+        Ok(Open { mut file, .. }) => print_log(alloc, name, &settings, &mut file, out, err),
+        Err(OpenFault::CannotOpen) => {
+            print_cannot_open(alloc, name, err);
+            FAILURE
+        }
+        Err(OpenFault::Memory) => {
+            print_want_of_memory(err);
+            FAILURE
+        }
+    }
+}
+
+/// What is told of settings of a log that are refused.
+fn refusal_text(refusal: LogRefusal) -> &'static str {
+    match refusal {
+        LogRefusal::Backwards => BACKWARDS,
+        LogRefusal::Time => "--start is no time, as 2026-01-31T12:00:00Z",
+    }
+}
+
 /// Does what is asked for, and answers the exit status.
-pub fn fulfil<S: System, K: Sink, E: Sink>(
+fn fulfil<S: System, K: Sink, E: Sink>(
     alloc: Global,
     request: Request<'_>,
     system: &S,
@@ -106,7 +149,9 @@ pub fn fulfil<S: System, K: Sink, E: Sink>(
         Request::Export { format, places } => {
             carry_file(alloc, system, Direction::Export(format), places, out, err)
         }
-        Request::Backwards => print_error(err, "--from is beyond --to", USAGE),
+        Request::Backwards => print_error(err, BACKWARDS, USAGE),
+        Request::Log { name, settings } => log_file(alloc, system, name, settings, out, err),
+        Request::LogRefused(refusal) => print_error(err, line_of(refusal_text(refusal)), USAGE),
         Request::Elsewhere(_) => print_elsewhere(err),
     }
 }

@@ -2,13 +2,16 @@
 ghost use Rattle.std.specs.Prelude.{◌≡◌, Some, IfSome, IfNone, codes, option_map};
 ghost use Rattle.clap.specs.Words.{found_of};
 ghost use Rattle.dmr_files.specs.Place.{IsNamed};
-ghost use Rattle.dmr_options.specs.Found.{text_of};
-ghost use Rattle.dmr_tools.specs.Request.{IsAskedOfTools, IsFilterOf, IsFormOf, form_by, is_backwards};
+ghost use Rattle.dmr_options.specs.Found.{IsNumberOf, text_of};
+ghost use Rattle.dmr_tools.specs.LogRequest.{AreLogSettings, IsLogFormOf, log_form_by};
+ghost use Rattle.dmr_tools.specs.Filters.{IsFilterOf, is_backwards};
+ghost use Rattle.dmr_tools.specs.Request.{IsAskedOfTools, IsFormOf, form_by};
 ghost use Rattle.dmr_tools.specs.Request.{ArePairPlaces, IsCarriedBetween, NamesFormat};
 
 use clap::{ArgMatches, Error};
 use dmr_files::Place;
-use dmr_options::{Listed, flag_of, text_of};
+use dmr_log_forms::{LogForm, LogSettings, StartTime};
+use dmr_options::{Listed, flag_of, given_text_of, text_of};
 use dmr_show::{Filter, Form};
 use dmr_tool_options::tool_commands;
 use std::alloc::Global;
@@ -28,6 +31,15 @@ pub struct PairPlaces<'a> {
     pub output: Place<'a>,
 }
 
+/// Why the settings of a log are refused.
+#[derive(Clone, Copy, Debug, PartialEq, Eq)]
+pub enum LogRefusal {
+    /// The lines that are asked for begin beyond their end.
+    Backwards,
+    /// When the recording began is no time.
+    Time,
+}
+
 /// What the words of a command line ask for.
 #[derive(Clone, Copy)]
 pub enum Request<'a> {
@@ -39,6 +51,13 @@ pub enum Request<'a> {
     },
     /// To show frames from one on that is beyond the last.
     Backwards,
+    /// To print the log of the recording of this name.
+    Log {
+        name: &'a str,
+        settings: LogSettings,
+    },
+    /// To print a log with settings that are refused.
+    LogRefused(LogRefusal),
     /// To make a file of what is in a format.
     Import {
         format: Format,
@@ -107,6 +126,71 @@ fn show_request<'a>(show: &ArgMatches<'a>) -> Request<'a>
     }
 }
 
+/// The form of a log by the two options that ask for one.
+fn log_form_by(csv: bool, json: bool) -> LogForm
+    ensures value { result ≡ log_form_by csv json }
+{
+    match (csv, json) {
+        (true, _) => LogForm::Table,
+        (false, true) => LogForm::Json,
+        (false, false) => LogForm::Lines,
+    }
+}
+
+/// The form that a command line of `log` asks for.
+fn log_form_of(log: &ArgMatches<'_>) -> LogForm
+    ensures form { IsLogFormOf (found_of log.now) result }
+{
+    log_form_by(flag_of(log, "csv"), flag_of(log, "json"))
+}
+
+/// The colour code, which has a default.
+fn colour_of(log: &ArgMatches<'_>) -> u8
+    ensures number { IsNumberOf 8 (found_of log.now) (codes "colour") result }
+{
+    match log.get_one::<u8>("colour") {
+        Some(colour) => colour,
+        None => 0,
+    }
+}
+
+/// The settings of a command line of `log`, without when the recording began.
+fn log_settings_of(log: &ArgMatches<'_>) -> LogSettings
+    ensures settings { AreLogSettings (found_of log.now) result }
+{
+    LogSettings {
+        colour: colour_of(log),
+        address: log.get_one::<u32>("llid"),
+        form: log_form_of(log),
+        start: None,
+        filter: filter_of(log),
+    }
+}
+
+/// What a command line of `log` asks for.
+fn log_request<'a>(log: &ArgMatches<'a>) -> Request<'a>
+    ensures asked { IsAskedOfTools (Some (record { 0 = codes "log"; 1 = log.now })) result }
+{
+    let settings = log_settings_of(log);
+    if is_backwards(&settings.filter) {
+        return Request::LogRefused(LogRefusal::Backwards);
+    }
+    let name = text_of(log, "uplink");
+    let Some(text) = given_text_of(log, "start") else {
+        return Request::Log { name, settings };
+    };
+    match StartTime::read(text) {
+        Some(start) => Request::Log {
+            name,
+            settings: LogSettings {
+                start: Some(start),
+                ..settings
+            },
+        },
+        None => Request::LogRefused(LogRefusal::Time),
+    }
+}
+
 /// The place that a word of a command line names.
 fn place_of<'a>(matches: &ArgMatches<'a>, word: &str) -> Place<'a>
     ensures place { IsNamed (text_of (found_of matches.now) word.now) result }
@@ -170,6 +254,7 @@ pub(crate) fn request_by<'a>(command: Option<(&'a str, &ArgMatches<'a>)>) -> Req
     };
     match listed {
         Listed::Show => show_request(given),
+        Listed::Log => log_request(given),
         Listed::Import => import_request(given),
         Listed::Export => export_request(given),
         Listed::Run | Listed::Slot => Request::Elsewhere(name),

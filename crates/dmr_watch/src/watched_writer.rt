@@ -24,6 +24,7 @@ impl<W: Write> WatchedWriter<W> {
         ensures octets { ⟦<WatchedWriter<W> as Write>⟧.contents result ≡ W.contents writer }
         ensures reached { reached_of result ≡ nothing }
         ensures error { write_error_of result ≡ None }
+        ensures format { file_format_of result ≡ format }
     {
         WatchedWriter {
             writer,
@@ -62,6 +63,7 @@ impl<W: Write> Write for WatchedWriter<W> {
         ensures same { IfOk result (λ n. write_error_of self.new ≡ write_error_of self.old) }
         ensures kept { IfErr result (λ e. write_error_of self.new ≡ Some e) }
         ensures stays { OnErr result (reached_of self.new ≡ reached_of self.old) }
+        ensures same_format { file_format_of self.new ≡ file_format_of self.old }
     {
         match self.writer.write(piece) {
             Ok(count) => {

@@ -81,7 +81,7 @@ const BESIDE: [&str; 8] = [
 
 /// Words, with the status that they end with, and what is printed.
 const OBEYED: [(&[&str], u8, &str, &str); 9] = [
-    (&["other", "-V"], 0, "dmrgate 0.2.0\n", ""),
+    (&["other", "-V"], 0, "dmrgate 0.3.0\n", ""),
     (
         &[
             "dmrgate",

@@ -97,7 +97,7 @@ fn lines_that_are_asked_for(rt: HostRuntime) -> Result<(), Fail> {
 }
 
 /// These words end with this status, and print so to either sink.
-fn expect_printed(
+pub(super) fn expect_printed(
     rt: &(impl Abort + AllocGlobal),
     words: &[&str],
     status: u8,

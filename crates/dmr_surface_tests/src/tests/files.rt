@@ -19,7 +19,7 @@ const UPLINK: [u8; 43] = [
 ];
 
 /// An outgoing file and a received file of no record.
-const OUTGOING: [u8; 8] = *b"DMRO\x01\0\0\0";
+pub(crate) const OUTGOING: [u8; 8] = *b"DMRO\x01\0\0\0";
 
 const RECEIVED: [u8; 8] = *b"DMRI\x01\0\0\0";
 
@@ -127,7 +127,7 @@ fn received_status(rt: HostRuntime) {
 }
 
 /// What a run answers: `run` with no more than its `requires`.
-fn answer_of<U: Source, O: Source, D: Sink, R: Sink>(
+pub(crate) fn answer_of<U: Source, O: Source, D: Sink, R: Sink>(
     alloc: Global,
     config: Config,
     uplink: &mut U,

@@ -45,6 +45,21 @@ fn printed_voice_burst(rt: HostRuntime) {
 }
 
 #[test]
+fn burst_with_a_voice_sync(rt: HostRuntime) {
+    let vocoder = Bits::<216>::zero().with_field(0, 8, 0xA5);
+    let octets = encode_burst(&Burst::VoiceSync { vocoder }, Side::Ms);
+    let sync = Sync {
+        side: Side::Ms,
+        voice: true,
+    };
+    // The centre of a voice burst of a mobile station is 7F7D5DD57DFD.
+    assert!(rt; octets[13] & 0x0F == 0x7 && octets[14..19] == [0xF7, 0xD5, 0xDD, 0x57, 0xDF]);
+    assert!(rt; octets[19] & 0xF0 == 0xD0);
+    assert!(rt; read_sync(&octets) == Some(sync));
+    assert!(rt; read_vocoder(&octets) == vocoder);
+}
+
+#[test]
 fn cach_of_null_message(rt: HostRuntime) {
     let fragment = Bits::<17>::zero();
     assert!(rt; cach(true, false, 1, &fragment) == [0x80, 0x0A, 0x20]);
@@ -95,6 +110,8 @@ fn fields_and_calls(rt: HostRuntime) {
         source: 0x0A_0B_0C,
     };
     assert!(rt; lc.voice() == Some(call));
+    assert!(rt; call.options.contains(ServiceOptions::EMERGENCY));
+    assert!(rt; !call.options.contains(ServiceOptions::PRIVACY));
     lc.flco = 3;
     call.kind = CallKind::UnitToUnit;
     assert!(rt; lc.voice() == Some(call));

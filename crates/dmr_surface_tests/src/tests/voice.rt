@@ -46,6 +46,8 @@ fn header_of_a_call(rt: HostRuntime) {
     assert!(rt; silence.data_burst == None && !silence.voice && silence.emb == None);
     let mut track = VoiceTrack::new(1);
     let window = [header, silence, silence, silence, silence, silence];
+    let out = track.step(&[silence; 6]);
+    assert!(rt; out == VoiceOut::Nothing);
     let out = track.step(&window);
     let repeated = VoiceOut::Repeat {
         burst: data(data_type::VOICE_LC_HEADER, &CALL_HEADER),
@@ -101,4 +103,11 @@ fn header_on_the_channel(rt: HostRuntime) {
     let [first, second] = channel.frame(&slots, &gate);
     let idle = Some(data(data_type::IDLE, &IDLE_BURST));
     assert!(rt; first == header && second == idle);
+}
+
+// A call to talk group 1 in slot 1 is announced, and nothing where neither slot has a call.
+#[test]
+fn calls_that_are_announced(rt: HostRuntime) {
+    assert!(rt; Channel::message(Some(&CALL), None) == (1, 0x80_0700));
+    assert!(rt; Channel::message(None, None) == (0, 0));
 }

@@ -1,0 +1,3 @@
+mod Logging
+mod Pieces
+mod Taken

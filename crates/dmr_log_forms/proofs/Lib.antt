@@ -1,0 +1,4 @@
+pub mod Cells
+pub mod Puts
+pub mod Refused
+pub mod Told

@@ -1,0 +1,7 @@
+pub mod Columns
+pub mod Entries
+pub mod Faults
+pub mod Kinds
+pub mod Printed
+pub mod Rows
+pub mod Whole

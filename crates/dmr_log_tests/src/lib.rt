@@ -1,0 +1,7 @@
+//! Tests of `dmr_log_forms`: what is printed of logs, as lines, as CSV, and as JSON.
+#![tactic(auto)]
+
+#[cfg(test)]
+mod recordings;
+#[cfg(test)]
+mod tests;
