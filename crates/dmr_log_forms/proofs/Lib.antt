@@ -1,4 +1,5 @@
 pub mod Cells
+pub mod Ends
 pub mod Puts
 pub mod Refused
 pub mod Told

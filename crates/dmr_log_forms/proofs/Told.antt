@@ -3,9 +3,10 @@ use Rattle.std.proofs.Common.{◌≡◌, ℕ, List, [], ◌∷◌, ◌++◌, Opt
 use Rattle.std.specs.Option.{unwrap_or}
 use Rattle.std.specs.Io.KnownBytes.{Consumes, IsAtEnd}
 use Rattle.dmr_listing.specs.ListingRules.{GivenInTurn}
-use Rattle.dmr_log.specs.RecordingLogs.{AreFramesTaken, IsRestTold, RecordedFrames}
+use Rattle.dmr_log.specs.RecordingLogs.{AreFramesTaken, IsLoggedUpToFault, IsRestTold, RecordedFrames}
 use Rattle.dmr_log.specs.declared.log.FrameTold.{FrameTold}
 use Rattle.dmr_log.specs.declared.log.LogState.{LogState}
+use Rattle.dmr_log_forms.specs.Part.{ArePutUpToFault}
 use Rattle.dmr_log_forms.specs.Printed.{PutsEntries, shown_of}
 use Rattle.dmr_log_forms.specs.Whole.{AreAllPut, IsLogPut, PutsEnd, PutsHead, PutsTold, log_of}
 use Rattle.dmr_log_forms.specs.declared.printer.Printing.{Printing}
@@ -13,6 +14,8 @@ use Rattle.dmr_log_forms.specs.declared.settings.LogForm.{LogForm}
 use Rattle.dmr_log_forms.specs.declared.settings.LogSettings.{LogSettings}
 use Rattle.dmr_record.specs.Head.{head_octets, magic_of}
 use Rattle.dmr_record.specs.declared.head.FileFormat.TheVariants.{Uplink}
+use Rattle.dmr_recording.specs.Recordings.{RecordedSlot}
+use Rattle.dmr_recording.specs.declared.fault_line.FaultLine.{FaultLine}
 use Rattle.dmr_show.specs.declared.filter.Filter.{Filter}
 
 -- What was given to a taker in turn is given in turn to a part of it, where each is put to that part by something that stays.
@@ -35,38 +38,77 @@ given_to_part {M = M} part stays Puts old new (t ∷ told) (between, (kept, put)
 abbrev pub puts : Printing → Option (List ℕ) → FrameTold → Option (List ℕ) → Type 0
 puts printing old told new = PutsTold printing.form printing.filter printing.address old told new
 
--- All that a printer took is put to its sink.
-pub all_put : {L : Type 0} (held : L → Option (List ℕ)) (set : L → Printing) {log_old log_new : LogState}
-    {left_old left_new : Option (List ℕ)} {old new : L} (frames : RecordedFrames) (read : LogState) (between : L)
-    → AreFramesTaken (λ (a : L) (t : FrameTold) (b : L). (set b ≡ set a)
-    × PutsEntries (set a).form (shown_of (set a).filter (set a).address t) (held a) (held b))
-    log_old frames [] [] read left_old left_new old between
-    → IsRestTold (λ (a : L) (t : FrameTold) (b : L). (set b ≡ set a)
-    × PutsEntries (set a).form (shown_of (set a).filter (set a).address t) (held a) (held b))
-    read log_new between new
-    → AreAllPut (set old).form (set old).filter (set old).address log_old log_new left_old left_new (held old) (held new)
-all_put held set {log_new = log_new} {old = old} {new = new} frames read between taken rest =
-    let told = rest.told ++ log_new.told ∷ [] in
-    let first = given_to_part held set puts old between taken.told taken.given in
-    let second = given_to_part held set puts between new told rest.given in
-    record {
-      frames = frames;
-      read = read;
-      between = held between;
-      taken = record {
+-- How a printer takes what is told: it stays set as it is, and puts that to its sink.
+abbrev pub Prints : {L : Type 0} → (L → Option (List ℕ)) → (L → Printing) → L → FrameTold → L → Type 0
+Prints held set a told b =
+    (set b ≡ set a) × PutsEntries (set a).form (shown_of (set a).filter (set a).address told) (held a) (held b)
+
+-- What a printer took of frames is put to its sink, and it stays set as it is.
+pub frames_put : {L : Type 0} (held : L → Option (List ℕ)) (set : L → Printing) {log_old log_new : LogState} {frames : RecordedFrames}
+    {begun : List RecordedSlot} {part : List ℕ} {left_old left_new : Option (List ℕ)} {old new : L}
+    → AreFramesTaken (Prints held set) log_old frames begun part log_new left_old left_new old new
+    → (set new ≡ set old) × AreFramesTaken (puts (set old)) log_old frames begun part log_new left_old left_new (held old) (held new)
+frames_put held set {old = old} {new = new} taken =
+    let given = given_to_part held set puts old new taken.told taken.given in (
+      given.0,
+      record {
         told = taken.told;
         each = taken.each;
         octets = taken.octets;
         logged = taken.logged;
-        given = first.1;
+        given = given.1;
+      },
+    )
+
+-- What a printer took of the end is put to its sink.
+pub rest_put : {L : Type 0} (held : L → Option (List ℕ)) (set : L → Printing) {read log_new : LogState} {old new : L}
+    → IsRestTold (Prints held set) read log_new old new → IsRestTold (puts (set old)) read log_new (held old) (held new)
+rest_put held set {log_new = log_new} {old = old} {new = new} rest = record {
+  told = rest.told;
+  decided = rest.decided;
+  logged = rest.logged;
+  ended = rest.ended;
+  given = (given_to_part held set puts old new (rest.told ++ log_new.told ∷ []) rest.given).1;
+}
+
+-- All that a printer took is put to its sink.
+pub all_put : {L : Type 0} (held : L → Option (List ℕ)) (set : L → Printing) {log_old log_new : LogState}
+    {left_old left_new : Option (List ℕ)} {old new : L} (frames : RecordedFrames) (read : LogState) (between : L)
+    → AreFramesTaken (Prints held set) log_old frames [] [] read left_old left_new old between
+    → IsRestTold (Prints held set) read log_new between new
+    → AreAllPut (set old).form (set old).filter (set old).address log_old log_new left_old left_new (held old) (held new)
+all_put held set {log_new = log_new} {new = new} frames read between taken rest =
+    let first = frames_put held set taken in
+    record {
+      frames = frames;
+      read = read;
+      between = held between;
+      taken = first.1;
+      rest = subst (λ (p : Printing). IsRestTold (puts p) read log_new (held between) (held new)) first.0 (rest_put held set rest);
+    }
+
+-- What a printer took up to a fault is put to its sink, and what is told at the end.
+pub put_up_to_fault : {L : Type 0} (held : L → Option (List ℕ)) (set : L → Printing) {fault : FaultLine} {log_old log_new : LogState}
+    {left_old left_new : Option (List ℕ)} {old new : L} (read : LogState) (between : L)
+    → IsLoggedUpToFault (Prints held set) fault log_old read left_old left_new old between
+    → IsRestTold (Prints held set) read log_new between new
+    → ArePutUpToFault (set old).form (set old).filter (set old).address fault log_old log_new left_old left_new (held old) (held new)
+put_up_to_fault held set {log_new = log_new} {new = new} read between logged rest =
+    let first = frames_put held set logged.taken in
+    record {
+      read = read;
+      between = held between;
+      taken = record {
+        frames = logged.frames;
+        begun = logged.begun;
+        part = logged.part;
+        few = logged.few;
+        taken = first.1;
+        shown = logged.shown;
+        octet = logged.octet;
+        place = logged.place;
       };
-      rest = record {
-        told = rest.told;
-        decided = rest.decided;
-        logged = rest.logged;
-        ended = rest.ended;
-        given = subst (λ (p : Printing). GivenInTurn (puts p) (held between) told (held new)) first.0 second.1;
-      };
+      rest = subst (λ (p : Printing). IsRestTold (puts p) read log_new (held between) (held new)) first.0 (rest_put held set rest);
     }
 
 -- what is put where the address and the begin of a log are told otherwise

@@ -4,7 +4,7 @@ use std::fmt;
 
 /// Why the log of a file wasn't printed whole.
 #[derive(Clone, Copy, Drop)]
-pub(crate) enum LogFault {
+pub enum LogFault {
     /// The file is at fault.
     File(FaultLine),
     /// It is one of the other three files.

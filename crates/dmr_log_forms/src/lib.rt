@@ -9,8 +9,9 @@
 //!
 //! Contracts cite `specs/Columns.antt` for what the columns hold, `specs/Kinds.antt` for what a transmission is called, and
 //! `specs/Rows.antt` for the cells of a row. `specs/Entries.antt` has what is an entry, `specs/Printed.antt` what is put of a
-//! frame, and `specs/Whole.antt` what is put of a whole file. `specs/Faults.antt` tells when a sink has failed. What the texts are
-//! is left open by contracts, and is tested.
+//! frame, and `specs/Whole.antt` what is put of a whole file. `specs/Part.antt` has what is put of one that isn't printed whole, by
+//! the `LogFault` that is why, and `specs/Faults.antt` when a sink has failed. What the texts are is left open by contracts, and is
+//! tested.
 #![tactic(auto)]
 
 mod columns;
@@ -30,6 +31,7 @@ mod start_time;
 pub use columns::{CallEnd, EntryColumns};
 pub use end::{EndLine, EndObject};
 pub use entry::LogEntry;
+pub use fault::LogFault;
 pub use kind::EntryKind;
 pub use line::EntryLine;
 pub use object::EntryObject;

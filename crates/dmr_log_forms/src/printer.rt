@@ -1,7 +1,8 @@
 //! The entries of a log, printed as they are told.
-ghost use Rattle.std.specs.Prelude.{◌≡◌, ◌||◌, [], ◌∷◌, OnOk, false, true};
+ghost use Rattle.std.specs.Prelude.{◌≡◌, ◌||◌, [], ◌∷◌, IfErr, OnOk, false, true};
 ghost use Rattle.dmr_log_forms.specs.Entries.{columns_of_entry};
 ghost use Rattle.dmr_log_forms.specs.Faults.{has_sink_failed};
+ghost use Rattle.dmr_log_forms.specs.Part.{PutsByEnd, PutsFirstOfTold};
 ghost use Rattle.dmr_log_forms.specs.Printed as spec;
 ghost use Rattle.dmr_lines.specs.Line.{PutsLine};
 
@@ -40,6 +41,7 @@ pub(crate) fn print_text<T: Display, K: Sink>(
 ) -> Result<(), LogFault>
     requires sink { K.has_failed sink.old ≡ false }
     ensures line { OnOk result (PutsLine (K.held sink.old) (K.held sink.new)) }
+    ensures fault { IfErr result (λ e. e ≡ LogFault.Output) }
     ensures failed { K.has_failed sink.new ≡ has_sink_failed result }
 {
     text.clear();
@@ -60,8 +62,8 @@ impl Printing {
         sink: &mut K,
     ) -> Result<(), LogFault>
         requires sink { K.has_failed sink.old ≡ false }
-        ensures entry { OnOk result (spec.PutsEntry self.now.form (columns_of_entry entry.now)
-            (K.held sink.old) (K.held sink.new)) }
+        ensures entry { PutsByEnd result self.now.form (columns_of_entry entry.now ∷ [])
+            (K.held sink.old) (K.held sink.new) }
         ensures failed { K.has_failed sink.new ≡ has_sink_failed result }
     {
         let start = self.start;
@@ -104,8 +106,8 @@ impl Printing {
     ) -> Result<(), LogFault>
         requires sink { K.has_failed sink.old ≡ false }
         requires place { place ≡ (columns_of_entry entry.now).place }
-        ensures put { OnOk result (spec.PutsEntries self.now.form (spec.shown_entry self.now.filter (columns_of_entry entry.now))
-            (K.held sink.old) (K.held sink.new)) }
+        ensures put { PutsByEnd result self.now.form (spec.shown_entry self.now.filter (columns_of_entry entry.now))
+            (K.held sink.old) (K.held sink.new) }
         ensures failed { K.has_failed sink.new ≡ has_sink_failed result }
     {
         if self.filter.passes(place) {
@@ -124,8 +126,8 @@ impl Printing {
         sink: &mut K,
     ) -> Result<(), LogFault>
         requires sink { K.has_failed sink.old ≡ false }
-        ensures put { OnOk result (spec.PutsEntries self.now.form (spec.shown_ended self.now.filter slot ended.now)
-            (K.held sink.old) (K.held sink.new)) }
+        ensures put { PutsByEnd result self.now.form (spec.shown_ended self.now.filter slot ended.now)
+            (K.held sink.old) (K.held sink.new) }
         ensures failed { K.has_failed sink.new ≡ has_sink_failed result }
     {
         let Some(ended) = ended else {
@@ -144,9 +146,9 @@ impl Printing {
         sink: &mut K,
     ) -> Result<(), LogFault>
         requires sink { K.has_failed sink.old ≡ false }
-        ensures put { OnOk result (spec.PutsEntries self.now.form
+        ensures put { PutsByEnd result self.now.form
             (spec.shown_record self.now.filter place.slot self.now.address place.frame received.now)
-            (K.held sink.old) (K.held sink.new)) }
+            (K.held sink.old) (K.held sink.new) }
         ensures failed { K.has_failed sink.new ≡ has_sink_failed result }
     {
         match received {
@@ -174,10 +176,10 @@ impl Printing {
         sink: &mut K,
     ) -> Result<(), LogFault>
         requires sink { K.has_failed sink.old ≡ false }
-        ensures put { OnOk result (spec.PutsEntries self.now.form
+        ensures put { PutsByEnd result self.now.form
             (spec.shown_records self.now.filter place.slot self.now.address place.frame
             (first.now ∷ second.now ∷ third.now ∷ fourth.now ∷ []))
-            (K.held sink.old) (K.held sink.new)) }
+            (K.held sink.old) (K.held sink.new) }
         ensures failed { K.has_failed sink.new ≡ has_sink_failed result }
     {
         self.print_record(place, first, text, sink)?;
@@ -195,9 +197,9 @@ impl Printing {
         sink: &mut K,
     ) -> Result<(), LogFault>
         requires sink { K.has_failed sink.old ≡ false }
-        ensures put { OnOk result (spec.PutsEntries self.now.form
+        ensures put { PutsByEnd result self.now.form
             (spec.shown_records self.now.filter place.slot self.now.address place.frame received.now)
-            (K.held sink.old) (K.held sink.new)) }
+            (K.held sink.old) (K.held sink.new) }
         ensures failed { K.has_failed sink.new ≡ has_sink_failed result }
     {
         let [first, second, third, fourth] = received;
@@ -214,9 +216,9 @@ impl Printing {
         sink: &mut K,
     ) -> Result<(), LogFault>
         requires sink { K.has_failed sink.old ≡ false }
-        ensures put { OnOk result (spec.PutsEntries self.now.form
+        ensures put { PutsByEnd result self.now.form
             (spec.shown_slot self.now.filter place.slot self.now.address place.frame ended.now received.now)
-            (K.held sink.old) (K.held sink.new)) }
+            (K.held sink.old) (K.held sink.new) }
         ensures failed { K.has_failed sink.new ≡ has_sink_failed result }
     {
         self.print_ended(place.slot, ended, text, sink)?;
@@ -232,9 +234,9 @@ impl Printing {
         sink: &mut K,
     ) -> Result<(), LogFault>
         requires sink { K.has_failed sink.old ≡ false }
-        ensures put { OnOk result (spec.PutsEntries self.now.form
+        ensures put { PutsByEnd result self.now.form
             (spec.shown_slots self.now.filter self.now.address frame told.now)
-            (K.held sink.old) (K.held sink.new)) }
+            (K.held sink.old) (K.held sink.new) }
         ensures failed { K.has_failed sink.new ≡ has_sink_failed result }
     {
         let (first, second) = (Place { frame, slot: 1 }, Place { frame, slot: 2 });
@@ -250,8 +252,8 @@ impl Printing {
         sink: &mut K,
     ) -> Result<(), LogFault>
         requires sink { K.has_failed sink.old ≡ false }
-        ensures put { OnOk result (spec.PutsEntries self.now.form (spec.shown_of self.now.filter self.now.address told.now)
-            (K.held sink.old) (K.held sink.new)) }
+        ensures put { PutsByEnd result self.now.form (spec.shown_of self.now.filter self.now.address told.now)
+            (K.held sink.old) (K.held sink.new) }
         ensures failed { K.has_failed sink.new ≡ has_sink_failed result }
     {
         self.print_slots(told.frame.saturating_sub(1), told, text, sink)
@@ -274,7 +276,10 @@ impl<K: Sink> LogLines for EntryPrinter<'_, K> {
         × spec.PutsEntries old.printing.form (spec.shown_of old.printing.filter old.printing.address told)
         (K.held old.sink.now) (K.held new.sink.now) };
 
-    ghost Refuses = { λ old told new. new.is_refused ≡ true → K.has_failed new.sink.now ≡ false };
+    ghost Refuses = { λ old told new. new.is_refused ≡ true → (K.has_failed new.sink.now ≡ false)
+        × (new.printing ≡ old.printing)
+        × PutsFirstOfTold old.printing.form old.printing.filter old.printing.address
+        (K.held old.sink.now) told (K.held new.sink.now) };
 
     ghost has_failed = { λ printer. K.has_failed printer.sink.now || printer.is_refused };
 

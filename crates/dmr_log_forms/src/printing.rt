@@ -1,13 +1,15 @@
 //! The log of a file, printed.
-ghost use Rattle.std.specs.Prelude.{◌≡◌, ◌≤◌, ◌<◌, ◌⊎◌, false, true, IfOk, None, OnOk};
+ghost use Rattle.std.specs.Prelude.{◌≡◌, ◌≤◌, ◌<◌, ◌⊎◌, false, true, Err, IfErr, IfOk, None, OnOk};
 ghost use Rattle.std.specs.Io.KnownBytes.{Consumes, IsAtEnd};
 ghost use Rattle.dmr_lines.specs.Line.{PutsError};
 ghost use Rattle.dmr_lines.specs.Status.{failure, success};
 ghost use Rattle.dmr_log_forms.specs.Faults.{has_sink_failed};
+ghost use Rattle.dmr_log_forms.specs.Part as part;
 ghost use Rattle.dmr_log_forms.specs.Whole as spec;
+ghost use Rattle.dmr_log_forms.specs.declared.fault.LogFault.{LogFault as Fault};
 ghost use Rattle.dmr_record.specs.Head.{head_octets, magic_of};
 ghost use Rattle.dmr_record.specs.declared.head.FileFormat.TheVariants as format;
-ghost use Rattle.dmr_show.specs.Showing.{TellsFault};
+ghost use Rattle.dmr_show.specs.Showing.{IsUntouched, TellsFault};
 
 use crate::end::{EndLine, EndObject};
 use crate::fault::LogFault;
@@ -42,7 +44,8 @@ fn head_fault(fault: RecordFault) -> LogFault
 fn new_gateway(alloc: Global, colour: u8, address: Option<u32>) -> Result<Option<Gateway>, LogFault>
     requires colour { colour < 16 }
     ensures gateway { IfOk result (λ gateway. gateway ≡ spec.listening colour address) }
-    ensures sink { has_sink_failed result ≡ false }
+    ensures fault { IfErr result (λ e. part.IsNotBegun e colour address) }
+    ensures range { part.IsOutOfRange colour address → result ≡ Err LogFault.Range }
 {
     let Some(llid) = address else {
         return Ok(None);
@@ -66,7 +69,8 @@ fn new_gateway(alloc: Global, colour: u8, address: Option<u32>) -> Result<Option
 /// A log of a repeater with this colour code and a gateway at this address, if one is to listen, of which no frame came.
 fn new_log(alloc: Global, colour: u8, address: Option<u32>) -> Result<Log, LogFault>
     ensures log { IfOk result (λ log. log ≡ spec.log_of colour address) }
-    ensures sink { has_sink_failed result ≡ false }
+    ensures fault { IfErr result (λ e. part.IsNotBegun e colour address) }
+    ensures range { part.IsOutOfRange colour address → result ≡ Err LogFault.Range }
 {
     if colour > 15 {
         return Err(LogFault::Range);
@@ -83,7 +87,8 @@ fn read_uplink_head<S: Source>(source: &mut S) -> Result<(), LogFault>
     requires source { S.has_failed source.old ≡ false }
     ensures uplink { OnOk result (Consumes (S.left source.old) (S.left source.new) (head_octets (magic_of format.Uplink))) }
     ensures well { OnOk result (S.has_failed source.new ≡ false) }
-    ensures sink { has_sink_failed result ≡ false }
+    ensures fault { IfErr result (λ e. part.IsNoUplinkHead e (S.left source.old) (S.left source.new)) }
+    ensures source { IfErr result (λ e. part.HasReadFailed e (S.has_failed source.new)) }
 {
     match read_any_head(source) {
         Ok(FileFormat::Uplink) => Ok(()),
@@ -96,6 +101,7 @@ fn read_uplink_head<S: Source>(source: &mut S) -> Result<(), LogFault>
 fn print_head<K: Sink>(alloc: Global, form: LogForm, sink: &mut K) -> Result<(), LogFault>
     requires sink { K.has_failed sink.old ≡ false }
     ensures head { OnOk result (spec.PutsHead form (K.held sink.old) (K.held sink.new)) }
+    ensures fault { IfErr result (λ e. part.IsHeadNotPut e (K.held sink.old) (K.held sink.new)) }
     ensures failed { K.has_failed sink.new ≡ has_sink_failed result }
 {
     match form {
@@ -121,6 +127,7 @@ fn print_end<K: Sink>(
 ) -> Result<(), LogFault>
     requires sink { K.has_failed sink.old ≡ false }
     ensures end { OnOk result (spec.PutsEnd settings.now.form (K.held sink.old) (K.held sink.new)) }
+    ensures fault { IfErr result (λ e. e ≡ LogFault.Output) }
     ensures failed { K.has_failed sink.new ≡ has_sink_failed result }
 {
     let has_gateway = settings.address.is_some();
@@ -154,9 +161,11 @@ fn print_entries<S: Source, K: Sink>(
     requires begin { log.old.taken ≡ 0 }
     requires source { S.has_failed source.old ≡ false }
     requires sink { K.has_failed sink.old ≡ false }
-    ensures all { OnOk result (spec.AreAllPut printing.form printing.filter printing.address log.old log.new
-        (S.left source.old) (S.left source.new) (K.held sink.old) (K.held sink.new)) }
+    ensures put { part.ArePut result printing.form printing.filter printing.address log.old log.new
+        (S.left source.old) (S.left source.new) (K.held sink.old) (K.held sink.new) }
     ensures end { OnOk result (IsAtEnd (S.left source.new)) }
+    ensures well { OnOk result (S.has_failed source.new ≡ false) }
+    ensures source { IfErr result (λ e. part.HasReadFailed e (S.has_failed source.new)) }
     ensures failed { K.has_failed sink.new ≡ has_sink_failed result }
 {
     let mut printer = EntryPrinter {
@@ -182,8 +191,11 @@ fn print_to<S: Source, K: Sink>(
 ) -> Result<(), LogFault>
     requires source { S.has_failed source.old ≡ false }
     requires sink { K.has_failed sink.old ≡ false }
-    ensures whole { OnOk result (spec.IsLogPut settings.now (S.left source.old) (S.left source.new)
-        (K.held sink.old) (K.held sink.new)) }
+    ensures put { part.IsLogPutByEnd result settings.now (S.left source.old) (S.left source.new)
+        (K.held sink.old) (K.held sink.new) }
+    ensures range { part.IsOutOfRange settings.now.colour settings.now.address → result ≡ Err LogFault.Range }
+    ensures well { OnOk result (S.has_failed source.new ≡ false) }
+    ensures source { IfErr result (λ e. part.HasReadFailed e (S.has_failed source.new)) }
     ensures failed { K.has_failed sink.new ≡ has_sink_failed result }
 {
     let mut log = new_log(alloc, settings.colour, settings.address)?;
@@ -207,6 +219,7 @@ fn print_to<S: Source, K: Sink>(
 fn print_fault<E: Sink>(alloc: Global, name: &str, fault: &LogFault, err: &mut E)
     requires err { E.has_failed err.old ≡ false }
     ensures error { E.has_failed err.new ≡ false → PutsError (E.held err.old) (E.held err.new) }
+    ensures told { E.has_failed err.new ≡ false → part.TellsLogFault fault.now (E.held err.old) (E.held err.new) }
 {
     if let LogFault::Memory = fault {
         print_want_of_memory(err);
@@ -239,9 +252,18 @@ pub fn print_log<S: Source, K: Sink, E: Sink>(
     // All of the file was read then, which is an uplink, and its log stands behind what the first sink held.
     ensures whole { result ≡ success → spec.IsLogPut settings.now (S.left source.old) (S.left source.new)
         (K.held out.old) (K.held out.new) }
+    ensures well { result ≡ success → S.has_failed source.new ≡ false }
     // Else a fault is told, unless the log can't be printed.
     ensures fault { result ≡ failure → K.has_failed out.new ≡ false
         → TellsFault result (K.has_failed out.new) (E.has_failed err.new) (E.held err.old) (E.held err.new) }
+    // Then this fault is told, the log is printed up to it, and the source has failed where that is the fault.
+    ensures up_to { result ≡ failure → K.has_failed out.new ≡ false → (fault : Fault)
+        × part.IsLogPutUpTo fault settings.now (S.left source.old) (S.left source.new) (K.held out.old) (K.held out.new)
+        × part.HasReadFailed fault (S.has_failed source.new)
+        × (E.has_failed err.new ≡ false → part.TellsLogFault fault (E.held err.old) (E.held err.new)) }
+    // A setting that is out of its range is found before anything is read.
+    ensures range { part.IsOutOfRange settings.now.colour settings.now.address → (result ≡ failure)
+        × IsUntouched (S.left source.old) (S.left source.new) (K.held out.old) (K.held out.new) }
     ensures alone { (err.new ≡ err.old)
         ⊎ TellsFault result (K.has_failed out.new) (E.has_failed err.new) (E.held err.old) (E.held err.new) }
     ensures status { result ≤ 1 }

@@ -1,4 +1,5 @@
 pub mod Carrying
 pub mod Filters
+pub mod Listed
 pub mod LogRequest
 pub mod Request

@@ -5,7 +5,8 @@
 //! and answers a `Request`. `obey` reads them and does what they ask for, on a system (`dmr_files`), and prints to two sinks
 //! (`dmr_record`): what was asked for to the first, errors to the second. `program` is that on the system that it runs on.
 //! `specs/Request.antt` says from which option each part of a request comes, with `Filters` and `LogRequest`, and where a line goes
-//! that tells how much was written. What a file shows is `dmr_show`'s, its log is `dmr_log_forms`'s, and its text is `dmr_text`'s.
+//! that tells how much was written, and `specs/Listed.antt` what a listing or a log prints. What a file shows is `dmr_show`'s, its
+//! log is `dmr_log_forms`'s, and its text is `dmr_text`'s.
 #![tactic(auto)]
 
 mod carrying;

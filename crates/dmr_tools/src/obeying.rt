@@ -3,6 +3,7 @@ ghost use Rattle.std.specs.Prelude.{◌≡◌, ◌≤◌, ◌⊎◌, false, true
 ghost use Rattle.dmr_lines.specs.Line.{PutsError, PutsLine};
 ghost use Rattle.dmr_lines.specs.Status.{failure, success, usage};
 ghost use Rattle.dmr_show.specs.Showing.{TellsFault};
+ghost use Rattle.dmr_tools.specs.Listed as listed;
 ghost use Rattle.dmr_tools.specs.Request.{IsCarrying, IsTool, IsShow, is_to_output};
 
 use crate::carrying::{Direction, carry_file};
@@ -45,6 +46,11 @@ fn show_file<S: System, K: Sink, E: Sink>(
 ) -> u8
     requires out { K.has_failed out.old ≡ false }
     requires err { E.has_failed err.old ≡ false }
+    ensures whole { result ≡ success → listed.IsSomeShown form filter (K.held out.old) (K.held out.new) }
+    ensures fault { result ≡ failure → K.has_failed out.new ≡ false
+        → TellsFault result (K.has_failed out.new) (E.has_failed err.new) (E.held err.old) (E.held err.new) }
+    ensures part { result ≡ failure → K.has_failed out.new ≡ false
+        → listed.IsSomeShownInPart form filter (K.held out.old) (K.held out.new) }
     ensures alone { (err.new ≡ err.old)
         ⊎ TellsFault result (K.has_failed out.new) (E.has_failed err.new) (E.held err.old) (E.held err.new) }
     ensures success { result ≡ success → err.new ≡ err.old }
@@ -79,6 +85,11 @@ fn log_file<S: System, K: Sink, E: Sink>(
 ) -> u8
     requires out { K.has_failed out.old ≡ false }
     requires err { E.has_failed err.old ≡ false }
+    ensures whole { result ≡ success → listed.IsSomeLogPut settings (K.held out.old) (K.held out.new) }
+    ensures fault { result ≡ failure → K.has_failed out.new ≡ false
+        → TellsFault result (K.has_failed out.new) (E.has_failed err.new) (E.held err.old) (E.held err.new) }
+    ensures part { result ≡ failure → K.has_failed out.new ≡ false
+        → listed.IsSomeLogPutInPart settings (K.held out.old) (K.held out.new) }
     ensures alone { (err.new ≡ err.old)
         ⊎ TellsFault result (K.has_failed out.new) (E.has_failed err.new) (E.held err.old) (E.held err.new) }
     ensures success { result ≡ success → err.new ≡ err.old }
@@ -120,7 +131,13 @@ fn fulfil<S: System, K: Sink, E: Sink>(
     // What isn't done here is told to the second sink.
     ensures elsewhere { (IsTool request.entry → ⊥) → out.new ≡ out.old }
     ensures refused { (IsTool request.entry → ⊥) → E.has_failed err.new ≡ false → result ≡ usage }
-    // A listing goes to the first; where it ends at a fault, a line of error goes to the second.
+    // A listing or a log goes to the first, whole where this succeeds, and else in part.
+    ensures listed { result ≡ success → listed.IsListed request.entry (K.held out.old) (K.held out.new) }
+    ensures in_part { IsShow request.entry → result ≡ failure → K.has_failed out.new ≡ false
+        → listed.IsListedInPart request.entry (K.held out.old) (K.held out.new) }
+    // Where it ends at a fault, a line of error goes to the second.
+    ensures fault { IsShow request.entry → result ≡ failure → K.has_failed out.new ≡ false
+        → TellsFault result (K.has_failed out.new) (E.has_failed err.new) (E.held err.old) (E.held err.new) }
     ensures listing { IsShow request.entry → (err.new ≡ err.old)
         ⊎ TellsFault result (K.has_failed out.new) (E.has_failed err.new) (E.held err.old) (E.held err.new) }
     // Where a file is carried, one line is printed to one of the two: how much it was to the first, a fault to the second.
