@@ -34,7 +34,8 @@ pub part_put_by : {T : Type 0} (r : Result T LogFault) (e : LogFault) (settings 
     → Consumes left_old left (head_octets (magic_of Uplink)) → PutsHead settings.form held_old before
     → ArePutUpTo e settings.form settings.filter address log last left left_new before held_new
     → IsLogPutByEnd r settings left_old left_new held_old held_new
-part_put_by r e settings address log last left_old left left_new held_old before held_new failed same_address same_log uplink head put =
+part_put_by r e settings address log last left_old left left_new held_old before held_new
+    failed same_address same_log uplink head put =
     subst (λ s. IsLogPutByEnd s settings left_old left_new held_old held_new) (sym failed)
     (part_put e settings last left_old left left_new held_old before held_new uplink head
     (subst (λ (s : LogState). ArePutUpTo e settings.form settings.filter (unwrap_or settings.address 0) s last

@@ -44,10 +44,11 @@ Prints held set a told b =
     (set b ≡ set a) × PutsEntries (set a).form (shown_of (set a).filter (set a).address told) (held a) (held b)
 
 -- What a printer took of frames is put to its sink, and it stays set as it is.
-pub frames_put : {L : Type 0} (held : L → Option (List ℕ)) (set : L → Printing) {log_old log_new : LogState} {frames : RecordedFrames}
-    {begun : List RecordedSlot} {part : List ℕ} {left_old left_new : Option (List ℕ)} {old new : L}
+pub frames_put : {L : Type 0} (held : L → Option (List ℕ)) (set : L → Printing) {log_old log_new : LogState}
+    {frames : RecordedFrames} {begun : List RecordedSlot} {part : List ℕ} {left_old left_new : Option (List ℕ)} {old new : L}
     → AreFramesTaken (Prints held set) log_old frames begun part log_new left_old left_new old new
-    → (set new ≡ set old) × AreFramesTaken (puts (set old)) log_old frames begun part log_new left_old left_new (held old) (held new)
+    → (set new ≡ set old)
+    × AreFramesTaken (puts (set old)) log_old frames begun part log_new left_old left_new (held old) (held new)
 frames_put held set {old = old} {new = new} taken =
     let given = given_to_part held set puts old new taken.told taken.given in (
       given.0,
@@ -88,11 +89,12 @@ all_put held set {log_new = log_new} {new = new} frames read between taken rest 
     }
 
 -- What a printer took up to a fault is put to its sink, and what is told at the end.
-pub put_up_to_fault : {L : Type 0} (held : L → Option (List ℕ)) (set : L → Printing) {fault : FaultLine} {log_old log_new : LogState}
-    {left_old left_new : Option (List ℕ)} {old new : L} (read : LogState) (between : L)
+pub put_up_to_fault : {L : Type 0} (held : L → Option (List ℕ)) (set : L → Printing) {fault : FaultLine}
+    {log_old log_new : LogState} {left_old left_new : Option (List ℕ)} {old new : L} (read : LogState) (between : L)
     → IsLoggedUpToFault (Prints held set) fault log_old read left_old left_new old between
     → IsRestTold (Prints held set) read log_new between new
-    → ArePutUpToFault (set old).form (set old).filter (set old).address fault log_old log_new left_old left_new (held old) (held new)
+    → ArePutUpToFault (set old).form (set old).filter (set old).address fault log_old log_new left_old left_new
+    (held old) (held new)
 put_up_to_fault held set {log_new = log_new} {new = new} read between logged rest =
     let first = frames_put held set logged.taken in
     record {

@@ -93,12 +93,12 @@ IsOutOfRange colour address =
     (15 < colour) ⊎ ((llid : ℕ) × (address ≡ Some llid) × ((llid ≡ 0) ⊎ (16777215 < llid)))
 
 -- A log isn't begun, by why: its settings are out of range, or there is no memory.
-abbrev pub IsNotBegun : LogFault → ℕ → Option ℕ → Type 0
-IsNotBegun why.Range colour address = IsOutOfRange colour address
-IsNotBegun why.Memory colour address = Unit {0}
-IsNotBegun (why.File fault) colour address = ⊥
-IsNotBegun why.NotUplink colour address = ⊥
-IsNotBegun why.Output colour address = ⊥
+abbrev pub IsLogNotBegun : LogFault → ℕ → Option ℕ → Type 0
+IsLogNotBegun why.Range colour address = IsOutOfRange colour address
+IsLogNotBegun why.Memory colour address = Unit {0}
+IsLogNotBegun (why.File fault) colour address = ⊥
+IsLogNotBegun why.NotUplink colour address = ⊥
+IsLogNotBegun why.Output colour address = ⊥
 
 -- The head of one of the other three files was read.
 pub record IsOtherHead (left_old left_new : Option (List ℕ)) : Type 0 where

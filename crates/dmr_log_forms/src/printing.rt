@@ -44,7 +44,7 @@ fn head_fault(fault: RecordFault) -> LogFault
 fn new_gateway(alloc: Global, colour: u8, address: Option<u32>) -> Result<Option<Gateway>, LogFault>
     requires colour { colour < 16 }
     ensures gateway { IfOk result (λ gateway. gateway ≡ spec.listening colour address) }
-    ensures fault { IfErr result (λ e. part.IsNotBegun e colour address) }
+    ensures fault { IfErr result (λ e. part.IsLogNotBegun e colour address) }
     ensures range { part.IsOutOfRange colour address → result ≡ Err LogFault.Range }
 {
     let Some(llid) = address else {
@@ -69,7 +69,7 @@ fn new_gateway(alloc: Global, colour: u8, address: Option<u32>) -> Result<Option
 /// A log of a repeater with this colour code and a gateway at this address, if one is to listen, of which no frame came.
 fn new_log(alloc: Global, colour: u8, address: Option<u32>) -> Result<Log, LogFault>
     ensures log { IfOk result (λ log. log ≡ spec.log_of colour address) }
-    ensures fault { IfErr result (λ e. part.IsNotBegun e colour address) }
+    ensures fault { IfErr result (λ e. part.IsLogNotBegun e colour address) }
     ensures range { part.IsOutOfRange colour address → result ≡ Err LogFault.Range }
 {
     if colour > 15 {

@@ -34,13 +34,13 @@ IsSomeLogPutInPart settings held_old held_new =
     ⊎ ((fault : LogFault) × (left_old left_new : Option (List ℕ)) × IsLogPutUpTo fault settings left_old left_new held_old held_new)
 
 -- What a request for a listing or a log prints that succeeds. Of others nothing is said here.
-abbrev pub IsListed : Request → Option (List ℕ) → Option (List ℕ) → Type 0
-IsListed (Show name form filter) held_old held_new = IsSomeShown form filter held_old held_new
-IsListed (Log name settings) held_old held_new = IsSomeLogPut settings held_old held_new
-IsListed request held_old held_new = Unit {0}
+abbrev pub IsListingPrinted : Request → Option (List ℕ) → Option (List ℕ) → Type 0
+IsListingPrinted (Show name form filter) held_old held_new = IsSomeShown form filter held_old held_new
+IsListingPrinted (Log name settings) held_old held_new = IsSomeLogPut settings held_old held_new
+IsListingPrinted request held_old held_new = Unit {0}
 
 -- What one prints that doesn't, where it can be printed.
-abbrev pub IsListedInPart : Request → Option (List ℕ) → Option (List ℕ) → Type 0
-IsListedInPart (Show name form filter) held_old held_new = IsSomeShownInPart form filter held_old held_new
-IsListedInPart (Log name settings) held_old held_new = IsSomeLogPutInPart settings held_old held_new
-IsListedInPart request held_old held_new = Unit {0}
+abbrev pub IsListingPrintedInPart : Request → Option (List ℕ) → Option (List ℕ) → Type 0
+IsListingPrintedInPart (Show name form filter) held_old held_new = IsSomeShownInPart form filter held_old held_new
+IsListingPrintedInPart (Log name settings) held_old held_new = IsSomeLogPutInPart settings held_old held_new
+IsListingPrintedInPart request held_old held_new = Unit {0}

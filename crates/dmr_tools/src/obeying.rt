@@ -132,9 +132,9 @@ fn fulfil<S: System, K: Sink, E: Sink>(
     ensures elsewhere { (IsTool request.entry → ⊥) → out.new ≡ out.old }
     ensures refused { (IsTool request.entry → ⊥) → E.has_failed err.new ≡ false → result ≡ usage }
     // A listing or a log goes to the first, whole where this succeeds, and else in part.
-    ensures listed { result ≡ success → listed.IsListed request.entry (K.held out.old) (K.held out.new) }
+    ensures listed { result ≡ success → listed.IsListingPrinted request.entry (K.held out.old) (K.held out.new) }
     ensures in_part { IsShow request.entry → result ≡ failure → K.has_failed out.new ≡ false
-        → listed.IsListedInPart request.entry (K.held out.old) (K.held out.new) }
+        → listed.IsListingPrintedInPart request.entry (K.held out.old) (K.held out.new) }
     // Where it ends at a fault, a line of error goes to the second.
     ensures fault { IsShow request.entry → result ≡ failure → K.has_failed out.new ≡ false
         → TellsFault result (K.has_failed out.new) (E.has_failed err.new) (E.held err.old) (E.held err.new) }

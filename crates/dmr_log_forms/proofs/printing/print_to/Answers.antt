@@ -8,8 +8,8 @@ use Rattle.dmr_log_forms.proofs.printing.print_to.Goals as goal
 pub returns-in_err-summary-clause-put : goal.returns-in_err-summary-clause-put
 returns-in_err-summary-clause-put g c =
     let same : c.unwrap_or.result ≡ unwrap_or c.args.settings.now.address 0 = search rules in
-    part_put_by c.from_residual-in_err-summary.result c.in_err-summary.field-0.0 _ _ _ _ _ _ _ _ _ _ (search rules) same c.in_ok-log.ensures.log
-    c.in_ok-read_uplink_head.ensures.uplink c.in_ok-print_head.ensures.head c.in_err-summary.ensures.put
+    part_put_by c.from_residual-in_err-summary.result c.in_err-summary.field-0.0 _ _ _ _ _ _ _ _ _ _ (search rules) same
+    c.in_ok-log.ensures.log c.in_ok-read_uplink_head.ensures.uplink c.in_ok-print_head.ensures.head c.in_err-summary.ensures.put
 
 pub returns-clause-put : goal.returns-clause-put
 returns-clause-put g c =
