@@ -61,6 +61,91 @@ fn datagrams(rt: HostRuntime) {
     assert!(rt; ExpandFault::Opcode as u8 == 2);
 }
 
+// The numbers of all faults of the surface, whichever call answers them.
+#[test]
+fn numbers_of_units_and_packets(rt: HostRuntime) {
+    let embedded = [
+        EmbedFault::Row as u8,
+        EmbedFault::Columns as u8,
+        EmbedFault::Checksum as u8,
+    ];
+    assert!(rt; embedded == [1, 2, 3]);
+    assert!(rt; [LcFault::Bptc as u8, LcFault::Parity as u8] == [1, 2]);
+    assert!(rt; [CsbkFault::Bptc as u8, CsbkFault::Crc as u8] == [1, 2]);
+    let headers = [
+        HeaderFault::Bptc as u8,
+        HeaderFault::Crc as u8,
+        HeaderFault::Format as u8,
+    ];
+    assert!(rt; headers == [1, 2, 3]);
+    let blocks = [
+        BlockFault::Bptc as u8,
+        BlockFault::Crc9 as u8,
+        BlockFault::Serial as u8,
+    ];
+    assert!(rt; blocks == [1, 2, 3]);
+    let joined = [
+        JoinFault::Short as u8,
+        JoinFault::Pad as u8,
+        JoinFault::Crc32 as u8,
+    ];
+    assert!(rt; joined == [1, 2, 3]);
+}
+
+#[test]
+fn numbers_of_datagrams_and_settings(rt: HostRuntime) {
+    let datagrams = [
+        IpFault::Length as u8,
+        IpFault::Version as u8,
+        IpFault::Options as u8,
+        IpFault::HeaderSum as u8,
+        IpFault::Protocol as u8,
+        IpFault::UdpLength as u8,
+        IpFault::UdpSum as u8,
+        IpFault::Fragment as u8,
+    ];
+    assert!(rt; datagrams == [1, 2, 3, 4, 5, 6, 7, 8]);
+    let expanded = [
+        ExpandFault::Short as u8,
+        ExpandFault::Opcode as u8,
+        ExpandFault::Address as u8,
+        ExpandFault::Port as u8,
+        ExpandFault::Long as u8,
+    ];
+    assert!(rt; expanded == [1, 2, 3, 4, 5]);
+    let settings = [
+        ConfigFault::Colour as u8,
+        ConfigFault::Llid as u8,
+        ConfigFault::Hang as u8,
+        ConfigFault::Queue as u8,
+    ];
+    assert!(rt; settings == [1, 2, 3, 4]);
+}
+
+#[test]
+fn numbers_of_offers_and_records(rt: HostRuntime) {
+    let offers = [
+        GatewayFault::NoRoute as u8,
+        GatewayFault::GroupConfirmed as u8,
+        GatewayFault::TooLong as u8,
+        GatewayFault::QueueFull as u8,
+        GatewayFault::Memory as u8,
+    ];
+    assert!(rt; offers == [1, 2, 3, 4, 5]);
+    let records = [
+        RecordFault::Magic as u8,
+        RecordFault::Version as u8,
+        RecordFault::CutRecord as u8,
+        RecordFault::BadTag as u8,
+        RecordFault::HalfFrame as u8,
+        RecordFault::FrameOrder as u8,
+        RecordFault::TooLong as u8,
+        RecordFault::Read as u8,
+        RecordFault::Write as u8,
+    ];
+    assert!(rt; records == [1, 2, 3, 4, 5, 6, 7, 8, 9]);
+}
+
 // Settings of colour code 16, and a datagram to 10.0.0.2.
 #[test]
 fn gateway(rt: HostRuntime) {
