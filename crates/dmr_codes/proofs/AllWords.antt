@@ -11,7 +11,7 @@ use Rattle.dmr_codes.specs.declared.residue.TheConstants as residue
 pub golay20_words : are_words 20 8 golay20_columns golay.WORDS ≡ true
 golay20_words = refl
 
--- the Golay code's table of errors tells the wrong information bits of any error of at most three bits
+-- the Golay code's table of errors tells which information bits any error of up to three bits turns
 pub golay20_tells : tells 20 8 golay.WORDS golay.WRONG 20 0 3 ≡ true
 golay20_tells = refl
 
@@ -39,18 +39,18 @@ hamming13_words = refl
 pub hamming13_tells : tells 13 9 hamming.WORDS_13 hamming.WRONG_13 13 0 1 ≡ true
 hamming13_tells = refl
 
--- the upper table of the Hamming code of 16 bits has in turn the words whose five lowest information bits are zero
+-- the Hamming code of 16 bits has in its upper table the words with five zeros last in the information
 pub hamming16_upper : are_words_each 16 11 (2 ^ 5) (2 ^ (11 - 5)) hamming16_columns hamming.UPPER_16 ≡ true
 hamming16_upper = refl
 
--- the lower table of that code has in turn the words whose six highest information bits are zero
+-- the same code has in its lower table the words with six zeros first in the information
 pub hamming16_lower : are_words_each 16 11 1 (2 ^ 5) hamming16_columns hamming.LOWER_16 ≡ true
 hamming16_lower = refl
 
--- the upper table of the Hamming code of 17 bits has in turn the words whose six lowest information bits are zero
+-- the Hamming code of 17 bits has in its upper table the words with six zeros last in the information
 pub hamming17_upper : are_words_each 17 12 (2 ^ 6) (2 ^ (12 - 6)) hamming17_columns hamming.UPPER_17 ≡ true
 hamming17_upper = refl
 
--- the lower table of that code has in turn the words whose six highest information bits are zero
+-- the same code has in its lower table the words with six zeros first in the information
 pub hamming17_lower : are_words_each 17 12 1 (2 ^ 6) hamming17_columns hamming.LOWER_17 ≡ true
 hamming17_lower = refl
