@@ -81,7 +81,7 @@ sum_next j a ws rows h e f =
     ∙ ap (λ n. cond (get_or ws i 0 / 2 ^ j % 2 == 1) (bit_xor (sum_rows j (drop n ws) (drop n rows)) (get_or rows i 0))
     (sum_rows j (drop n ws) (drop n rows))) next
 
--- the sum of the last rows goes on to one row more by adding it, where the row takes part in the check
+-- one row more is added to the sum of the last rows, where the row takes part in the check
 pub sum_added : (j a sum : ℕ) (ws rows : List ℕ) → a < 13 → length ws ≡ 13 → length rows ≡ 13
     → sum ≡ sum_rows j (drop (13 - a) ws) (drop (13 - a) rows) → get_or ws (12 - a) 0 / 2 ^ j % 2 ≡ 1
     → bit_xor sum (get_or rows (12 - a) 0) ≡ sum_rows j (drop (13 - (a + 1)) ws) (drop (13 - (a + 1)) rows)

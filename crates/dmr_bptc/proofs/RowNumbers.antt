@@ -61,7 +61,7 @@ pub cell_new : (rows : List ℕ) (r c n : ℕ) → length rows ≡ 13 → r < 13
 cell_new rows r c n e h k = cell_laid (set rows r n) r c h k
     ∙ ap (λ m. get_or (bits_of 15 m) c false) (get_or-set_same rows r n 0 (omega arith))
 
--- a row that is another leaves the cells of all other rows as they were
+-- setting one row leaves the cells of all other rows as they were
 pub cell_kept : (rows : List ℕ) (i r c n : ℕ) → r < 13 → c < 15 → r ≢ i → cell (laid (set rows i n)) r c ≡ cell (laid rows) r c
 cell_kept rows i r c n h k apart =
     cell_laid (set rows i n) r c h k

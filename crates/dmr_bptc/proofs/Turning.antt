@@ -100,7 +100,7 @@ corrected_to columns old new least long is near = record {
 row_undoes : (checks : ℕ) → checks < 16 → undoes hamming15_columns checks ≡ true
 row_undoes checks h = agree_below_at (λ s. undoes hamming15_columns s) (λ s. true) 16 checks refl h
 
--- a row with the bit turned that its failing checks tell is a word, and what the row is corrected to
+-- a row with the bit turned that its failing checks tell is a word, and what it is corrected to
 pub turned_row : (old : List Bool) (checks : ℕ) → length old ≡ 15 → AreFailing hamming15_columns old checks
     → IsHamming15 (xor_bits old (places_of hamming15_columns checks))
     × IsCorrected IsHamming15 old (xor_bits old (places_of hamming15_columns checks))
@@ -124,7 +124,7 @@ undoes_column : (of_no_row holds : Bool) → of_no_row || holds ≡ true → of_
 undoes_column true holds e f = cc
 undoes_column false holds e f = e
 
--- a column with the bit turned that its failing checks tell is a word, unless they are those of no row
+-- a column with the bit turned that its failing checks tell is a word, unless they tell of no row
 pub turned_column_word : (old : List Bool) (checks : ℕ) → length old ≡ 13 → AreFailing hamming13_columns old checks
     → is_of_no_row checks ≡ false
     → IsHamming13 (xor_bits old (places_of hamming13_columns checks))
