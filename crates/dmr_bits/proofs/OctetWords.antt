@@ -52,6 +52,7 @@ bits_of_octets-drop k octets h =
 eight_at : (octets : List ℕ) (from k : ℕ) → k < 8 → get_or octets (from + k) 0 ≡ get_or (take 8 (drop from octets)) k 0
 eight_at octets from k h = sym (get_or-take 8 (drop from octets) k 0 h ∙ get_or-drop from octets k 0)
 
+-- eight octets taken one by one from a place on are the stretch of the list there
 pub eight : (octets : List ℕ) (from : ℕ) → from + 8 ≤ length octets
     → get_or octets from 0 ∷ get_or octets (from + 1) 0 ∷ get_or octets (from + 2) 0 ∷ get_or octets (from + 3) 0 ∷ get_or octets
     (from + 4) 0 ∷ get_or octets (from + 5) 0 ∷ get_or octets (from + 6) 0 ∷ get_or octets (from + 7) 0 ∷ []
@@ -111,6 +112,7 @@ next_word X p q w ws e h k =
     ∙ ap (λ l. take 64 (drop p X) ++ l) (k ∙ ap (λ n. drop n X) e ∙ sym (drop-drop 64 p X))
     ∙ take-append-drop 64 (drop p X)
 
+-- five words have the bits of forty octets where each word has those of its eight
 pub words_of_octets : (octets : List ℕ) (a b c d e : ℕ) → length octets ≡ 40
     → word_bits a ≡ take 64 (drop 0 (bits_of_octets octets)) → word_bits b ≡ take 64 (drop 64 (bits_of_octets octets))
     → word_bits c ≡ take 64 (drop 128 (bits_of_octets octets)) → word_bits d ≡ take 64 (drop 192 (bits_of_octets octets))
@@ -158,6 +160,7 @@ octets_more octets words ys rest k long inside five is e =
     ∙ sym (bits_of_words-append (take k words) (n ∷ []))
     ∙ ap bits_of_words (sym (take_more words k 0 (omega arith)))
 
+-- octets below 256, then a word's own, then more below 256: all in the list are below 256
 pub octets_small : (octets ys rest : List ℕ) (a n : ℕ) → All (λ octet. octet < 256) octets → ys ≡ to_be_bytes w64 n
     → All (λ octet. octet < 256) rest → All (λ octet. octet < 256) (take a octets ++ (ys ++ rest))
 octets_small octets ys rest a n small is more =

@@ -68,6 +68,7 @@ put_packed n words new V at width h e room long small is =
       clear = ap (drop n) is ∙ put_end n (bits_of_words words) V at width e room all ∙ h.clear;
     }
 
+-- what is written into the words, within the bits that they hold, stands so in these bits too
 pub put_unpacked : (n : ℕ) (words new : List ℕ) (V : List Bool) (at width : ℕ) → IsPacked n words → length V ≡ width
     → at + width ≤ n → bits_of_words new ≡ take at (bits_of_words words) ++ (V ++ drop (at + width) (bits_of_words words))
     → unpacked n new ≡ take at (unpacked n words) ++ V ++ drop (at + width) (unpacked n words)
@@ -119,6 +120,7 @@ take_same zero m h = refl
 take_same (suc n) zero h = absurd (omega arith)
 take_same (suc n) (suc m) h = ap (λ l. false ∷ l) (take_same n m (omega arith))
 
+-- five zero words are packed, for any count of bits that they have room for
 pub zero_packed : (n : ℕ) → n ≤ 320 → IsPacked n (replicate 5 0)
 zero_packed n h = record {
   long = refl;
@@ -127,6 +129,7 @@ zero_packed n h = record {
   clear = ap (drop n) (zeros_of 5) ∙ drop_same n 320;
 }
 
+-- the bits that five zero words hold are zeros
 pub zero_unpacked : (n : ℕ) → n ≤ 320 → unpacked n (replicate 5 0) ≡ replicate n false
 unfolding unpacked
 zero_unpacked n h = ap (take n) (zeros_of 5) ∙ take_same n 320 h
@@ -148,6 +151,7 @@ xor_clear (suc m) = ap (λ l. false ∷ l) (xor_clear m)
 same_length : (n : ℕ) (a b : List ℕ) → IsPacked n a → IsPacked n b → length (bits_of_words a) ≡ length (bits_of_words b)
 same_length n a b h k = omega (arith, length-bits_of_words a, length-bits_of_words b, h.long, k.long)
 
+-- five words of 64 bits whose bits are the sum of two packed ones' are packed too
 pub sum_packed : (n : ℕ) (a b new : List ℕ) → IsPacked n a → IsPacked n b → length new ≡ 5 → All (λ word. word < 2 ^ 64) new
     → bits_of_words new ≡ xor_bits (bits_of_words a) (bits_of_words b) → IsPacked n new
 sum_packed n a b new h k long small is = record {
@@ -160,6 +164,7 @@ sum_packed n a b new h k long small is = record {
       ∙ xor_clear (320 - n);
 }
 
+-- words whose bits are the sum of two others' hold the sum of what these hold
 pub sum_unpacked : (n : ℕ) (a b new : List ℕ) → bits_of_words new ≡ xor_bits (bits_of_words a) (bits_of_words b)
     → unpacked n new ≡ xor_bits (unpacked n a) (unpacked n b)
 unfolding unpacked
@@ -178,12 +183,14 @@ ones_unpacked n words h =
     ∙ ap (λ m. weight (take n B) + m) (ap weight h.clear ∙ weight_clear (320 - n))
     ∙ (let e : weight (take n B) + 0 ≡ weight (take n B) = omega arith in e)
 
+-- the words of a sum have as many ones as there are places in which the bits held differ
 pub distance_unpacked : (n : ℕ) (a b new : List ℕ) → IsPacked n a → IsPacked n b → length new ≡ 5 → All (λ word. word < 2 ^ 64) new
     → bits_of_words new ≡ xor_bits (bits_of_words a) (bits_of_words b)
     → weight (bits_of_words new) ≡ weight (xor_bits (unpacked n a) (unpacked n b))
 distance_unpacked n a b new h k long small is =
     ones_unpacked n new (sum_packed n a b new h k long small is) ∙ ap weight (sum_unpacked n a b new is)
 
+-- the bits held by two packed lists of words differ in at most as many places as are held
 pub distance_bound : (n : ℕ) (a b : List ℕ) → IsPacked n a → IsPacked n b → weight (xor_bits (unpacked n a) (unpacked n b)) ≤ n
 distance_bound n a b h k =
     let e = length-xor_bits (unpacked n a) (unpacked n b) (length-unpacked n a h ∙ sym (length-unpacked n b k)) in
@@ -202,6 +209,7 @@ octets_packed n m octets rest new whole room long five small is clear = record {
       ∙ clear;
 }
 
+-- words with the bits of some octets in front hold these bits, where the octets fill what is held
 pub octets_unpacked : (n m : ℕ) (octets rest new : List ℕ) → 8 * m ≡ n → length octets ≡ m
     → bits_of_words new ≡ bits_of_octets (octets ++ rest) → unpacked n new ≡ bits_of_octets octets
 unfolding unpacked
@@ -241,6 +249,7 @@ copied_part n m words new other at from to h k order bound room is =
     ∙ ap (λ l. take at (unpacked n words) ++ l ++ drop (at + w) (unpacked n words)) same
     ∙ ap (λ j. take at (unpacked n words) ++ part (unpacked m other) from to ++ drop (at + j) (unpacked n words)) (sym wide)
 
+-- a part of the bits that words hold is as long as it is from its start to its end
 pub copied_length : (m : ℕ) (other : List ℕ) (from to : ℕ) → IsPacked m other → from ≤ to → to ≤ m
     → length (take (to - from) (drop from (bits_of_words other))) ≡ to - from
 copied_length m other from to k order bound =
@@ -257,6 +266,7 @@ part_packed n m words new from to h order bound fit long small is =
     put_packed m (replicate 5 0) new (take (to - from) (drop from (bits_of_words words))) 0 (to - from)
     (zero_packed m (omega (arith, h.fits))) (copied_length n words from to h order bound) (omega arith) long small is
 
+-- zero words with a part of packed bits written to their front hold that part
 pub part_unpacked : (n m : ℕ) (words new : List ℕ) (from to : ℕ) → IsPacked n words → from ≤ to → to ≤ n → to - from ≡ m
     → bits_of_words new ≡ take 0 (bits_of_words (replicate 5 0))
     ++ (take (to - from) (drop from (bits_of_words words)) ++ drop (0 + (to - from)) (bits_of_words (replicate 5 0)))
@@ -271,6 +281,7 @@ part_unpacked n m words new from to h order bound fit is =
     (omega (arith, length-unpacked m (replicate 5 0) clear, long)))
     ∙ append-nil all
 
+-- forty zero octets without the first ones have as many zeros as bits are left
 pub drop_zeros : (n m : ℕ) → 8 * m ≡ n → n ≤ 320 → bits_of_octets (drop {A = ℕ} m (replicate 40 0)) ≡ replicate (320 - n) false
 drop_zeros n m e h =
     let f : 8 * (40 - m) ≡ 320 - n = omega arith in

@@ -55,6 +55,7 @@ sum_bit (suc zero) (suc zero) h k = refl
 sum_bit (suc (suc a)) b h k = absurd (omega arith)
 sum_bit a (suc (suc b)) h k = absurd (omega arith)
 
+-- the bits of the sum of two numbers, bit by bit, are the sum of their bits
 pub bits_of_xor : (k a b : ℕ) → bits_of k (bit_xor a b) ≡ xor_bits (bits_of k a) (bits_of k b)
 bits_of_xor zero a b = refl
 bits_of_xor (suc k) a b =
@@ -91,6 +92,7 @@ five (a ∷ b ∷ c ∷ d ∷ []) h = absurd (omega arith)
 five (a ∷ b ∷ c ∷ d ∷ e ∷ []) h = refl
 five (a ∷ b ∷ c ∷ d ∷ e ∷ f ∷ ws) h = absurd (omega arith)
 
+-- five words that are each the sum of two have as bits the sum of the two lists' bits
 pub sum_words : (ws vs : List ℕ) → length ws ≡ 5 → length vs ≡ 5
     → bits_of_words
     (bit_xor (get_or ws 0 0) (get_or vs 0 0) ∷ bit_xor (get_or ws 1 0) (get_or vs 1 0) ∷ bit_xor (get_or ws 2 0) (get_or vs 2 0) ∷
@@ -107,6 +109,7 @@ ones_more a ws h =
     ap weight (bits_of_words-cons a ws) ∙ weight-append (word_bits a) (bits_of_words ws)
     ∙ ap (λ m. m + weight (bits_of_words ws)) (weight-word_bits a h)
 
+-- the ones of five words, counted word by word, are as many as there are among all their bits
 pub ones_words : (ws : List ℕ) → length ws ≡ 5 → ((k : ℕ) → k < 5 → get_or ws k 0 < 2 ^ 64)
     → count_ones (get_or ws 0 0) + count_ones (get_or ws 1 0) + count_ones (get_or ws 2 0) + count_ones (get_or ws 3 0) + count_ones
     (get_or ws 4 0) ≡ weight (bits_of_words ws)
@@ -130,6 +133,7 @@ ones_words ws p small =
       ones_more e [] (small 4 (omega arith)),
     )
 
+-- the sums of five pairs of words of 64 bits are words of 64 bits
 pub sum_small : (ws vs : List ℕ) → ((k : ℕ) → k < 5 → get_or ws k 0 < 2 ^ 64) → ((k : ℕ) → k < 5 → get_or vs k 0 < 2 ^ 64)
     → All (λ word. word < 2 ^ 64)
     (bit_xor (get_or ws 0 0) (get_or vs 0 0) ∷ bit_xor (get_or ws 1 0) (get_or vs 1 0) ∷ bit_xor (get_or ws 2 0) (get_or vs 2 0) ∷

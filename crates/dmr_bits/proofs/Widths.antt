@@ -62,6 +62,7 @@ read_shifted word at width h =
     ∙ ap (λ m. word * 2 ^ at % 2 ^ (width + (at + below)) / 2 ^ m) (sym f)
     ∙ shifted word at width below
 
+-- a word shifted down to the end of a field, and cut to its width, has the field's bits
 pub read_middle : (word at width : ℕ) → at + width ≤ 64
     → bits_of width (word / 2 ^ (64 - at - width) % 2 ^ width) ≡ take width (drop at (word_bits word))
 unfolding word_bits
@@ -85,6 +86,7 @@ low_fits : (width below value l : ℕ) → value < 2 ^ width → l < 2 ^ below �
 low_fits width below value l p q =
     omega (arith, mul-add-lt value (2 ^ below) l (2 ^ width) p q, pow-add 2 width below, mul_comm (2 ^ below) (2 ^ width))
 
+-- a word whose field is replaced by a value that fits the field still fits 64 bits
 pub spliced_fits : (at width below n value : ℕ) → at + (width + below) ≡ 64 → n < 2 ^ 64 → value < 2 ^ width
     → n / 2 ^ (width + below) * 2 ^ (width + below) + (value * 2 ^ below + n % 2 ^ below) < 2 ^ 64
 spliced_fits at width below n value e h p =
@@ -98,6 +100,7 @@ spliced_fits at width below n value e h p =
       whole,
     )
 
+-- a word whose field is replaced by a value has the value's bits there, and else those it had
 pub spliced_bits : (at width below n value : ℕ) → at + (width + below) ≡ 64 → value < 2 ^ width
     → word_bits (n / 2 ^ (width + below) * 2 ^ (width + below) + (value * 2 ^ below + n % 2 ^ below)) ≡ take at (word_bits n)
     ++ (bits_of width value ++ drop (at + width) (word_bits n))
@@ -144,6 +147,7 @@ low_half value a b h p =
     let small : value % 2 ^ b < 2 ^ b = mod-lt value (pow_pos b) in
     omega (arith, shr_split value b, halves value a b h p)
 
+-- the upper part of a number and what is left without it have together the number's bits
 pub halves_bits : (value a b : ℕ) → a + b ≤ 64 → value < 2 ^ (a + b)
     → bits_of a (value / 2 ^ b) ++ bits_of b (value - value / 2 ^ b * 2 ^ b % 18446744073709551616) ≡ bits_of (a + b) value
 halves_bits value a b h p =
@@ -154,10 +158,12 @@ halves_bits value a b h p =
 pub joined_is : (high low a b : ℕ) → a + b ≤ 64 → high < 2 ^ a → high * 2 ^ b % 18446744073709551616 + low ≡ high * 2 ^ b + low
 joined_is high low a b h p = ap (λ m. m + low) (shl_whole high a b 64 p h)
 
+-- two numbers, each within its width, joined as an upper and a lower part fit the two widths together
 pub joined_fits : (high low a b : ℕ) → a + b ≤ 64 → high < 2 ^ a → low < 2 ^ b
     → high * 2 ^ b % 18446744073709551616 + low < 2 ^ (a + b)
 joined_fits high low a b h p q = omega (arith, joined_is high low a b h p, low_fits a b high low p q)
 
+-- the bits of two numbers that are joined so are those of the upper and then those of the lower
 pub joined_bits : (high low a b : ℕ) → a + b ≤ 64 → high < 2 ^ a → low < 2 ^ b
     → bits_of (a + b) (high * 2 ^ b % 18446744073709551616 + low) ≡ bits_of a high ++ bits_of b low
 joined_bits high low a b h p q =

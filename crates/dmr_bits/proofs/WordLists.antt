@@ -8,10 +8,12 @@ use Rattle.dmr_bits.specs.Words.{word_bits, bits_of_words}
 pub use Rattle.dmr_bits.specs.Packing.{length-word_bits, bits_of_words-cons, bits_of_words-none, word_of}
 use Rattle.dmr_bits.proofs.Lists.{take_parts}
 
+-- the bits of two lists of words in a row are those of the first and then those of the second
 pub bits_of_words-append : (ws vs : List ℕ) → bits_of_words (ws ++ vs) ≡ bits_of_words ws ++ bits_of_words vs
 unfolding bits_of_words
 bits_of_words-append ws vs = flat_map-append word_bits ws vs
 
+-- words have 64 bits each
 pub length-bits_of_words : (ws : List ℕ) → length (bits_of_words ws) ≡ 64 * length ws
 length-bits_of_words [] = ap length bits_of_words-none
 length-bits_of_words (w ∷ ws) =
@@ -123,6 +125,7 @@ put_front n xs V at w e room all =
     ∙ ap (λ l. take at (take n xs) ++ (V ++ l)) (sym (drop-take (at + w) (n - (at + w)) xs)
     ∙ ap (λ m. drop (at + w) (take m xs)) whole)
 
+-- bits written within the front of a list leave what is behind the front as it was
 pub put_end : (n : ℕ) (xs V : List Bool) (at w : ℕ) → length V ≡ w → at + w ≤ n → n ≤ length xs
     → drop n (take at xs ++ (V ++ drop (at + w) xs)) ≡ drop n xs
 put_end n xs V at w e room all =

@@ -41,6 +41,7 @@ lower_ones (suc (suc (suc zero))) w e h = ap (ones_over 3 (drop 9 hamming13_colu
     ∙ omega (arith, none (get_or w 10 false), none (get_or w 11 false), none (get_or w 12 false))
 lower_ones (suc (suc (suc (suc j)))) w e h = absurd (omega arith)
 
+-- thirteen bits are a word where each check bit is the parity of its check over the first nine
 pub checked : (w v : List Bool) → length w ≡ 13 → length v ≡ 13 → ((r : ℕ) → r < 9 → get_or w r false ≡ get_or v r false)
     → ((r : ℕ) → 9 ≤ r → r < 13 → get_or v r false ≡ false)
     → ((j : ℕ) → j < 4 → ◌≡◌ {A = ℕ} (cond (get_or w (12 - j) false) 1 0) (ones_over j hamming13_columns v % 2)) → IsHamming13 w

@@ -20,6 +20,7 @@ use Rattle.dmr_bptc.proofs.RowNumbers.{cell_laid}
 abbrev pub bit_of : ℕ → ℕ → Bool
 bit_of c row = get_or (bits_of 15 row) c false
 
+-- in each column, the bit of the sum of two rows is the sum of their bits
 pub bit_of_xor : (c a b : ℕ) → c < 15 → bit_of c (bit_xor a b) ≡ xor (bit_of c a) (bit_of c b)
 bit_of_xor c a b h =
     ap (λ l. get_or l c false) (bits_of_xor 15 a b)
@@ -80,6 +81,7 @@ sum_next j a ws rows h e f =
     ∙ ap (λ n. cond (get_or ws i 0 / 2 ^ j % 2 == 1) (bit_xor (sum_rows j (drop n ws) (drop n rows)) (get_or rows i 0))
     (sum_rows j (drop n ws) (drop n rows))) next
 
+-- one row more is added to the sum of the last rows, where the row takes part in the check
 pub sum_added : (j a sum : ℕ) (ws rows : List ℕ) → a < 13 → length ws ≡ 13 → length rows ≡ 13
     → sum ≡ sum_rows j (drop (13 - a) ws) (drop (13 - a) rows) → get_or ws (12 - a) 0 / 2 ^ j % 2 ≡ 1
     → bit_xor sum (get_or rows (12 - a) 0) ≡ sum_rows j (drop (13 - (a + 1)) ws) (drop (13 - (a + 1)) rows)
@@ -88,6 +90,7 @@ sum_added j a sum ws rows h e f is one =
     ap (λ s. bit_xor s (get_or rows (12 - a) 0)) is
     ∙ sym (sum_next j a ws rows h e f ∙ ap (λ q. cond (q == 1) (bit_xor S (get_or rows (12 - a) 0)) S) one)
 
+-- the sum of the last rows is that of one row more too, where the row takes no part in the check
 pub sum_kept : (j a sum : ℕ) (ws rows : List ℕ) → a < 13 → length ws ≡ 13 → length rows ≡ 13
     → sum ≡ sum_rows j (drop (13 - a) ws) (drop (13 - a) rows) → (get_or ws (12 - a) 0 / 2 ^ j % 2 ≡ 1 → ⊥)
     → sum ≡ sum_rows j (drop (13 - (a + 1)) ws) (drop (13 - (a + 1)) rows)

@@ -100,6 +100,7 @@ product_or_not bits =
       | inr one ↦ (let (r, h, none) = one in inr (λ is. none (is.rows r h)))
     ]
 
+-- any bits are decoded, to a message or to none
 pub decoded_somehow : (bits : List Bool) → (result : Option (List Bool)) × IsDecoded bits result
 decoded_somehow bits =
     let (middle, columns) = columns_somehow bits in
@@ -117,6 +118,7 @@ length-information : (bits : List Bool) → length (information bits) ≡ 96
 unfolding information
 length-information bits = length-map-range_with_len (λ k. cell bits ((k + 3) / 11) ((k + 3) % 11)) 0 96
 
+-- a decoded message has 96 bits
 pub length-decoded : (bits message : List Bool) → IsDecoded bits (Some message) → length message ≡ 96
 length-decoded bits message decoded = ap length decoded.outcome.1 ∙ length-information decoded.last
 

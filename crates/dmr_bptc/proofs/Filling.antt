@@ -29,6 +29,7 @@ rows_more before after i below words new kept k h =
       | inr apart ↦ subst P (sym (row_same after before k (λ c b. kept k c (omega arith) b apart))) (words k (omega arith))
     ]
 
+-- one column more is a word, and those before it, whose cells are kept, still are
 pub columns_more : (before after : List Bool) (i : ℕ) → i < 15 → ((k : ℕ) → k < i → IsHamming13 (column before k))
     → IsHamming13 (column after i) → ((r c : ℕ) → r < 13 → c < 15 → c ≢ i → cell after r c ≡ cell before r c) → (k : ℕ) → k < i + 1
     → IsHamming13 (column after k)
@@ -39,6 +40,7 @@ columns_more before after i below words new kept k h =
       | inr apart ↦ subst P (sym (column_same after before k (λ r b. kept r k b (omega arith) apart))) (words k (omega arith))
     ]
 
+-- one row more holds its information, and those before it, whose cells are kept, still do
 pub cells_more : (message before after : List Bool) (i : ℕ) → i < 9
     → ((r c : ℕ) → r < i → c < 11 → cell before r c ≡ information_cell message r c)
     → ((c : ℕ) → c < 11 → cell after i c ≡ information_cell message i c)
@@ -50,6 +52,7 @@ cells_more message before after i below done new kept r c h k =
       | inr apart ↦ kept r c (omega arith) (omega arith) apart ∙ done r c (omega arith) k
     ]
 
+-- each bit of the information stands in the cell of its number, behind the three reserved cells
 pub information_cell_at : (bits : List Bool) (k : ℕ) → information_cell bits ((k + 3) / 11) ((k + 3) % 11) ≡ get_or bits k false
 information_cell_at bits k =
     let whole : 11 * ((k + 3) / 11) + (k + 3) % 11 ≡ k + 3 = omega arith in
@@ -58,6 +61,7 @@ information_cell_at bits k =
     ∙ ap (λ b. cond b false (get_or bits (k + 3 - 3) false)) (le-ltb (k + 3) 3 (omega arith))
     ∙ ap (λ n. get_or bits n false) back
 
+-- the three reserved cells are zero, whatever the information is
 pub reserved_cell : (bits : List Bool) (c : ℕ) → c < 3 → information_cell bits 0 c ≡ false
 reserved_cell bits c h =
     let whole : 11 * 0 + c ≡ c = omega arith in

@@ -17,6 +17,7 @@ line cells i m = spelled (λ b. get_or cells (13 * b + i) false) m
 abbrev pub lines : List Bool → ℕ → ℕ → ℕ
 lines cells i m = four 15 (line cells (i + 3) m) (line cells (i + 2) m) (line cells (i + 1) m) (line cells i m)
 
+-- four lines are doubled and the next bit of each is added, which gives the lines with one place more
 pub lines_more : (cells : List Bool) (i m v n s : ℕ) → n ≡ lines cells i m → s ≡ four 15 (v % 2) (v / 2 % 2) (v / 4 % 2) (v / 8 % 2)
     → v % 2 ≡ cond (get_or cells (13 * m + (i + 3)) false) 1 0 → v / 2 % 2 ≡ cond (get_or cells (13 * m + (i + 2)) false) 1 0
     → v / 4 % 2 ≡ cond (get_or cells (13 * m + (i + 1)) false) 1 0 → v / 8 % 2 ≡ cond (get_or cells (13 * m + i) false) 1 0
@@ -88,6 +89,7 @@ sent_cell rows cells is p i h e =
     is i (omega (arith, e)) ∙ ap (λ k. cell (laid rows) (k / 15) (k % 15)) (sym back)
     ∙ numbered_at rows p (i + 1) h (sym e) (omega arith)
 
+-- a whole line has the fifteen bits that are sent at its places
 pub line_at : (rows : List ℕ) (cells : List Bool)
     → ((k : ℕ) → k < 195 → get_or cells k false ≡ cell (laid rows) (k / 15) (k % 15)) → (a i m : ℕ) → a + i ≡ 12 → m ≡ 15 → (b : ℕ)
     → b < 15 → get_or (bits_of 15 (line cells i m)) b false ≡ get_or (laid rows) (1 + 15 * a + b) false
@@ -121,6 +123,7 @@ column bits b m = spelled (λ i. get_or bits (181 - 15 * i + b) false) m
 abbrev pub columns : List Bool → ℕ → ℕ → ℕ
 columns bits b m = four 13 (column bits b m) (column bits (b + 1) m) (column bits (b + 2) m) (column bits (b + 3) m)
 
+-- four columns are doubled and the next bit of each is added, which gives the columns with one cell more
 pub columns_more : (bits : List Bool) (b m n p q r s : ℕ) → n ≡ columns bits b m
     → p ≡ cond (get_or bits (181 - 15 * m + b) false) 1 0 → q ≡ cond (get_or bits (181 - 15 * m + (b + 1)) false) 1 0
     → r ≡ cond (get_or bits (181 - 15 * m + (b + 2)) false) 1 0 → s ≡ cond (get_or bits (181 - 15 * m + (b + 3)) false) 1 0
@@ -166,6 +169,7 @@ column_at bits b m i low end h =
     spelled_at (λ i. get_or bits (181 - 15 * i + b) false) m 13 i end h
     ∙ ap (λ p. get_or bits p false) (at ∙ ap (λ n. 181 * n % 196) (sym whole))
 
+-- four whole columns have the bits of 52 cells whose numbers, row by row, follow each other
 pub columns_at : (bits : List Bool) (b m : ℕ) → b + 3 < 15 → m ≡ 13 → (k : ℕ) → k < 52
     → get_or (bits_of 52 (columns bits b m)) k false ≡ cell bits ((13 * b + k) / 15) ((13 * b + k) % 15)
 columns_at bits b m low end =
@@ -182,6 +186,7 @@ columns_at bits b m low end =
     (λ i h. let p : 13 * (b + 3) + i ≡ 13 * b + (39 + i) = omega arith in
     column_at bits (b + 3) m i (omega arith) end h ∙ ap F p)
 
+-- the first three columns have the bits of the first 39 cells, row by row
 pub three_at : (bits : List Bool) (m : ℕ) → m ≡ 13 → (k : ℕ) → k < 39
     → get_or (bits_of 39 (three bits m)) k false ≡ cell bits (k / 15) (k % 15)
 three_at bits m end =
@@ -205,6 +210,7 @@ pub record AreColumns (bits : List Bool) (m a b c d : ℕ) : Type 0 where
   pub third_fits : c < 2 ^ 52
   pub fourth_fits : d < 2 ^ 52
 
+-- the columns of no lines are zero
 pub no_columns : (bits : List Bool) → AreColumns bits 0 0 0 0 0
 no_columns bits = record {
   first = refl;

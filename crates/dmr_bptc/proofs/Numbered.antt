@@ -11,10 +11,12 @@ use Rattle.dmr_bits.specs.Bits.{bits_of}
 use Rattle.dmr_bits.proofs.Lists.{length-bits_of, bits_of_push, pow_suc}
 use Rattle.dmr_bits.proofs.Widths.{bits_of-join}
 
+-- a bit as a byte is one where it is set, and else zero
 pub byte_is : (b : Bool) → bool_byte b ≡ cond b 1 0
 byte_is true = refl
 byte_is false = refl
 
+-- a bit as a number is below two
 pub byte_small : (b : Bool) → cond b 1 0 < 2
 byte_small true = omega arith
 byte_small false = omega arith

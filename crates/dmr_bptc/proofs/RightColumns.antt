@@ -73,6 +73,7 @@ none_of failing c e =
       ap (λ n. n / 2 ^ i % 2) e,
     )
 
+-- where no check fails in any column, none of the four numbers of failing columns has a bit set
 pub none_from : (failing : List ℕ) → length failing ≡ 4 → All (λ columns. columns < 2 ^ 15) failing
     → ((c : ℕ) → c < 15 → failing_in failing c ≡ 0)
     → bit_or (bit_or (bit_or (get_or failing 0 0) (get_or failing 1 0)) (get_or failing 2 0)) (get_or failing 3 0) ≡ 0
@@ -128,6 +129,7 @@ none_left c a b p q h e f g =
     let second : q ≡ false = sym g ∙ get_or-bits_of 15 b c h ∙ ap {B = Bool} (λ n. n == 1) right in
     rw (first, second) refl
 
+-- a column that is a word is corrected to itself
 pub kept_word : (old : List Bool) → IsHamming13 old → IsCorrected IsHamming13 old old
 kept_word old is = record {
   word = λ w word near. one_within hamming13_columns 4 3 1 old w old (least_three 13 9 hamming13_columns hamming13_shaped refl refl)
@@ -135,6 +137,7 @@ kept_word old is = record {
   same = λ none. refl;
 }
 
+-- a row that is a word is corrected to itself
 pub kept_row : (old : List Bool) → IsHamming15 old → IsCorrected IsHamming15 old old
 kept_row old is = record {
   word = λ w word near. one_within hamming15_columns 4 3 1 old w old

@@ -80,6 +80,7 @@ cell_is s h =
     (agree_below_at (λ i. eqb (get_or CELLS i 0) (number_of (places_of hamming15_columns i))) (λ i. true) 16 s refl h))
     ∙ bits_of_spelled 15 turn refl
 
+-- each entry of the table of cells fits the fifteen bits of a row
 pub small_cell : (s : ℕ) → s < 16 → get_or CELLS s 0 < 2 ^ 15
 small_cell s h = ltb-true _ _ (agree_below_at (λ i. nat_lt (get_or CELLS i 0) (2 ^ 15)) (λ i. true) 16 s refl h)
 

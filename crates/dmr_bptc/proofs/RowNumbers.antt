@@ -11,14 +11,17 @@ use Rattle.dmr_bptc.specs.ProductWord.{place, cell, row}
 use Rattle.dmr_bptc.specs.Rows.{row_bit, numbered_bit, laid}
 use Rattle.dmr_bptc.proofs.Cells.{unplace, place_below, row_from}
 
+-- there are 196 bits to send
 pub length-laid : (rows : List ℕ) → length (laid rows) ≡ 196
 unfolding laid
 length-laid rows = length-map-range_with_len (λ p. numbered_bit rows (13 * p % 196)) 0 196
 
+-- what is sent at a place is the bit of the cell whose number is 13 times the place, modulo 196
 pub sent_at : (rows : List ℕ) (p : ℕ) → p < 196 → get_or (laid rows) p false ≡ numbered_bit rows (13 * p % 196)
 unfolding laid
 sent_at rows p h = get_or-map-range_with_len (λ p. numbered_bit rows (13 * p % 196)) 0 196 p p false h (omega arith)
 
+-- the first bit that is sent is zero
 pub first_laid : (rows : List ℕ) → get_or (laid rows) 0 false ≡ false
 first_laid rows = sent_at rows 0 (omega arith)
 
@@ -28,6 +31,7 @@ numbered_cell rows r c h =
     let across : (15 * r + c) % 15 ≡ c = omega arith in
     ap (λ n. row_bit rows n ((15 * r + c) % 15)) line ∙ ap (row_bit rows r) across
 
+-- a cell of the bits that are sent is the bit of its row and column
 pub cell_laid : (rows : List ℕ) (r c : ℕ) → r < 13 → c < 15 → cell (laid rows) r c ≡ row_bit rows r c
 cell_laid rows r c h k =
     let next : 1 + 15 * r + c ≡ suc (15 * r + c) = omega arith in
@@ -57,6 +61,7 @@ pub cell_new : (rows : List ℕ) (r c n : ℕ) → length rows ≡ 13 → r < 13
 cell_new rows r c n e h k = cell_laid (set rows r n) r c h k
     ∙ ap (λ m. get_or (bits_of 15 m) c false) (get_or-set_same rows r n 0 (omega arith))
 
+-- setting one row leaves the cells of all other rows as they were
 pub cell_kept : (rows : List ℕ) (i r c n : ℕ) → r < 13 → c < 15 → r ≢ i → cell (laid (set rows i n)) r c ≡ cell (laid rows) r c
 cell_kept rows i r c n h k apart =
     cell_laid (set rows i n) r c h k

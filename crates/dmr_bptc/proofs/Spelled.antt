@@ -14,6 +14,7 @@ abbrev pub spelled : (ℕ → Bool) → ℕ → ℕ
 spelled f zero = 0
 spelled f (suc m) = 2 * spelled f m + cond (f m) 1 0
 
+-- one bit more doubles the number and adds the bit
 pub spelled_more : (f : ℕ → Bool) (m : ℕ) → spelled f (m + 1) ≡ 2 * spelled f m + cond (f m) 1 0
 spelled_more f m = let next : m + 1 ≡ suc m = omega arith in ap (spelled f) next
 
@@ -63,6 +64,7 @@ field_at bits at width n i room is h =
     ap (λ m. get_or (bits_of width m) i false) is ∙ ap (λ l. get_or l i false) (bits_of_spelled width part long)
     ∙ get_or-take width (drop at bits) i false h ∙ get_or-drop at bits i false
 
+-- each bit of the number that a field spells is the field's bit at that place
 pub field_bit : (bits : List Bool) (at width n i : ℕ) → at + width ≤ length bits → n ≡ number_of (take width (drop at bits))
     → i < width → n / 2 ^ (width - 1 - i) % 2 ≡ cond (get_or bits (at + i) false) 1 0
 field_bit bits at width n i room is h =

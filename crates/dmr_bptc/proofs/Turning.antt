@@ -48,6 +48,7 @@ unfailing columns bits checks long fail none = record {
   even = λ j h. sym (fail.tied j h) ∙ ap (λ n. n / 2 ^ j % 2) none ∙ bit_at-zero j;
 }
 
+-- in a word no check fails
 pub none_failing : (columns : List ℕ) (bits : List Bool) (checks : ℕ) → AreFailing columns bits checks → IsWord columns 4 bits
     → checks ≡ 0
 none_failing columns bits checks fail is =
@@ -99,6 +100,7 @@ corrected_to columns old new least long is near = record {
 row_undoes : (checks : ℕ) → checks < 16 → undoes hamming15_columns checks ≡ true
 row_undoes checks h = agree_below_at (λ s. undoes hamming15_columns s) (λ s. true) 16 checks refl h
 
+-- a row with the bit turned that its failing checks tell is a word, and what it is corrected to
 pub turned_row : (old : List Bool) (checks : ℕ) → length old ≡ 15 → AreFailing hamming15_columns old checks
     → IsHamming15 (xor_bits old (places_of hamming15_columns checks))
     × IsCorrected IsHamming15 old (xor_bits old (places_of hamming15_columns checks))
@@ -122,6 +124,7 @@ undoes_column : (of_no_row holds : Bool) → of_no_row || holds ≡ true → of_
 undoes_column true holds e f = cc
 undoes_column false holds e f = e
 
+-- a column with the bit turned that its failing checks tell is a word, unless they tell of no row
 pub turned_column_word : (old : List Bool) (checks : ℕ) → length old ≡ 13 → AreFailing hamming13_columns old checks
     → is_of_no_row checks ≡ false
     → IsHamming13 (xor_bits old (places_of hamming13_columns checks))

@@ -37,9 +37,11 @@ check_somehow width low g message generates some =
 pub ccitt_somehow : (message : List Bool) → (check : List Bool) × (length check ≡ 16) × Completes ccitt_generator message check
 ccitt_somehow message = check_somehow 16 0x1021 ccitt_generator message ccitt_is (lit< tt)
 
+-- any message has a check of nine bits that completes it
 pub crc9_somehow : (message : List Bool) → (check : List Bool) × (length check ≡ 9) × Completes crc9_generator message check
 crc9_somehow message = check_somehow 9 0x59 crc9_generator message crc9_is (lit< tt)
 
+-- any message has a check of eight bits that completes it
 pub crc8_somehow : (message : List Bool) → (check : List Bool) × (length check ≡ 8) × Completes crc8_generator message check
 crc8_somehow message = check_somehow 8 0x07 crc8_generator message crc8_is (lit< tt)
 
@@ -89,6 +91,7 @@ pub record IsSealedMessage (mask : Mask) (fields message : List Bool) : Type 0 w
   pub begins : take 80 message ≡ fields
   pub sealed : IsSealed mask (octets_of 12 message)
 
+-- any eighty bits begin a message of 96 bits that is sealed under a given mask
 pub message_somehow : (mask : Mask) (fields : List Bool) → length fields ≡ 80
     → (message : List Bool) × IsSealedMessage mask fields message
 message_somehow mask fields eighty =
@@ -140,6 +143,7 @@ completes_or_not width low g message check generates some long =
           (subst (λ h. IsMultiple binary_field h (message ++ check)) (sym generates) is)))
     ]
 
+-- nine bits complete a message, or they don't
 pub crc9_or_not : (message check : List Bool) → length check ≡ 9
     → Completes crc9_generator message check ⊎ (Completes crc9_generator message check → ⊥)
 crc9_or_not message check nine = completes_or_not 9 0x59 crc9_generator message check crc9_is (lit< tt) nine

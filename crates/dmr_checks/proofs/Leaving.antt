@@ -113,6 +113,7 @@ remainder_is d low table i e h =
     (all_below (λ octet. get_or table octet 0
     == number_of (register_after binary_field (bits_of d low) (bits_of d 0) (bits_of 8 octet))) 256 i e h)
 
+-- each entry of a table of remainders fits as many bits as the register has
 pub remainder_fits : (d low : ℕ) (table : List ℕ) (i : ℕ) → are_remainders d low table ≡ true → i < 256 → get_or table i 0 < 2 ^ d
 remainder_fits d low table i e h =
     rw (remainder_is d low table i e h) (rw length-remainder at (number_of-lt (remainder d low i)))
@@ -129,6 +130,7 @@ leaving_fits d w register number wide small h =
     let whole : w + (d - w) ≡ d = omega arith in
     xor_lt w (register / 2 ^ (d - w)) number (shr_below register w (d - w) (rw whole small)) h
 
+-- at most eight bits that leave the register, with as many new ones added, are an octet
 pub leaving_octet : (d w register number : ℕ) → w ≤ d → w ≤ 8 → register < 2 ^ d → number < 2 ^ w
     → bit_xor (register / 2 ^ (d - w)) number < 256
 leaving_octet d w register number wide narrow small h =
@@ -173,6 +175,7 @@ rest_moved d w register wide =
     ∙ bits_of_append (d - w) w d register 0 whole (pow_pos w)
     ∙ ap (bits_of d) same
 
+-- the register moved up, with the table's entry for what leaves it added, is what it holds after the new bits
 pub shifted_in : (d w low register number rest : ℕ) (table : List ℕ) → w ≤ d → w ≤ 8 → register < 2 ^ d → number < 2 ^ w
     → are_remainders d low table ≡ true → bits_of d rest ≡ bits_of d (register * 2 ^ w)
     → bits_of d (bit_xor rest (get_or table (bit_xor (register / 2 ^ (d - w)) number) 0))
@@ -225,6 +228,7 @@ next_bits low part number state next h e =
     ∙ sym (run_append binary_field low state (bits_of 7 (number / 2 ^ (21 - 7 * part))) (bits_of (21 - 7 * part) number))
     ∙ ap (register_after binary_field low state) (sym split)
 
+-- once all four parts are in, the register is what it holds after the whole message of 28 bits
 pub whole_message : (low empty state bits : List Bool) (number part : ℕ) → length bits ≡ 28
     → number ≡ number_of (take 28 (drop 0 bits)) → 4 ≤ part
     → register_after binary_field low state (bits_of (28 - 7 * part) number)

@@ -42,6 +42,7 @@ tail_somehow (c ∷ cs) wanted e =
       ],
     )
 
+-- any information as long as the code has it begins some word of the code
 pub word_somehow : (n k : ℕ) (cs : List ℕ) (information : List Bool) → IsShaped n k cs → length information ≡ k
     → (word : List Bool) × IsWord cs (n - k) word × (take k word ≡ information)
 word_somehow n k cs information shaped long =

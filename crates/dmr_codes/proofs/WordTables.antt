@@ -56,6 +56,7 @@ each_information n k step count cs words i are h =
     && (failed_checks cs (bits_of n (get_or words i 0)) == 0)) count i are h) in
     eqb-true _ _ both.0
 
+-- each entry of a code's table of words is a word of the code
 pub word_at : (n k : ℕ) (cs words : List ℕ) (i : ℕ) → IsShaped n k cs → are_words n k cs words ≡ true → i < 2 ^ k
     → IsWord cs (n - k) (bits_of n (get_or words i 0))
 word_at n k cs words i shaped are h = each_word n k 1 (2 ^ k) cs words i shaped are h
@@ -68,11 +69,13 @@ information_at n k cs words i are h = each_information n k 1 (2 ^ k) cs words i 
 pub front_of : (n k number : ℕ) → k ≤ n → take k (bits_of n number) ≡ bits_of k (number / 2 ^ (n - k))
 front_of n k number h = bits_of-take k (n - k) n number (omega arith)
 
+-- each entry of a code's table of words begins with the bits of its number
 pub front_at : (n k : ℕ) (cs words : List ℕ) (i : ℕ) → IsShaped n k cs → are_words n k cs words ≡ true → i < 2 ^ k
     → take k (bits_of n (get_or words i 0)) ≡ bits_of k i
 front_at n k cs words i shaped are h =
     front_of n k (get_or words i 0) shaped.information ∙ ap (bits_of k) (information_at n k cs words i are h)
 
+-- the information of a number that fits all places of a word fits the places of information
 pub information_small : (n k number : ℕ) → k ≤ n → number < 2 ^ n → number / 2 ^ (n - k) < 2 ^ k
 information_small n k number h small =
     let whole : k + (n - k) ≡ n = omega arith in
@@ -196,6 +199,7 @@ fit_at limit (x ∷ xs) (suc i) e h =
     let both = and_parts (nat_lt x limit) (list_all (λ y. nat_lt y limit) xs) e in
     fit_at limit xs i both.1 (omega arith)
 
+-- information with what the table of errors says added to it still fits its places
 pub right_small : (k m size information left second : ℕ) (wrong : List ℕ) → information < 2 ^ k
     → list_all (λ x. nat_lt x (2 ^ k)) wrong ≡ true → length wrong ≡ 2 ^ m → size ≡ 2 ^ m → second ≡ get_or wrong (left % size) 0
     → bit_xor information second < 2 ^ k
@@ -204,6 +208,7 @@ right_small k m size information left second wrong h e long is at =
     let entry : get_or wrong (left % size) 0 < 2 ^ k = fit_at (2 ^ k) wrong (left % size) e place in
     rw at (xor_lt k information (get_or wrong (left % size) 0) h entry)
 
+-- where a word is within reach of the received bits, looking up in the two tables gives that word
 pub looked_up : (n k reach number first second third size : ℕ) (cs words wrong : List ℕ) (w r found : List Bool) → IsShaped n k cs
     → are_words n k cs words ≡ true → tells n k words wrong n 0 reach ≡ true → list_all (λ x. nat_lt x (2 ^ n)) words ≡ true
     → length words ≡ 2 ^ k → length r ≡ n → number ≡ number_of (take n (drop 0 r)) → number < 2 ^ n → size ≡ 2 ^ (n - k)
@@ -228,6 +233,7 @@ sum_front hi lo low h =
     ∙ ap (λ x. x * 2 ^ low + bit_xor 0 lo) (xor_comm hi 0 ∙ xor_zero_l hi)
     ∙ ap (λ x. hi * 2 ^ low + x) (xor_zero_l lo))
 
+-- the upper table's entry for a number's upper part and the lower one's for its lower part add up to a word
 pub sum_word : (n k low number : ℕ) (cs upper lower : List ℕ) → IsShaped n k cs
     → are_words_each n k (2 ^ low) (2 ^ (k - low)) cs upper ≡ true → are_words_each n k 1 (2 ^ low) cs lower ≡ true
     → number / 2 ^ low < 2 ^ (k - low)
@@ -240,6 +246,7 @@ sum_word n k low number cs upper lower shaped high rest h =
     (each_word n k (2 ^ low) (2 ^ (k - low)) cs upper (number / 2 ^ low) shaped high h)
     (each_word n k 1 (2 ^ low) cs lower (number % 2 ^ low) shaped rest (mod-lt number (pow_pos low))))
 
+-- the information of the word that is such a sum is the number
 pub sum_information : (n k low number : ℕ) (cs upper lower : List ℕ) → IsShaped n k cs
     → are_words_each n k (2 ^ low) (2 ^ (k - low)) cs upper ≡ true → are_words_each n k 1 (2 ^ low) cs lower ≡ true
     → number / 2 ^ low < 2 ^ (k - low)
@@ -256,6 +263,7 @@ sum_information n k low number cs upper lower shaped high rest h =
     ∙ sum_front (number / 2 ^ low) (number % 2 ^ low) low small
     ∙ div-add-mod' number (2 ^ low))
 
+-- the upper part of a number that fits a width fits what of the width is above the lower part
 pub high_small : (k low number : ℕ) → low ≤ k → number < 2 ^ k → number / 2 ^ low < 2 ^ (k - low)
 high_small k low number h small =
     let whole : k - low + low ≡ k = omega arith in

@@ -103,6 +103,7 @@ module _ (m x y z : List Bool) (long : length m ≡ 36) (u : IsHamming17 x) (v :
         holds = ap short_message back ∙ message_is bits x y z m top middle low long first second third;
       }
 
+-- there are four fragments that carry a short link control, for any opcode and body
 pub short_lc_somehow : (slco body : ℕ) → (fragments : List (List Bool)) × IsShortLc slco body fragments
 short_lc_somehow slco body =
     let content : List Bool = bits_of 4 slco ++ bits_of 24 body in
@@ -239,6 +240,7 @@ narrow_fields bits long (suc (suc zero)) default inside = narrow_part bits 64 96
 narrow_fields bits long (suc (suc (suc zero))) default inside = narrow_part bits 96 128 refl (omega (arith, long))
 narrow_fields bits long (suc (suc (suc (suc i)))) default inside = absurd (omega arith)
 
+-- there are four fields of 32 bits that carry any nine octets
 pub embedded_somehow : (octets : List ℕ) → length octets ≡ 9 → All (λ octet. octet < 256) octets
     → (fields : List ℕ) × (length fields ≡ 4) × All (λ field. field < 2 ^ 32) fields × IsEmbedded octets fields
 unfolding fields_of table_of

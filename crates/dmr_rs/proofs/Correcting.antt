@@ -68,6 +68,7 @@ pub record IsSearched (octets : List ℕ) (place first second third : ℕ) : Typ
   pub third_fits : third < 256
   pub elsewhere : (i e : ℕ) → place ≤ i → i < 12 → e < 256 → IsErrorAt octets i e → ⊥
 
+-- before the search no place has been searched, and the three octets are the values at the three powers
 pub searched_none : (octets : List ℕ) (first second third : ℕ) → All (λ octet. octet < 256) octets → first ≡ at_power 1 octets →
     second ≡ at_power 2 octets → third ≡ at_power 3 octets → IsSearched octets 12 first second third
 searched_none octets first second third small p q r = record {
@@ -80,6 +81,7 @@ searched_none octets first second third small p q r = record {
   elsewhere = λ i e h k fits error. omega arith;
 }
 
+-- where the three octets aren't all equal, the place before holds no error, and the search goes on
 pub searched_more : (octets : List ℕ) (place first second third next_first next_second next_third : ℕ) → 0 < place → place ≤ 12 →
     IsSearched octets place first second third
     → (first ≡ second → second ≡ third → ⊥)

@@ -5,10 +5,12 @@ use Rattle.std.proofs.lemmas.Bool.{cases_eq, cases_lt, ne_eqb}
 use Rattle.dmr_rs.specs.Word.{IsRsWord, octet_distance}
 use Rattle.dmr_rs.proofs.Roots.{four_apart}
 
+-- a list differs from itself in no place
 pub no_distance : (x : List ℕ) → octet_distance x x ≡ 0
 no_distance [] = refl
 no_distance (a ∷ x) = rw (eq-eqb a a refl, no_distance x) refl
 
+-- a list in which one octet is replaced differs from the list in at most one place
 pub set_distance : (x : List ℕ) (i v : ℕ) → octet_distance (set x i v) x ≤ 1
 set_distance [] i v = omega arith
 set_distance (a ∷ x) zero v = rw (no_distance x) (elim (v == a) as (λ b. cond b 0 1 + 0 ≤ 1) [
@@ -69,6 +71,7 @@ triangle (a ∷ x) (b ∷ y) [] e f = absurd (omega arith)
 triangle (a ∷ x) (b ∷ y) (c ∷ z) e f =
     let here = place_triangle a b c in let rest = triangle x y z (omega arith) (omega arith) in omega arith
 
+-- two words that aren't equal differ in at least four places
 pub four_apart_or_equal : (word other : List ℕ) → length word ≡ 12 → length other ≡ 12 → IsRsWord word → IsRsWord other → word ≢
     other → 4 ≤ octet_distance word other
 four_apart_or_equal word other long also is too differ =
@@ -77,6 +80,7 @@ four_apart_or_equal word other long also is too differ =
       | inr far ↦ omega arith
     ]
 
+-- two words that each differ from the same octets in at most one place are equal
 pub one_within : (octets word other : List ℕ) → length octets ≡ 12 → length word ≡ 12 → length other ≡ 12 → IsRsWord word →
     IsRsWord other → octet_distance word octets ≤ 1 → octet_distance other octets ≤ 1 → word ≡ other
 one_within octets word other count long also is too near close =

@@ -16,20 +16,24 @@ abbrev pub shifted : ℕ → ℕ → ℕ
 shifted zero a = a
 shifted (suc n) a = times_x (shifted n a)
 
+-- multiplying by x any number of times is a linear map
 pub shifted_linear : (n : ℕ) → IsLinear (shifted n)
 shifted_linear zero = record { sum = λ a b. refl; shift = λ a. refl }
 shifted_linear (suc n) = composed times_x (shifted n) x_linear (shifted_linear n)
 
+-- an octet times a power of x is an octet
 pub shifted-lt : (n a : ℕ) → a < 256 → shifted n a < 256
 shifted-lt zero a h = h
 shifted-lt (suc n) a h = times_x-lt (shifted n a)
 
+-- multiplying by x as often as two counts say together is doing it for one count after the other
 pub shifted-add : (n m a : ℕ) → shifted (n + m) a ≡ shifted n (shifted m a)
 shifted-add zero m a = let e : 0 + m ≡ m = omega arith in ap (λ k. shifted k a) e
 shifted-add (suc n) m a =
     let e : suc n + m ≡ suc (n + m) = omega arith in
     ap (λ k. shifted k a) e ∙ ap times_x (shifted-add n m a)
 
+-- a product by a number and by a power of x is the same in either order
 pub shifted-times : (n k a : ℕ) → times k (shifted n a) ≡ shifted n (times k a)
 shifted-times zero k a = refl
 shifted-times (suc n) k a = let L = times_linear k in L.shift (shifted n a) ∙ ap times_x (shifted-times n k a)
@@ -40,6 +44,7 @@ octet_none a h e =
     eqb-true a 0
     (sym (agree_below_at (λ i. eqb (times_x i) 0) (λ i. eqb i 0) 256 a refl h) ∙ eq-eqb (times_x a) 0 e)
 
+-- an octet whose product with a power of x is zero is zero itself
 pub shifted_none : (n a : ℕ) → a < 256 → shifted n a ≡ 0 → a ≡ 0
 shifted_none zero a h e = e
 shifted_none (suc n) a h e = shifted_none n a h (octet_none (shifted n a) (shifted-lt n a h) e)
@@ -71,10 +76,12 @@ abbrev pub horner : (ℕ → ℕ) → ℕ → List ℕ → ℕ
 horner f s [] = s
 horner f s (c ∷ w) = horner f (bit_xor (f s) c) w
 
+-- the value of two lists in a row goes on from the value of the first
 pub horner-append : (f : ℕ → ℕ) (s : ℕ) (v w : List ℕ) → horner f s (v ++ w) ≡ horner f (horner f s v) w
 horner-append f s [] w = refl
 horner-append f s (c ∷ v) w = horner-append f (bit_xor (f s) c) v w
 
+-- the value of the sum of two lists is the sum of their values, where the map is linear
 pub horner-xor : (f : ℕ → ℕ) → IsLinear f → (s t : ℕ) (v w : List ℕ) → length v ≡ length w → horner f (bit_xor s t) (add_front
     octet_field v w) ≡ bit_xor (horner f s v) (horner f t w)
 horner-xor f F s t [] [] e = refl
@@ -84,6 +91,7 @@ horner-xor f F s t (c ∷ v) (d ∷ w) e =
     ap (λ n. horner f n (add_front octet_field v w)) (ap (λ n. bit_xor n (bit_xor c d)) (F.sum s t) ∙ xor_swap (f s) (f t) c d)
     ∙ horner-xor f F (bit_xor (f s) c) (bit_xor (f t) d) v w (omega arith)
 
+-- zeros have the value zero, where the map is linear
 pub horner-none : (f : ℕ → ℕ) → IsLinear f → (n : ℕ) → horner f 0 (replicate n 0) ≡ 0
 horner-none f F zero = refl
 horner-none f F (suc n) = ap (λ s. horner f s (replicate n 0)) (xor_zero_r (f 0) ∙ none_is f F) ∙ horner-none f F n
@@ -110,6 +118,7 @@ horner-start m s (c ∷ w) =
     ∙ ap (bit_xor (lift (shifted m s))) (sym below)
     ∙ ap (λ n. bit_xor n (at_power m (c ∷ w))) (sym (shifted-add (length w * m) m s) ∙ ap (λ k. shifted k s) e)
 
+-- the value at a power is the first octet, brought to its place, added to the value of the others
 pub at_power-cons : (m c : ℕ) (w : List ℕ) → at_power m (c ∷ w) ≡ bit_xor (shifted (length w * m) c) (at_power m w)
 at_power-cons m c w =
     ap (λ n. horner (shifted m) n w) (ap (λ n. bit_xor n c) (none_is (shifted m) (shifted_linear m)) ∙ xor_zero_l c) ∙ horner-start

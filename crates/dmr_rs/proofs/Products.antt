@@ -119,6 +119,7 @@ without_first m long (k ∷ q, e) =
           0x1D))) (sym none) ∙ rest,
     )
 
+-- what is computed as a product of two octets is their product in the field
 pub product_is : (a b : ℕ) → IsProduct a b (times a b)
 unfolding IsProduct times
 product_is a b =
@@ -143,6 +144,7 @@ remainder_is p c long eight multiple =
     only_completion binary_laws (bits_of 8 0x1D) (xor_bits (take 7 p) (replicate 7 false)) (xor_bits (drop 7 p) c) (omega arith)
     (length-xor_bits (drop 7 p) c (back ∙ sym eight) ∙ back) (multiple.0, multiple.1 ∙ split)
 
+-- there is only one octet that is the product of two octets in the field
 pub only_product : (a b c d : ℕ) → c < 256 → d < 256 → IsProduct a b c → IsProduct a b d → c ≡ d
 unfolding IsProduct
 only_product a b c d small little is too =

@@ -21,22 +21,27 @@ use Rattle.dmr_rs.proofs.Powers.{horner-xor, horner-none, at_power, wrong, all_z
 pub check : List ℕ → List ℕ
 check message = register_after octet_field generator_low (0 ∷ 0 ∷ 0 ∷ []) message
 
+-- octets with their check behind them are a word
 pub word_is_completed : (message : List ℕ) → All (λ octet. octet < 256) message → IsRsWord (message ++ check message)
 unfolding check
 word_is_completed message small = completes octet_laws generator_low message (omega arith) small
 
+-- three octets that complete a message to a word are the message's check
 pub only_check : (message parity : List ℕ) → length parity ≡ 3 → IsRsWord (message ++ parity) → parity ≡ check message
 unfolding check
 only_check message parity long word = only_completion octet_laws generator_low message parity (omega arith) long word
 
+-- a check has three octets
 pub length-check : (message : List ℕ) → length (check message) ≡ 3
 unfolding check
 length-check message = length-run octet_field generator_low (0 ∷ 0 ∷ 0 ∷ []) message
 
+-- the check is what an empty register holds after the message
 pub check_is : (message : List ℕ) → register_after octet_field generator_low (0 ∷ 0 ∷ 0 ∷ []) message ≡ check message
 unfolding check
 check_is message = refl
 
+-- a list of three octets has those that are read at its three places, and no others
 pub three_octets : (octets : List ℕ) (a b c p q r : ℕ) → length octets ≡ 3 → a ≡ get_or octets 0 p → b ≡ get_or octets 1 q → c ≡
     get_or octets 2 r → octets ≡ a ∷ b ∷ c ∷ []
 three_octets [] a b c p q r e x y z = absurd (omega arith)
@@ -52,6 +57,7 @@ All-check message =
     All-run octet_laws generator_low (0 ∷ 0 ∷ 0 ∷ []) message
     (All-cons Small 0 (0 ∷ 0 ∷ []) (lit< tt) (All-cons Small 0 (0 ∷ []) (lit< tt) (All-cons Small 0 [] (lit< tt) (All-nil Small))))
 
+-- the coefficients of a word are octets
 pub words_are_octets : (word : List ℕ) → IsRsWord word → All (λ octet. octet < 256) word
 words_are_octets word is =
     All-same (λ octet. octet < 256) word (product octet_field is.0 (1 ∷ generator_low)) (sym is.1)
@@ -288,6 +294,7 @@ zero_at_powers word long is k p q =
     ∙ ap (λ l. bit_xor (at_power k (check (take 9 word))) (at_power k l)) parity
     ∙ xor_self (at_power k (check (take 9 word)))
 
+-- twelve octets whose values at the first three powers of x are zero are a word
 pub word_from_powers : (word : List ℕ) → length word ≡ 12 → All (λ octet. octet < 256) word → ((k : ℕ) → 0 < k → k ≤ 3 → at_power k
     word ≡ 0) → IsRsWord word
 word_from_powers word long small zeros =
@@ -311,12 +318,14 @@ word_from_powers word long small zeros =
     let made = word_is_completed message front_small in
     (made.0, made.1 ∙ ap (λ l. message ++ l) parity ∙ whole)
 
+-- twelve octets are a word exactly where they are zero at the three roots of the generator
 pub roots : (octets : List ℕ) → length octets ≡ 12 → All (λ octet. octet < 256) octets → IsRsWord octets ↔ IsZeroAtRoots octets
 roots octets long small = (
   λ word k p q. value_at_power k octets p q ∙ zero_at_powers octets long word k p q,
   λ zeros. word_from_powers octets long small (λ k p q. sym (value_at_power k octets p q) ∙ zeros k p q),
 )
 
+-- two words that differ in fewer than four places are equal
 pub four_apart : (word other : List ℕ) → length word ≡ 12 → length other ≡ 12 → IsRsWord word → IsRsWord other → octet_distance
     word other < 4 → word ≡ other
 four_apart word other long also is too near =
