@@ -63,6 +63,7 @@ partial_fit h s fit own =
     (λ other. record { llid = own.llid; packet = own.packet; attempt = tt })))
     (λ other. record { llid = own.llid; packet = own.packet; attempt = tt })
 
+-- all that a receiver keeps fits its fields still after a header that does
 pub header_fit : (h : Header) (s : ReceiverState) → IsFitHeader h → IsFitReceiver s → IsFitReceiver (receiver.header_comes h s)
 header_fit (header.Unconfirmed h) s fit own =
     by_cond IsFitReceiver (receiver.is_for s.llid h.group h.destination h.blocks && eqb (h.fragment % 8) 0) _ _
@@ -154,5 +155,6 @@ placed_at_fit None block s kinds own = record { state = own; out = nothing_fits 
 placed_at_fit (Some a) block s kinds own =
     placed_in_fit a (receiver.heard a.kind a.left block s.packet) s kinds (heard_fit a.kind a.left block s.packet own.packet) own
 
+-- what a receiver keeps and gives after a place of a try fits its fields
 pub placed_fit : (block : Option Block) (s : ReceiverState) → IsFitReceiver s → PlacedFits (receiver.placed block s)
 placed_fit block s own = placed_at_fit s.attempt block s own.attempt own

@@ -153,6 +153,7 @@ taken_number : (held : Option Held) (packet : Packet) (route : Route) (s : Sende
 taken_number None packet route s calls n c e = rw c (next_is route.destination calls s.table e)
 taken_number (Some h) packet route s calls n c e = absurd (cc)
 
+-- a confirmed packet that is taken in hand gets the next number of its destination
 pub numbers : SequenceNumbers
 numbers llid events packet route none confirmed =
     let s : SenderState = sender_after llid events in

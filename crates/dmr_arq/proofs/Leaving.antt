@@ -90,6 +90,7 @@ offered_at_fit : (o : Option Held) (packet : Packet) (route : Route) (s : Sender
 offered_at_fit None packet route s fit to own = takes_fit packet route s fit to own
 offered_at_fit (Some h) packet route s fit to own = own
 
+-- all that a sender keeps fits its fields still after the offer of a packet whose route does
 pub offered_fit : (packet : Packet) (route : Route) (s : SenderState) → IsOfferedPacket packet → IsFitRoute route → IsFitSender s →
     IsFitSender (sender.offered packet route s)
 offered_fit packet route s fit to own = offered_at_fit s.held packet route s fit to own
@@ -106,6 +107,7 @@ ticked_in_fit : (o : Option Held) (s : SenderState) → IfSome o IsFitHeld → I
 ticked_in_fit None s fit own = own
 ticked_in_fit (Some h) s fit own = ticked_at_fit h.phase h s fit own
 
+-- the same, where a frame is over
 pub ticked_fit : (s : SenderState) → IsFitSender s → IsFitSender (sender.ticked s)
 ticked_fit s own = ticked_in_fit s.held s own.held own
 
@@ -129,6 +131,7 @@ answered_in_fit : (o : Option Held) (a : Answer) (s : SenderState) → IfSome o 
 answered_in_fit None a s fit own = own
 answered_in_fit (Some h) a s fit own = answered_at_fit h.phase a h s fit own
 
+-- the same, after an answer
 pub answered_fit : (a : Answer) (s : SenderState) → IsFitSender s → IsFitSender (sender.answered a s)
 answered_fit a s own = answered_in_fit s.held a s own.held own
 
@@ -141,6 +144,7 @@ cut_in_fit : (o : Option Held) (s : SenderState) → IfSome o IsFitHeld → IsFi
 cut_in_fit None s fit own = own
 cut_in_fit (Some h) s fit own = cut_at_fit h.phase h s fit own
 
+-- the same, after a frame in which a begun try could not go on
 pub cut_fit : (s : SenderState) → IsFitSender s → IsFitSender (sender.cut_of s)
 cut_fit s own = cut_in_fit s.held s own.held own
 
@@ -165,6 +169,7 @@ sent_in_fit : (o : Option Held) (s : SenderState) → IfSome o IsFitHeld → IsF
 sent_in_fit None s fit own = own
 sent_in_fit (Some h) s fit own = sent_at_fit h.phase h s fit own
 
+-- the same, where a burst has gone out
 pub sent_fit : (s : SenderState) → IsFitSender s → IsFitSender (sender.sent s)
 sent_fit s own = sent_in_fit s.held s own.held own
 
@@ -256,5 +261,6 @@ burst_in_fits : (o : Option Held) (llid : ℕ) → llid < 2 ^ 24 → IfSome o Is
 burst_in_fits None llid own fit = tt
 burst_in_fits (Some h) llid own fit = burst_at_fits h.phase llid h own fit
 
+-- a sender's burst fits its fields, where it has one to send
 pub burst_fits : (s : SenderState) → IsFitSender s → IfSome (sender.burst_of s) IsFitGateBurst
 burst_fits s own = burst_in_fits s.held s.llid own.llid own.held

@@ -159,6 +159,7 @@ held_is_owed limit llid (b ∷ earlier) =
     ∙ ap (λ held. cond whole None held) (readied_due limit llid (length earlier) b l (carries limit llid earlier).fits)
     ∙ ap (λ held. cond whole None (option_or b.due held)) (held_is_owed limit llid earlier)
 
+-- in a frame in which a try begins, no answer is due, and none is still owed
 pub answers_go_first : AnswersGoFirst
 answers_go_first limit llid b earlier begins =
     let l : Ledger = (attempts limit llid earlier).ledger in

@@ -230,6 +230,7 @@ told_stage llid a (Awaits ended) h l owing =
     (record l { hand = Some (record h { stage = Awaits ended }) }) owing)
     (λ other. refl)
 
+-- the attempt that was begun stays the same where an answer is heard, or none
 pub told_begun : (llid : ℕ) (answer : Option HeardAnswer) (hand : Option Hand) (l : Ledger) (owing : Option Owing) →
     begun_by (told llid answer (record l { hand = hand })).hand owing ≡ begun_by hand owing
 told_begun llid None hand l owing = refl
@@ -245,6 +246,7 @@ waits_stage f (Awaits ended) h l owing =
     (λ late. due_begun (sender.all_blocks h.packet) (record h { stage = Awaits ended })
     (record l { hand = Some (record h { stage = Awaits ended }) }) owing)
 
+-- the same, where the wait for an answer may be over
 pub waits_begun : (f : ℕ) (hand : Option Hand) (l : Ledger) (owing : Option Owing) →
     begun_by (waits f (record l { hand = hand })).hand owing ≡ begun_by hand owing
 waits_begun f None l owing = refl
@@ -272,6 +274,7 @@ owes_hand : (due : Due) (hand : Option Hand) (owing : Option Owing) →
 owes_hand due None owing = rests_owed due None owing tt
 owes_hand due (Some h) owing = owes_stage due h.stage h owing
 
+-- an answer that is due replaces one that was begun, and leaves a begun try as it was
 pub owes_begun : (due : Option Due) (l : Ledger) →
     begun_by (ledger_owes due l).hand (ledger_owes due l).owing ≡ replaced_by due (begun_by l.hand l.owing)
 owes_begun None l = refl
@@ -284,6 +287,7 @@ head_begun : (queue : List Queued) (l : Ledger) →
 head_begun [] l = refl
 head_begun (q ∷ later) l = refl
 
+-- the attempt that was begun stays the same where a packet may be taken in hand
 pub taken_begun : (hand : Option Hand) (l : Ledger) →
     begun_by (ledger_takes (record l { hand = hand })).hand (ledger_takes (record l { hand = hand })).owing ≡ begun_by hand l.owing
 taken_begun None l = head_begun l.queue l

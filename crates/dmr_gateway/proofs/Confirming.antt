@@ -64,6 +64,7 @@ pub record Start (rate : Rate) (octets : List ℕ) (serial check crc : ℕ) : Ty
 block_fits : (rate : Rate) (octets : List ℕ) → length octets ≡ burst_octets rate → length (drop 2 octets) ≡ payload rate true
 block_fits rate octets whole = length-drop 2 octets ∙ ap (λ n. n - 2) whole
 
+-- octets with a right check are read as one confirmed block, of its serial and all octets behind the first two
 pub confirmed_told : (rate : Rate) (octets : List ℕ) (serial check crc : ℕ) → Start rate octets serial check crc →
     bit_xor (block_mask rate) check ≡ crc →
     Tells (Some (record { serial = Some serial; octets = drop 2 octets })) (IsConfirmedOf rate octets)
@@ -87,6 +88,7 @@ not_confirmed : (rate : Rate) (serial : Option ℕ) (octets : List ℕ) (content
 not_confirmed rate None octets content none is counted = counted
 not_confirmed rate (Some serial) octets content none is counted = none serial octets is.content_is
 
+-- octets with a wrong check are read as no confirmed block
 pub unconfirmed_told : (rate : Rate) (octets : List ℕ) (serial check crc : ℕ) → Start rate octets serial check crc →
     (bit_xor (block_mask rate) check ≡ crc → ⊥) → Tells None (IsConfirmedOf rate octets)
 unconfirmed_told rate octets serial check crc s wrong =
@@ -144,6 +146,7 @@ nothing_read rate total information e shows =
 
 -- 4. What a block is heard as.
 
+-- A burst that reads as a block is heard as that block, and as a confirmed one where its octets are one's.
 pub block_heard : (rate : Rate) (information : List Bool) (h : Heard) (block : Block) → h.header ≡ None → h.unconfirmed
     ≡ Some block →
     IsReadBlock rate None information block →
@@ -157,6 +160,7 @@ block_heard rate information h block head unconfirmed is only tells =
     (block_reading rate information (Some block) h.confirmed (told (IsReadBlock rate None information) block is only)
     (confirmed_reading rate information block h.confirmed is tells))
 
+-- a burst in which there is a fault instead of a block is heard as nothing
 pub nothing_heard : (rate : Rate) (information : List Bool) (e : BlockFault) → ShowsBlockFault rate None e information →
     IsReadByGateway (kind_of_rate rate) information nothing_said
 nothing_heard rate information e shows =

@@ -139,6 +139,7 @@ nothing_heard : (burst : Option Burst) → ((h : Heard) → h ≡ nothing_said �
     → (h : Heard) × IsWholeHearing burst h
 nothing_heard burst is = (nothing_said, record { is = is nothing_said refl; header = tt })
 
+-- any burst, or silence, is heard as something, with a header that fits its fields or none
 pub hears_somehow : (burst : Option Burst) → (h : Heard) × IsWholeHearing burst h
 hears_somehow None = nothing_heard None (λ h e. e)
 hears_somehow (Some (Data colour kind information)) =
@@ -315,6 +316,7 @@ pub record IsWholeSending (sending : SlotBurst) : Type 0 where
   pub fit : IsFitBurst sending
   pub small : HasSmallBlock sending
 
+-- there is a burst for all that a slot sends and that fits its fields, and the burst fits too
 pub burst_somehow : (colour llid : ℕ) (sending : SlotBurst) → colour < 16 → llid < 2 ^ 24 → IsWholeSending sending
     → (b : Burst) × IsGatewayBurst colour llid sending b × IsWholeBurst b
 burst_somehow colour llid (burst.Answer due number) low own whole = answer_burst colour due number low whole.fit.0 whole.fit.1
@@ -407,6 +409,7 @@ pub record IsWholeQueued (q : Queued) : Type 0 where
   pub fit : IsFitQueued q
   pub small : HoldsOfBlocks (λ block. AreSmall block.octets) q.packet
 
+-- a datagram without a fault has a packet, which fits its fields
 pub queued_somehow : (llid : ℕ) (confirmed full : Bool) (count : ℕ) (octets : List ℕ)
     → offer_fault confirmed full count octets ≡ None → AreSmall octets
     → (q : Queued) × IsPacketFor llid confirmed full octets q × IsWholeQueued q

@@ -236,6 +236,7 @@ few_of_hand : (count : ℕ) (hand : Option Hand) → AreOfHand count hand → co
 few_of_hand count None are = omega (arith, are)
 few_of_hand count (Some h) are = let few = are.0 in let most = are.1 in omega arith
 
+-- no packet has a fifth try
 pub four_tries : HasFourTries
 four_tries limit llid frames =
     few_of_hand (tries_since_told limit llid frames) (attempts limit llid frames).ledger.hand (all_counted limit llid frames)

@@ -35,6 +35,7 @@ told_alike None (Some y) P u v = (u y).1 ((v y).0 refl)
 told_alike (Some x) None P u v = sym ((v x).1 ((u x).0 refl))
 told_alike (Some x) (Some y) P u v = sym ((v x).1 ((u x).0 refl))
 
+-- a data burst is read as one thing alone
 pub read_alike : (kind : ℕ) (information : List Bool) (a b : Heard) → IsReadByGateway kind information a
     → IsReadByGateway kind information b → a ≡ b
 read_alike kind information a b u v =
@@ -43,6 +44,7 @@ read_alike kind information a b u v =
     (told_alike a.unconfirmed b.unconfirmed _ u.unconfirmed v.unconfirmed)
     ∙ ap (λ x. record b { confirmed = x }) (told_alike a.confirmed b.confirmed _ u.confirmed v.confirmed)
 
+-- a burst is heard as one thing alone
 pub heard_alike : (burst : Option Burst) (a b : Heard) → IsHeardByGateway burst a → IsHeardByGateway burst b → a ≡ b
 heard_alike None a b u v = u ∙ sym v
 heard_alike (Some (Data colour kind information)) a b u v = read_alike kind information a b u v
@@ -92,6 +94,7 @@ burst_alike : (colour llid : ℕ) (sending : SlotBurst) (a b : Burst) → IsGate
 burst_alike colour llid (burst.Answer due number) a b u v = answer_alike colour due number a b u v
 burst_alike colour llid (burst.Try sending) a b u v = try_alike colour llid sending a b u v
 
+-- for what a slot sends there is one burst alone, or none
 pub sent_alike : (colour llid : ℕ) (sending : Option SlotBurst) (a b : Option Burst) → IsGatewayOut colour llid sending a
     → IsGatewayOut colour llid sending b → a ≡ b
 sent_alike colour llid None a b u v = u ∙ sym v
@@ -107,6 +110,7 @@ body_alike full confirmed route body a b u v =
     let way : a.route ≡ b.route = u.route_is ∙ sym v.route_is in
     ap (λ (x : Packet). record a { packet = x }) packet ∙ ap (λ (x : Route). record b { route = x }) way
 
+-- a datagram has one packet alone
 pub queued_alike : (llid : ℕ) (confirmed full : Bool) (octets : List ℕ) (a b : Queued) → IsPacketFor llid confirmed full octets a
     → IsPacketFor llid confirmed full octets b → a ≡ b
 queued_alike llid confirmed full octets a b u v = body_alike full confirmed _ _ a b u v

@@ -76,6 +76,7 @@ first_first first second before after t =
       };
     }
 
+-- Whichever slot comes first, the bursts are the same, and so is what the gateway remembers.
 pub in_either_order : InEitherOrder
 in_either_order first second before after =
     (second_first first second before after, first_first first second before after)

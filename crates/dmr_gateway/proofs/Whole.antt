@@ -192,6 +192,7 @@ next_in_whole false s own = record {
   burst = tt;
 }
 
+-- what a slot sends next is whole where what it keeps is, and so is what it keeps then
 pub next_whole : (free : Bool) (s : OutboxState) → IsWholeOutbox s → IsWholeNext (side.next_out free s)
 next_whole free s own = next_in_whole free (side.outbox_takes s) (takes_whole s.sender.held s own)
 
@@ -212,6 +213,7 @@ pub record IsWholeSide (s : SideState) : Type 0 where
   pub receiver : IsFitReceiver s.inbox.receiver
   pub outbox : IsWholeOutbox s.outbox
 
+-- what a new slot keeps is whole
 pub silent_whole : (llid limit : ℕ) → llid < 2 ^ 24 → IsWholeSide (side.silent_side llid limit)
 silent_whole llid limit own = record {
   receiver = record { llid = own; packet = tt; attempt = tt };
@@ -262,6 +264,7 @@ pub record IsWholeGate (g : Gate) : Type 0 where
   pub first : IsWholeSide g.first
   pub second : IsWholeSide g.second
 
+-- what a new gateway keeps is whole
 pub new_whole : (colour llid limit : ℕ) → colour < 16 → llid < 2 ^ 24 → IsWholeGate (new_gate colour llid limit)
 new_whole colour llid limit low own = record {
   colour = low;
@@ -296,6 +299,7 @@ offer_at None o g is own small =
           (side_queued_whole q (side_of o.slot g) fit (side_whole o.slot g own)) own,
     )
 
+-- a whole gateway takes or refuses a datagram that is offered, and stays whole
 pub offer_somehow : (o : Outgoing) (g : Gate) → IsWholeGate g → AreSmall o.octets
     → (result : Result (Unit {0}) GatewayFault) × (after : Gate) × IsWholeOffer o result g after
 offer_somehow o g own small =
@@ -316,6 +320,7 @@ pub record IsWholeAnswer (slot : ℕ) (repeated : Option Burst) (free : Bool) (b
   pub burst_whole : IfSome burst IsWholeBurst
   pub after_whole : IsWholeGate after
 
+-- a whole gateway that hears a slot's place and is asked for a burst has one or none, and stays whole
 pub asked_somehow : (slot : ℕ) (repeated : Option Burst) (free : Bool) (g : Gate) → IsWholeGate g
     → (burst : Option Burst) × (after : Gate) × IsWholeAnswer slot repeated free g burst after
 asked_somehow slot repeated free g own =
@@ -354,6 +359,7 @@ told_whole g own = record {
   second = side_told_whole g.second own.second;
 }
 
+-- a whole gateway stays whole without what it received
 pub emptied_whole : (g : Gate) → IsWholeGate g
     → IsWholeGate (record g {
       first = record g.first { status = None; packet = None };

@@ -121,6 +121,7 @@ carries_within limit llid b earlier a k s e =
       | inr stood ↦ (let w = k.within a stood.0 in let lt = w.0 in omega (arith, lt), let le = stood.1 in omega (arith, le))
     ]
 
+-- After any frames the ledger fits, and the attempt that was begun is the one that stands, where that isn't all out.
 pub carries : (limit llid : ℕ) (frames : List Brings) → Carries limit llid frames
 carries limit llid [] = record { fits = tt; kept = refl; within = λ a e. cc }
 carries limit llid (b ∷ earlier) =
@@ -367,6 +368,7 @@ newest limit llid (b ∷ earlier) a e =
           )
     ]
 
+-- Whatever frames bring, each attempt has its course in them, and a burst goes out of the newest alone.
 pub attempts_stand : AttemptsStand
 attempts_stand limit llid [] =
     record { courses = tt; newest = λ a e. cc; silent = λ e. refl; idle = λ free e. cc }

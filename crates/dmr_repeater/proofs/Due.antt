@@ -14,6 +14,7 @@ use Rattle.dmr_repeater.specs.Schedule.{ReadingProgress, unread, waiting, AreDue
 use Rattle.dmr_repeater.proofs.InTurn.{apart, given_in_turn, read_in_turn}
 use Rattle.dmr_repeater.proofs.Records.{Gives-same}
 
+-- the datagrams of records that are due in a frame are of that frame or an earlier one
 pub due_records : (frame : ℕ) (found : List Outgoing) (sendings : List Sending) → AllZip IsReadOutgoing found sendings
     → AreDue frame found → AllByRecursion (λ s. s.frame ≤ frame) sendings
 due_records frame [] [] u due = tt
@@ -55,6 +56,7 @@ one_ahead frame now back left (inr (none, end)) read met = (
   inr (refl, met end),
 )
 
+-- the records that were read up to a frame are all that are due in it, and perhaps one of a later frame
 pub reads_due : (frame : ℕ) (offers : List (List Outgoing)) (now : ReadingProgress) (o p left : KnownOctets)
     (u : AreOfferedInTurn 0 offers unread now p left) → length offers ≡ frame + 1 → IsPast frame now
     → (now.at_end ≡ true → IsAtEnd left) → ReadsRecords (read_in_turn 0 offers unread now p left u ++ []) [] o left

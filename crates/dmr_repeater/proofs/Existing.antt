@@ -25,6 +25,7 @@ slots_of_file : (sendings : List Sending) → AllByRecursion IsSending sendings 
 slots_of_file [] each = tt
 slots_of_file (s ∷ sendings) each = (each.0.slot, slots_of_file sendings each.1)
 
+-- of any frames and any datagrams there is a result
 pub frames_have_a_result : HasResultOfFrames
 frames_have_a_result s frames sendings old fit are slots small =
     let (repeated, counts, receipts, sent, is) = recording_is_sent s sendings frames fit small slots are in (
@@ -45,6 +46,7 @@ frames_have_a_result s frames sendings old fit are slots small =
       },
     )
 
+-- of every recording of well-formed transmissions and every list of datagrams there is a result
 pub what_is_meant_has_a_result : HasResult
 what_is_meant_has_a_result s old fit lead_1 lead_2 first second frames sendings well_1 well_2 recording outgoing small =
     let (repeated, counts, receipts, sent, is) = recording_is_sent s sendings frames fit small

@@ -15,6 +15,7 @@ use Rattle.dmr_repeater.specs.Files.{Files, KnownOctets}
 use Rattle.dmr_repeater.specs.Frames.{LeavesPastUplink, LeavesWithUplink, Moment, TearsOne, TearsPastUplink, TearsWithUplink}
 use Rattle.dmr_repeater.specs.Causes.{ByCause, is_of_its_stream}
 
+-- a fault that the head of a file shows is one that the uplink can have
 pub uplink_head : (magic : List ℕ) (e : RecordFault) (octets : List ℕ)
     → ShowsHeadFault magic e octets → is_of_its_stream (File Uplink e) ≡ true
 uplink_head magic Magic octets shown = refl
@@ -27,6 +28,7 @@ uplink_head magic TooLong octets shown = absurd shown
 uplink_head magic Read octets shown = refl
 uplink_head magic Write octets shown = absurd shown
 
+-- the same, of the outgoing file
 pub outgoing_head : (magic : List ℕ) (e : RecordFault) (octets : List ℕ)
     → ShowsHeadFault magic e octets → is_of_its_stream (File Outgoing e) ≡ true
 outgoing_head magic Magic octets shown = refl
@@ -39,6 +41,7 @@ outgoing_head magic TooLong octets shown = absurd shown
 outgoing_head magic Read octets shown = refl
 outgoing_head magic Write octets shown = absurd shown
 
+-- a fault that frames of the uplink show is one that the uplink can have
 pub uplink_frames : (limit before : ℕ) (e : RecordFault) (octets : List ℕ)
     → ShowsUplinkFault limit before e octets → is_of_its_stream (File Uplink e) ≡ true
 uplink_frames limit before Magic octets shown = refl
@@ -51,6 +54,7 @@ uplink_frames limit before TooLong octets shown = refl
 uplink_frames limit before Read octets shown = refl
 uplink_frames limit before Write octets shown = let (below, (slots, part, few, each, shows, is)) = shown in absurd shows
 
+-- a fault that records of the outgoing file show is one that it can have
 pub outgoing_records : (limit before last : ℕ) (e : RecordFault) (octets : List ℕ)
     → ShowsOutgoingFault limit before last e octets → is_of_its_stream (File Outgoing e) ≡ true
 outgoing_records limit before last Magic octets shown = refl
@@ -75,6 +79,7 @@ torn_with_uplink (File Outgoing fault) m uplink z ready frame a b c d u tears = 
 torn_with_uplink (File Downlink fault) m uplink z ready frame a b c d (write, u) tears = (write, tears Downlink u)
 torn_with_uplink (File Received fault) m uplink z ready frame a b c d (write, u) tears = (write, tears Received u)
 
+-- the same, past the end of the uplink
 pub torn_past_uplink : (e : RunFault) (m : Moment) (x y z : KnownOctets) (ready : State) (frame : UplinkSlots)
     (a b c d : KnownOctets) → ByCause ⊥ (λ _. ⊥) (λ _. ⊥) (λ output. TearsOne output ready frame a b c d) e
     → ((output : Stream) → TearsOne output ready frame a b c d → TearsPastUplink output m x y z)

@@ -36,6 +36,7 @@ rest_appended (Some held) (Some now) (Some all) early file known u v w = (
       ∙ sym (append_assoc held u.0 (u.1.0 ++ v.0)) ∙ ap (λ l. l ++ (u.1.0 ++ v.0)) (sym u.2),
 )
 
+-- where a run stops, what it wrote of what is meant is a front of what a whole run writes
 pub fronts_of_one_result : AreFrontsOfOneResult
 fronts_of_one_result s first second frames sendings count repeated counts old part whole u v =
     let fronts = front_of_the_downlink s first second frames sendings count (length (handed_frames frames)) u.sending v.sending

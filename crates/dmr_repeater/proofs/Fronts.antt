@@ -5,12 +5,15 @@ use Rattle.std.proofs.KnownBytes.{Appends-trans, Appends-nil}
 use Rattle.dmr_record.specs.Devices.{Tears}
 use Rattle.dmr_repeater.specs.Files.{FrontOf, KnownOctets}
 
+-- where all octets were written, a front of them was
 pub everything : (whole : List ℕ) (a b : KnownOctets) → Appends a b whole → FrontOf a b whole
 everything whole a b written = (whole, ([], sym (append-nil whole)), written)
 
+-- where nothing was written, a front of any octets was
 pub nothing : (whole : List ℕ) (a : KnownOctets) → FrontOf a a whole
 nothing whole a = ([], (whole, refl), Appends-nil a)
 
+-- where a write was torn, a front of its octets was written
 pub torn_front : (whole : List ℕ) (a b : KnownOctets) → Tears a b whole → FrontOf a b whole
 torn_front whole a b torn = (take torn.count whole, (drop torn.count whole, sym (take-append-drop torn.count whole)), torn.front)
 

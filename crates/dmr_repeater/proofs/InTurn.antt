@@ -32,6 +32,7 @@ pub record Apart {X Y : Type 0} (R : X → Y → Type 0) (xs ys : List X) (zs : 
   pub first : AllZip R xs front
   pub second : AllZip R ys rest
 
+-- a list that goes with two others, one behind the other, has a front that goes with the first and a rest with the second
 pub apart : {X Y : Type 0} (R : X → Y → Type 0) (xs ys : List X) (zs : List Y) → AllZip R (xs ++ ys) zs → Apart R xs ys zs
 apart R [] ys zs p = record { front = []; rest = zs; whole = refl; first = tt; second = p }
 apart R (x ∷ xs) ys [] p = absurd p
@@ -58,6 +59,7 @@ together R (x ∷ xs) ys (u ∷ us) vs p q = (p.0, together R xs ys us vs p.1 q)
 abbrev AreOf : ℕ → List Sending → Type 0
 AreOf frame ss = AllByRecursion (λ s. s.frame ≡ frame) ss
 
+-- records in the order of frames from one frame on are so from an earlier frame on too
 pub later : (f g : ℕ) (ss : List Sending) → g ≤ f → AreInFrameOrder f ss → AreInFrameOrder g ss
 later f g [] h p = tt
 later f g (s ∷ ss) h p = let first = p.0 in (omega (arith, first), p.1)
@@ -204,6 +206,7 @@ pub record ReadInTurn (f bound : ℕ) (offers : List (List Outgoing)) (p q : Rea
   pub due : GivesDue bound p q a b
   pub same : due.gives.sendings ≡ read_in_turn f offers p q a b u
 
+-- what is given frame after frame is due in the last of the frames, and is of the records that were read
 pub given_in_turn : (f bound : ℕ) (offers : List (List Outgoing)) (p q : ReadingProgress) (a b : KnownOctets)
     (u : AreOfferedInTurn f offers p q a b) → f + length offers ≤ bound + 1 → ReadInTurn f bound offers p q a b u
 unfolding Gives-same Gives-trans
@@ -238,6 +241,7 @@ slots_of_frame f [] each = tt
 slots_of_frame f (s ∷ ss) each =
     kept_slots (eqb s.frame f) s (filter (λ (x : Sending). eqb x.frame f) ss) each.0.slot (slots_of_frame f ss each.1)
 
+-- the datagrams of each frame are for slot 1 or slot 2
 pub slots_in_turn : (f count : ℕ) (ss : List Sending) → AllByRecursion IsSending ss
     → AllByRecursion AreForSlots (by_frame f count ss)
 slots_in_turn f zero ss each = tt
@@ -253,6 +257,7 @@ pub record ReadInAll (offers : List (List Outgoing)) (r : ReadingProgress) (part
     pub last : r.last ≡ last_frame 0 ss
     pub count : r.records ≡ length ss
 
+-- what was offered in turn, and what was read further, are records of the outgoing file
 pub read_in_all : (offers : List (List Outgoing)) (q r : ReadingProgress) (more : List Outgoing) (part : List ℕ)
     (o p b d : KnownOctets)
     → Consumes o p (head_octets outgoing_magic) → (u : AreOfferedInTurn 0 offers unread q p b) → (g : Gives q r more part b d)
@@ -283,6 +288,7 @@ read_in_all offers q r more part o p b d head u g =
 
 -- 5. A front of the file has all that its frames need.
 
+-- records of later frames change nothing in what the frames before them have
 pub by_frame_front : (f count : ℕ) (xs more : List Sending) → AreInFrameOrder (f + count) more
     → by_frame f count (xs ++ more) ≡ by_frame f count xs
 by_frame_front f zero xs more order = refl

@@ -270,6 +270,7 @@ uplink_fault s (Err (File Outgoing fault)) a z u = tt
 uplink_fault s (Err (File Downlink fault)) a z u = tt
 uplink_fault s (Err (File Received fault)) a z u = tt
 
+-- a run that ended with a fault of the outgoing file leaves what such a fault leaves
 pub outgoing_fault : (s : Settings) (result : Result Summary RunFault) (a z : Files) → Leaves s result a z
     → IfErr result (λ e. IfOutgoing e (λ fault. OutgoingFault s fault a z))
 outgoing_fault s (Ok summary) a z u = tt
@@ -279,6 +280,7 @@ outgoing_fault s (Err (File Outgoing fault)) a z u = u
 outgoing_fault s (Err (File Downlink fault)) a z u = tt
 outgoing_fault s (Err (File Received fault)) a z u = tt
 
+-- the same, of a write that failed
 pub write_fault : (s : Settings) (result : Result Summary RunFault) (a z : Files) → Leaves s result a z
     → IfErr result (λ e. IfOutput e (λ output. WriteFault s output a z))
 write_fault s (Ok summary) a z u = tt
@@ -288,6 +290,7 @@ write_fault s (Err (File Outgoing fault)) a z u = tt
 write_fault s (Err (File Downlink fault)) a z u = u.1
 write_fault s (Err (File Received fault)) a z u = u.1
 
+-- a run that found no room leaves all files as they were
 pub no_room : (s : Settings) (result : Result Summary RunFault) (a z : Files) → Leaves s result a z
     → IfErr result (λ e. IfRefused e (z ≡ a))
 no_room s (Ok summary) a z u = tt
@@ -297,22 +300,26 @@ no_room s (Err (File Outgoing fault)) a z u = tt
 no_room s (Err (File Downlink fault)) a z u = tt
 no_room s (Err (File Received fault)) a z u = tt
 
+-- a run that ended with a fault of a file names one that this file can have
 pub fault_of_its_file : (s : Settings) (result : Result Summary RunFault) (a z : Files) → Leaves s result a z
     → IfErr result (λ e. is_of_its_stream e ≡ true)
 fault_of_its_file s (Ok summary) a z u = tt
 fault_of_its_file s (Err e) a z u = of_its_file s e a z u
 
+-- where both inputs have files without a fault, a run ends early only where a device fails or there is no room
 pub no_needless_refusal : (s : Settings) (result : Result Summary RunFault) (a z : Files) → Leaves s result a z
     → IfErr result (λ e. (frames : List UplinkSlots) (sendings : List Sending) → HasUplink frames a.uplink
     → HasOutgoing sendings a.outgoing → is_failure e ≡ true)
 no_needless_refusal s (Ok summary) a z u = tt
 no_needless_refusal s (Err e) a z u = only_failures s e a z u
 
+-- however a run ended, what it leaves goes by the rules
 pub by_the_rules : (s : Settings) (result : Result Summary RunFault) (a z : Files) → Leaves s result a z
     → LeavesByTheRules s result a z
 by_the_rules s (Ok summary) a z u = u
 by_the_rules s (Err e) a z u = ends_early s e a z u
 
+-- however a run ended, what it leaves of a recording is what its transmissions mean, or a front of that
 pub as_meant : (s : Settings) (result : Result Summary RunFault) (a z : Files) → Leaves s result a z
     → ForWhatWasSent s.colour a (λ first second frames sendings. LeavesAsMeant s first second frames sendings result a z)
 as_meant s (Ok summary) a z u = λ lead_1 lead_2 first second frames sendings well_1 well_2 recording has.
@@ -332,6 +339,7 @@ pub whole_at_uplink_fault : (s : Settings) (fault : RecordFault) (a z : Files) �
 whole_at_uplink_fault s fault a z (inl u) = inl u.outgoing
 whole_at_uplink_fault s fault a z (inr u) = inr (u.sendings, u.records.reads)
 
+-- where a write failed, whole records of the outgoing file were read, or nothing of it
 pub whole_at_write_fault : (s : Settings) (output : Stream) (a z : Files) → WriteFault s output a z
     → ReadsWholeRecords a.outgoing z.outgoing
 whole_at_write_fault s output a z (inl u) =
@@ -348,6 +356,7 @@ whole_at_write_fault s output a z (inl u) =
     )
 whole_at_write_fault s output a z (inr u) = inr (u.sendings, u.outgoing.reads)
 
+-- the same, where no file was touched
 pub whole_where_untouched : (a z : Files) → z ≡ a → ReadsWholeRecords a.outgoing z.outgoing
 whole_where_untouched a z same =
     inl (subst (λ (f : Files). Consumes a.outgoing f.outgoing []) (sym same) (Consumes-nil a.outgoing))

@@ -25,6 +25,7 @@ second_slots_are ([] ∷ frames) each = absurd (omega (arith, each.0.0))
 second_slots_are ((a ∷ []) ∷ frames) each = absurd (omega (arith, each.0.0))
 second_slots_are ((a ∷ b ∷ rest) ∷ frames) each = (each.0.1.1.0, second_slots_are frames each.1)
 
+-- Well-formed transmissions that have a recording in common mean the same, and a gateway receives the same of them.
 pub one_meaning : HasOneMeaning
 one_meaning colour lead_a lead_b lead_c lead_d a b c d frames left well_a well_b well_c well_d u v = (
   same_meaning (meant (sent_list colour lead_a a) (slots_in 0 frames)) (meant (sent_list colour lead_c c) (slots_in 0 frames))

@@ -19,6 +19,7 @@ appended_alike (Some held) None other octets known u v = absurd u
 appended_alike (Some held) (Some now) None octets known u v = absurd v
 appended_alike (Some held) (Some now) (Some also) octets known u v = ap Some (u ∙ sym v)
 
+-- what is meant of what was sent in both slots is written in one way, octet for octet
 pub one_result : HasOneResult
 one_result s first second frames sendings repeated other_repeated counts other_counts old new other u v =
     let same = one_downlink_of_what_is_meant s first second frames (by_frame 0 (length (handed_frames frames)) sendings)
@@ -34,6 +35,7 @@ one_result s first second frames sendings repeated other_repeated counts other_c
           (subst (λ x. Appends old.received other.received (received_file x)) (sym same.1) v.records);
     }
 
+-- the same, of what the rules make of any frames and datagrams
 pub one_result_of_frames : HasOneResultOfFrames
 one_result_of_frames s frames sendings repeated other_repeated counts other_counts old new other u v =
     let same = one_downlink_by_the_rules s (by_frame 0 (length (handed_frames frames)) sendings) (handed_frames frames)

@@ -52,6 +52,7 @@ taken_whole s =
     ∙ ap (λ (n : ℕ). record s { memory = record s.memory { gate = received_taken g }; counts = record s.counts { received = n } })
     count
 
+-- where one record more of a frame is taken and written, those written are all but those that wait
 pub one_written : (number : ℕ) (before now next : State) (r : Received) (a b c : KnownOctets) → Written number before now a b
     → Some r ≡ next_received now.memory.gate → next ≡ taken_once now → Appends b c (receipt_octets (receipt_in number r))
     → Written number before next a c

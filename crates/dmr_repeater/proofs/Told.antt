@@ -26,6 +26,7 @@ pub order-right : (last : ℕ) (xs ys : List Sending) → AreInFrameOrder last (
 order-right last [] ys p = p
 order-right last (x ∷ xs) ys p = order-right x.frame xs ys p.1
 
+-- where a source has a list of records, no fault but that of a device is found in it
 pub no_fault_stops : (e : RecordFault) (xs others : List Sending) (part : List ℕ) (a c : KnownOctets) → ReadsRecords xs part a c
     → ShowsOutgoingFault record_limit (length xs) (last_frame 0 xs) e part → (is_of_end e ≡ true → IsAtEnd c)
     → HasOutgoing others a → is_device_fault e ≡ true

@@ -110,6 +110,7 @@ pub record IsWholeMemory (m : LineMemory) : Type 0 where
 silence_whole : IsWholeHeard silence
 silence_whole = heard_whole 0 None silence refl
 
+-- what a new line remembers is whole
 pub silent_whole : (colour call_hang : ℕ) → colour < 16 → IsWholeMemory (silent_line colour call_hang)
 silent_whole colour call_hang low = record {
   colour = low;
@@ -132,6 +133,7 @@ pub record IsWholePush (before : LineMemory) (slot : Option (List ℕ)) (out : S
   pub out_whole : IsWholeOut out
   pub after_whole : IsWholeMemory after
 
+-- whatever slot is pushed into a whole line, something whole comes out, and the line stays whole
 pub push_somehow : (m : LineMemory) (slot : Option (List ℕ)) → IsWholeMemory m → IsSilenceOr33Octets slot
     → (out : SlotOut) × (after : LineMemory) × IsWholePush m slot out after
 push_somehow m slot whole is =
@@ -168,6 +170,7 @@ pushed_somehow m (slot ∷ slots) whole are =
     let (outs, after, pushed) = pushed_somehow next slots push.after_whole are.1 in
     (out ∷ outs, after, (next, push.is, pushed))
 
+-- whatever slots are pushed into a new line, something comes out of it for each
 pub new_line : (colour call_hang : ℕ) (slots : List (Option (List ℕ))) → colour < 16 → AllByRecursion IsSilenceOr33Octets slots
     → (outs : List SlotOut) × (after : LineMemory) × ArePushed (silent_line colour call_hang) slots outs after
 new_line colour call_hang slots low are =
@@ -186,6 +189,7 @@ sent_somehow colour (Sent b) low whole = (Some b, refl, whole)
 sent_somehow colour Idle low whole = let (b, is, fine) = idle_somehow colour low in (Some b, (b, is, refl), fine)
 sent_somehow colour Silent low whole = (None, refl, tt)
 
+-- for all that the channel sends, if it is whole, there are bursts, which are whole
 pub sent_in_slots : (colour : ℕ) (slots : List ChannelOut) → colour < 16 → AllByRecursion IsWholeSent slots
     → (outs : List (Option Burst)) × AreSent colour slots outs × AllByRecursion (λ out. IfSome out IsWholeBurst) outs
 sent_in_slots colour [] low whole = ([], tt, tt)
@@ -217,6 +221,7 @@ activity_somehow (Some lc) =
     let (hash, is) = hash_somehow (activity_of lc.flco) (target_of lc) in
     (activity_of lc.flco, hash, record { is = (refl, is) })
 
+-- there is a message for the calls in both slots
 pub message_somehow : (first second : Option FullLc) → (slco : ℕ) × (body : ℕ) × IsMessage first second slco body
 message_somehow first second =
     let (a, h, one) = activity_somehow first in

@@ -20,6 +20,7 @@ silent_front : (front window : List Heard) → window ≡ front ++ replicate 6 s
 silent_front [] window p s = p
 silent_front (x ∷ front) window p s = absurd (omega arith)
 
+-- a window that ends in six silent places is all silence
 pub all_silent : (window : List Heard) → EndsSilent 6 window → window ≡ replicate 6 silence
 all_silent window e = silent_front e.front window e.places e.six
 
@@ -84,12 +85,14 @@ step_silent colour (InCall D call superframe) carried = refl
 step_silent colour (InCall E call superframe) carried = refl
 step_silent colour (InCall F call superframe) carried = refl
 
+-- after a step over six silent places a track is outside a call
 pub state_silent : (colour silent : ℕ) (state next : Track) (window : List Heard) (carried : Option FullLc)
     → EndsSilent silent window → next ≡ (step_of colour state window carried).1 → silent ≡ 6 → next ≡ Idle
 state_silent colour silent state next window carried e steps six =
     steps ∙ ap (λ places. (step_of colour state places carried).1) (all_silent window (subst (λ n. EndsSilent n window) six e))
     ∙ ap (λ (step : Said × Track). step.1) (step_silent colour state carried)
 
+-- a slot without a burst is heard as silence
 pub heard_silent : (colour : ℕ) (slot : Option (List ℕ)) (heard : Heard) → Hears colour slot heard → slot ≡ None → heard ≡ silence
 heard_silent colour slot heard hears none = subst (λ slot. Hears colour slot heard) none hears
 
@@ -116,6 +119,7 @@ push_of_silence colour call_hang lc = record {
   remembers = refl;
 }
 
+-- Where all is silent and no call holds the slot, the push of a silent slot gives nothing and changes nothing.
 pub push_silent : (colour call_hang silent left : ℕ) (window : List Heard) (state : Track) (lc : Option FullLc)
     (slot : Option (List ℕ)) → is_some slot ≡ false → EndsSilent silent window → silent ≡ 6 → (silent ≡ 6 → state ≡ Idle)
     → left ≡ 0 → Stays colour call_hang window state left lc slot

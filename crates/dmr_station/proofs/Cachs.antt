@@ -8,11 +8,13 @@ use Rattle.dmr_bits.specs.Bits.{bits_of_octets}
 use Rattle.dmr_burst.specs.Cach.{IsCach}
 use Rattle.dmr_station.specs.Sent.{AreCachs, FitOctets, fragment_lcss}
 
+-- where each of four CACHs is of octets, all four are
 pub four_octets : (a b c d : List ℕ) → FitOctets a → FitOctets b → FitOctets c → FitOctets d → All FitOctets (a ∷ b ∷ c ∷ d ∷ [])
 four_octets a b c d h i j k =
     All-cons FitOctets a (b ∷ c ∷ d ∷ []) h
     (All-cons FitOctets b (c ∷ d ∷ []) i (All-cons FitOctets c (d ∷ []) j (All-cons FitOctets d [] k (All-nil FitOctets))))
 
+-- the fragment of a CACH in one of four places is the same whatever stands for a missing one
 pub with_fragment : (busy odd : Bool) (lcss : ℕ) (fragments : List (List Bool)) (place : ℕ) (other : List Bool) (cach : List Bool)
     → place < 4 → length fragments ≡ 4 → IsCach busy odd lcss (slice_index_or fragments place other) cach
     → IsCach busy odd lcss (slice_index_or fragments place []) cach

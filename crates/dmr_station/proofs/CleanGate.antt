@@ -102,6 +102,7 @@ clean_gate colour llid (Some sending) out u = subst (IsCleanGate colour) (sym u.
 abbrev AreCleanGivens : ℕ → List Given → Type 0
 AreCleanGivens colour givens = AllByRecursion (λ g. IsCleanGate colour g.burst) givens
 
+-- whatever happens in a slot, the gateway has clean data for it or nothing
 pub clean_givens : (s : Settings) (slot : ℕ) (back : List Happening) (offers : List (List Sending)) (outs : List SlotOut)
     (givens : List Given) → AreGiven s slot back offers outs givens → AreCleanGivens s.colour givens
 clean_givens s slot back [] [] [] u = tt
@@ -112,17 +113,20 @@ clean_givens s slot back (o ∷ offers) (out ∷ outs) [] u = absurd u
 clean_givens s slot back (o ∷ offers) (out ∷ outs) (g ∷ givens) u =
     (clean_gate s.colour s.llid _ g.burst u.2.burst, clean_givens s slot (u.0 ∷ back) offers outs givens u.3)
 
+-- in each frame what the gateway has is for two slots
 pub gate_pairs : (first second : List Given) → ArePairs (gates_of first second)
 gate_pairs [] second = tt
 gate_pairs (a ∷ first) [] = tt
 gate_pairs (a ∷ first) (b ∷ second) = (refl, gate_pairs first second)
 
+-- what the gateway has for slot 1 is clean still where it is put beside that for slot 2
 pub first_gates : (colour : ℕ) (first second : List Given) → AreCleanGivens colour first
     → AllByRecursion (IsCleanGate colour) (firsts (gates_of first second))
 first_gates colour [] second u = tt
 first_gates colour (a ∷ first) [] u = tt
 first_gates colour (a ∷ first) (b ∷ second) u = (u.0, first_gates colour first second u.1)
 
+-- the same, of what it has for slot 2
 pub second_gates : (colour : ℕ) (first second : List Given) → AreCleanGivens colour second
     → AllByRecursion (IsCleanGate colour) (seconds (gates_of first second))
 second_gates colour [] second u = tt

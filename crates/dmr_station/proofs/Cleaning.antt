@@ -52,6 +52,7 @@ encoded_slots place [] (s ∷ more) u = absurd u
 encoded_slots place (slot ∷ slots) [] u = absurd u
 encoded_slots place (slot ∷ slots) (s ∷ more) u = (encoded_slot place slot s u.0, encoded_slots (place + 1) slots more u.1)
 
+-- what is sent for slots of clean bursts may be transmitted
 pub sent_bursts_are_clean : (colour place : ℕ) (slots : List (Option DownlinkBurst)) (sent : List (Option (List ℕ × List ℕ)))
     → AreCleanSlots colour (bursts_in slots)
     → AreSentAs place slots sent → IsCleanDownlink colour sent
@@ -121,6 +122,7 @@ burst_in_marked : (m : Message) (out : SlotOut) (burst : Option Burst) → burst
 burst_in_marked m out None = refl
 burst_in_marked m out (Some burst) = refl
 
+-- in a frame of two slots what is sent is for two slots
 pub two_sent : (colour : ℕ) (on_air : Bool) (a b : SlotOut) (g h : Option Burst) (sent : List (Option Burst))
     → AreSent colour (frame_of on_air (claims_of (a ∷ b ∷ []) (g ∷ h ∷ []))) sent → length sent ≡ 2
 two_sent colour on_air a b g h [] u = absurd u

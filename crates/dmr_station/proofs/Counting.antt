@@ -81,6 +81,7 @@ outcomes_of_both outcome a b first second rest e =
 
 -- 3. All of them.
 
+-- counts that are the same number by number are the same
 pub same_counts : (a b : Counts) → a.received ≡ b.received → a.delivered ≡ b.delivered → a.sent ≡ b.sent → a.given_up ≡ b.given_up
     → a.refused ≡ b.refused → a ≡ b
 same_counts a b p q r s t =
@@ -90,6 +91,7 @@ same_counts a b p q r s t =
     ∙ ap (λ n. record a { received = b.received; delivered = b.delivered; sent = b.sent; given_up = n }) s
     ∙ ap (λ n. record b { refused = n }) t
 
+-- what frames count is what both slots give in them
 pub counted_of_both : (first second : List Given) → length first ≡ length second
     → all_counted (givens_of first second) ≡ counts_of first second
 counted_of_both [] [] e = refl

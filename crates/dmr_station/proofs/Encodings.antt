@@ -42,6 +42,7 @@ one_slot place (Some d) (Some a) (Some b) u v =
     (octets_from_bits a.1 b.1 u.burst_octets v.burst_octets
     (same.one_encoding d.burst Bs (bits_of_octets a.1) (bits_of_octets b.1) u.encodes v.encodes))
 
+-- what slots send has one encoding alone, from a place of the downlink on
 pub one_encoding : (place : ℕ) (slots : List (Option DownlinkBurst)) (a b : List (Option (List ℕ × List ℕ)))
     → AreSentAs place slots a → AreSentAs place slots b → a ≡ b
 one_encoding place [] [] [] u v = refl

@@ -196,6 +196,7 @@ abbrev pub offer_count : List (List Outgoing) → ℕ
 offer_count [] = 0
 offer_count (offered ∷ offers) = length offered + offer_count offers
 
+-- a station counts all datagrams that it is offered
 pub all_offered : (before : State) (offers : List (List Outgoing)) (frames : List (List (Option (List ℕ))))
     (records : List (List (Option (List ℕ × List ℕ)))) (received : List (List Received)) (after : State)
     → AreExchanged before offers frames records received after → after.offered ≡ before.offered + offer_count offers
@@ -212,6 +213,7 @@ all_offered before (o ∷ offers) (f ∷ frames) (r ∷ records) (g ∷ received
     let more = all_offered (all_received_taken u.1) offers frames records received after u.5 in
     omega arith
 
+-- whatever frames a new station takes, and whatever it is offered, it gives what the rules make of them
 pub sends_by_the_rules : SendsByTheRules
 sends_by_the_rules s read offers frames records received after pairs slots u =
     let all = together (fresh s) read frames records received after u in

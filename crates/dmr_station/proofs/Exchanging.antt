@@ -222,6 +222,7 @@ channel_after m f x asked a one two e g =
     ∙ ap (λ (l : List (Option Burst)). after_frame m.channel (claims_of (a.first ∷ a.second ∷ []) l))
     (ap (λ (o : Option Burst). o ∷ a.second_gate ∷ []) e ∙ ap (λ (o : Option Burst). one ∷ o ∷ []) g)
 
+-- From where a gateway stands, frames come to what the lines, the gateway and the channel give in both slots.
 pub exchanged : (s : Settings) (back_1 back_2 : List Happening) (m : StationMemory) (oss : List (List Outgoing))
     (offers : List (List Sending)) (frames : List (List (Option (List ℕ)))) (sending : List (List (Option DownlinkBurst)))
     (givens : List FrameGiven) (after : StationMemory) → ArePassed m oss frames sending givens after

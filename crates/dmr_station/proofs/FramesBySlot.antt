@@ -65,6 +65,7 @@ pushed_line : (s : Settings) (slots : List (Option (List ℕ))) (outs : List Slo
 pushed_line s slots outs after pushed =
     record { after = after; pushed = pushed; looks_back = front_of_any_line s.colour s.call_hang slots outs after pushed }
 
+-- what frames come to from the start on is what the rules make of them
 pub makes : (s : Settings) (oss : List (List Outgoing)) (offers : List (List Sending)) (frames : List (List (Option (List ℕ))))
     (sending : List (List (Option DownlinkBurst))) (givens : List FrameGiven) (after : StationMemory)
     → ArePassed (start s) oss frames sending givens after → AllZip AreReadFrom oss offers → AllByRecursion AreForSlots offers
@@ -173,6 +174,7 @@ sends_what_is_meant s lead_1 lead_2 first second frames well_1 well_2 recording 
   downlink = made.downlink;
 }
 
+-- what the rules make of a front of a recording is a front of what its transmissions mean
 pub sends_front_of_what_is_meant : SendsFrontOfWhatIsMeant
 sends_front_of_what_is_meant s lead_1 lead_2 first second frames well_1 well_2 recording front rest offers sending receipts
     counts split made = record {
@@ -210,6 +212,7 @@ one_sent_list colour (f ∷ fs) (a ∷ as') (b ∷ bs) u v =
     let tail = one_sent_list colour fs as' bs u.1 v.1 in
     cc
 
+-- one thing alone goes out for what both lines and the gateway give
 pub one_downlink : (s : Settings) (first second : List SlotOut) (gates : List (List (Option Burst)))
     (a b : List (List (Option DownlinkBurst))) → IsDownlinkOf s first second gates a → IsDownlinkOf s first second gates b → a ≡ b
 one_downlink s first second gates a b u v =

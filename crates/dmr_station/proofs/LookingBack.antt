@@ -35,6 +35,7 @@ before last back outs even =
     let odd : length (last ∷ back) % 2 ≡ 1 = omega (arith, even) in
     ap (λ (n : ℕ). slice_index_or (outs ∷ last ∷ back) n outs) odd
 
+-- the messages that frames announce one after another are those that a look back finds
 pub looks_back : (kept : Option Message) (back frames : List (List SlotOut)) (messages : List Message) → Keeps kept back
     → Announces kept frames messages → AreAnnounced back frames messages
 looks_back kept back [] [] k u = tt
@@ -72,6 +73,7 @@ one_message outs m n u v =
     n.slco n.body u v in
     same_fields m n same.0 same.1
 
+-- there is one message alone for each frame
 pub one_announced : (back frames : List (List SlotOut)) (a b : List Message) → AreAnnounced back frames a
     → AreAnnounced back frames b → a ≡ b
 one_announced back [] [] [] u v = refl

@@ -8,6 +8,7 @@ use Rattle.dmr_station.specs.StationRules.{StationMemory}
 use Rattle.dmr_station.specs.Station.{State, IsOffered, state_of}
 use Rattle.dmr_station.specs.declared.station.Counts.{Counts}
 
+-- A station goes by what the gateway makes of an offer where it counts it, and counts it again where it is refused.
 pub one_offer : (before : State) (m next : StationMemory) (c : Counts) (o : Outgoing) (result : Result (Unit {0}) GatewayFault)
     (refused : ℕ)
     → state_of m c ≡ before → IsOffer (fault_of o) o result m.gate next.gate → next ≡ record m { gate = next.gate }

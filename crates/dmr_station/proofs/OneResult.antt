@@ -55,6 +55,7 @@ given_alike s slot frames offered a b u v =
     ∙ ap (λ x. record a { burst = b.burst; received = b.received; outcome = x }) (u.outcome ∙ sym v.outcome)
     ∙ ap (λ x. record b { refused = x }) (u.refused ∙ sym v.refused)
 
+-- a slot of the gateway gives one thing alone in each frame
 pub givens_alike : (s : Settings) (slot : ℕ) (back : List Happening) (offers : List (List Sending)) (outs : List SlotOut)
     (xs ys : List Given) → AreGiven s slot back offers outs xs → AreGiven s slot back offers outs ys → xs ≡ ys
 givens_alike s slot back [] [] [] [] u v = refl
@@ -91,6 +92,7 @@ one_gateway s offers first second gates gates' receipts receipts' counts counts'
     let counts'_are = v.counts_are in
     (cc, cc, cc)
 
+-- for what is meant one thing alone goes out, and one thing alone is received and counted
 pub one_downlink_of_what_is_meant : (s : Settings) (first second : List Cell) (frames : List (List (Option (List ℕ))))
     (offers : List (List Sending)) (sending sending' : List (List (Option DownlinkBurst))) (receipts receipts' : List Receipt)
     (counts counts' : Counts) → IsDownlinkOfWhatIsMeant s first second frames offers sending receipts counts

@@ -75,6 +75,7 @@ one_burst (Voice emb f w) (VoiceSync x) bits u v = absurd (no_emb true bits v.0 
 one_burst (Voice emb f w) (Voice other g x) bits u v = same_voice emb other f g w x (sym u.2 ∙ v.2) (sym u.3 ∙ v.3) (sym u.4
     ∙ v.4)
 
+-- what is sent in a slot is the encoding of one burst alone, or of silence
 pub one_reading : (a b : Option Burst) (sent : Option (List ℕ × List ℕ)) → IsEncodedAs a sent → IsEncodedAs b sent → a ≡ b
 one_reading None None sent u v = refl
 one_reading None (Some b) None u v = absurd v

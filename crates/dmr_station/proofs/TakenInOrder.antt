@@ -40,12 +40,15 @@ step_at g (Some x) (Some y) (Some z) (Some w) = record { received = refl; taken 
 step : (g : Gate) → Step g
 step g = step_at g g.first.status g.first.packet g.second.status g.second.packet
 
+-- what waits to be taken is the next record, where there is one, and then what waits behind it
 pub received_step : (g : Gate) → received_of g ≡ option_to_list (next_received g) ++ received_of (after_received g)
 received_step g = (step g).received
 
+-- taking one record and then all others is taking all
 pub taken_step : (g : Gate) → received_taken (after_received g) ≡ received_taken g
 taken_step g = (step g).taken
 
+-- at most four records wait to be taken
 pub few_received : (g : Gate) → length (received_of g) ≤ 4
 few_received g = (step g).few
 
@@ -58,6 +61,7 @@ nothing_at g None None (Some z) d e = cc
 nothing_at g None (Some y) c d e = cc
 nothing_at g (Some x) b c d e = cc
 
+-- where there is no next record, none waits, and the gateway is as once all are taken
 pub nothing_waits : (g : Gate) → next_received g ≡ None → (received_of g ≡ []) × (received_taken g ≡ g)
 nothing_waits g e = nothing_at g g.first.status g.first.packet g.second.status g.second.packet e
 

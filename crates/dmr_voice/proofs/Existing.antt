@@ -141,6 +141,7 @@ decide_whole colour (InCall place call superframe) here ahead carried p q r =
     (place_whole place call superframe false 0 (replicate 216 false) carried p.0 p.1 r (lit< tt)
     (length-replicate {A = Bool} 216 false))))
 
+-- what the rules say of whole places is whole, and so is what a track remembers then
 pub step_whole : (colour : ℕ) (state : Track) (window : List Heard) (carried : Option FullLc) → IsWholeTrack state
     → All IsWholeHeard window → IsWholeLc carried → IsWholeStep (step_of colour state window carried)
 step_whole colour state [] carried p q r = (tt, tt)
@@ -192,6 +193,7 @@ pub record IsWholeBurst (b : Burst) : Type 0 where
   pub fit : IsBurst b
   pub long : HasWholeLists b
 
+-- for all that is repeated and is whole there is a burst, which is whole
 pub burst_somehow : (colour : ℕ) (content : Content) → colour < 16 → IsWholeContent content
     → (b : Burst) × IsBurstWith colour content b × IsWholeBurst b
 burst_somehow colour (Data kind information) low whole =

@@ -17,6 +17,7 @@ of_fields : (p p' r r' : Bool) (o o' f f' : ℕ) (b b' : List ℕ) → p ≡ p' 
     (record { protect = p'; reserved = r'; flco = o'; fid = f'; body = b' })
 of_fields p p' r r' o o' f f' b b' h i j k l = cc
 
+-- two link controls whose fields are found equal are the same
 pub same_lc : (a b : FullLc)
     → (beq a.protect b.protect && (beq a.reserved b.reserved && (nat_eq a.flco b.flco && (nat_eq a.fid b.fid
     && pointwise nat_eq a.body b.body)))) ≡ true → a ≡ b
