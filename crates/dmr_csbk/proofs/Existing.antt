@@ -21,6 +21,7 @@ length-csbk_bits c fit =
       fit.count,
     )
 
+-- any block whose fields fit has 96 bits, with the check that seals them
 pub csbk_somehow : (c : Csbk) → FitsCsbk c → (message : List Bool) × IsCsbk c message
 csbk_somehow c fit =
     let (message, is) = message_somehow mask.Csbk (csbk_bits c) (length-csbk_bits c fit) in

@@ -59,6 +59,7 @@ eighty (header.Confirmed c) = refl
 eighty (header.ShortData s) = refl
 eighty (header.Status s) = refl
 
+-- any header whose numbers fit their bits has a written form
 pub header_somehow : (h : Header) → Fits (layout h) → (message : List Bool) × IsWrittenForm h message
 header_somehow h fit =
     let (message, is) = message_somehow mask.Header (written (layout h)) (length-written (layout h) ∙ eighty h) in
@@ -385,6 +386,7 @@ sent_somehow : (rate : Rate) (content : List Bool) → length content ≡ 8 * bu
 sent_somehow Half content long = written_somehow content long
 sent_somehow Full content long = (take 96 content ++ (replicate 4 false ++ drop 96 content), refl)
 
+-- any block that fits its rate, with octets below 256, has bits that are sent for it
 pub block_somehow : (rate : Rate) (block : Block) → FitsBlock rate block.serial block.octets
     → All (λ octet. octet < 256) block.octets → (bits : List Bool) × IsWrittenBlock rate block bits
 block_somehow rate block fit small =
@@ -409,6 +411,7 @@ sent_length Full content bits long sent =
       length-drop 96 content,
     )
 
+-- and so are the bits of any written block
 pub length-sent : (rate : Rate) (block : Block) (bits : List Bool) → IsWrittenBlock rate block bits → length bits ≡ 196
 length-sent rate block bits w =
     sent_length rate w.content bits (length_content rate block.serial block.octets w.content w.is.content_is w.is.fit) w.sent
@@ -564,6 +567,7 @@ half_block total bits None decoded =
     inr (λ block read. let bad : None ≡ Some read.content = one_decoded bits None (Some read.content) decoded read.holds in cc)
 half_block total bits (Some content) decoded = block_in Half total bits content decoded
 
+-- any bits are read as some block, or as none
 pub read_block_or_not : (rate : Rate) (total : Option ℕ) (bits : List Bool)
     → ((block : Block) × IsReadBlock rate total bits block) ⊎ ((block : Block) → IsReadBlock rate total bits block → ⊥)
 read_block_or_not Half total bits = let (result, decoded) = decoded_somehow bits in half_block total bits result decoded
@@ -628,6 +632,7 @@ pub record IsSentForBody (body : List ℕ) (rate : Rate) (confirmed : Bool) (pac
   pub confirmed_is : packet.confirmed ≡ confirmed
   pub is : IsWrittenPacket body packet
 
+-- for any body that 127 blocks hold with its check there is a packet that is sent
 pub packet_somehow : (body : List ℕ) (rate : Rate) (confirmed : Bool) → length body + 4 ≤ 127 * payload rate confirmed
     → (packet : Packet) × IsSentForBody body rate confirmed packet
 unfolding cut
@@ -665,6 +670,7 @@ packet_somehow body rate confirmed short =
       },
     )
 
+-- that packet has the rate that was asked for, is confirmed where that was asked for, and is the body's written packet
 pub written_packet : (body : List ℕ) (rate : Rate) (confirmed : Bool) → length body + 4 ≤ 127 * payload rate confirmed
     → (packet : Packet) × (packet.rate ≡ rate) × (packet.confirmed ≡ confirmed) × IsWrittenPacket body packet
 written_packet body rate confirmed short =

@@ -47,6 +47,7 @@ data_burst_fit colour bits (Some data_burst) within = (
   lc_fit (payload_of data_burst.kind) _ data_burst.information data_burst.link_control within.reads,
 )
 
+-- a data burst that is heard fits: its data type has four bits, and the opcode of its link control six
 pub heard_fit : (colour : ℕ) (slot : Option (List ℕ)) (heard : Heard) → Hears colour slot heard → IsFitHeard heard
 heard_fit colour None heard silent = subst IsFitHeard (sym silent) tt
 heard_fit colour (Some octets) heard is = data_burst_fit colour _ heard.data_burst is.1.data_burst_within

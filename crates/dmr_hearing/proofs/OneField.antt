@@ -38,6 +38,7 @@ use Rattle.dmr_link.proofs.SealedForms.{same_lc}
 same_sync : (a b : Sync) → Some a ≡ Some b → a ≡ b
 same_sync a b e = cc
 
+-- 264 bits don't have both syncs of a mobile station, that of voice and that of data
 pub one_sync : (bits : List Bool) (u v : Bool) → length bits ≡ 264 → HasSync (record { side = Ms; voice = u }) bits
     → HasSync (record { side = Ms; voice = v }) bits → u ≡ v
 one_sync bits u v long p q =
@@ -51,6 +52,7 @@ pub length-parts : (bits : List Bool) (a b c d : ℕ) → a ≤ b → b ≤ leng
 length-parts bits a b c d h k l m =
     omega (arith, length-append (part bits a b) (part bits c d), length-part bits a b h k, length-part bits c d l m)
 
+-- 264 bits have one slot type at most
 pub one_slot_type : (bits : List Bool) (a b : SlotType) → length bits ≡ 264 → HasSlotType a bits → HasSlotType b bits → a ≡ b
 one_slot_type bits a b long (x, golay, near, says) (y, golay', near', says') =
     let twenty : length (slot_type_field bits) ≡ 20 =
@@ -59,6 +61,7 @@ one_slot_type bits a b long (x, golay, near, says) (y, golay', near', says') =
     (least_by_words 20 8 golay20_columns 8 golay20_shaped refl) (lit< tt) twenty golay golay' near near' in
     sym says ∙ ap slot_type_of same ∙ says'
 
+-- 264 bits have one EMB at most
 pub one_emb : (bits : List Bool) (a b : Emb) → length bits ≡ 264 → HasEmb a bits → HasEmb b bits → a ≡ b
 one_emb bits a b long (x, residue, near, says) (y, residue', near', says') =
     let sixteen : length (emb_field bits) ≡ 16 =
@@ -124,6 +127,7 @@ information_is : (received m n i j : List Bool) → IsWritten m i → IsWritten 
     → i ≡ j
 information_is received m n i j e f p q = one_encoded m n i j (message_is received m n i j e f p q) e f
 
+-- damaged information was sent in one way alone, with one link control or none
 pub one_payload : (payload : Payload) (received i j : List Bool) (k l : Option FullLc) → Sends payload i k → Sends payload j l
     → IsDamagedPayload payload i received → IsDamagedPayload payload j received → (i ≡ j) × (k ≡ l)
 one_payload Word received i j k l (m, e, none) (n, f, none') p q = (information_is received m n i j e f p q, none ∙ sym none')

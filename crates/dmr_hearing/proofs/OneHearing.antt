@@ -35,6 +35,7 @@ one_burst colour bits a b p q =
     (one_answer (λ (emb : Emb). HasEmb emb bits) a.emb b.emb p.emb_within p.emb_only q.emb_within q.emb_only)
     (p.embedded ∙ sym q.embedded) (p.vocoder ∙ sym q.vocoder)
 
+-- whatever two things a slot is heard as, they are the same
 pub one_hearing : (colour : ℕ) (slot : Option (List ℕ)) (a b : Heard) → Hears colour slot a → Hears colour slot b → a ≡ b
 one_hearing colour None a b p q = p ∙ sym q
 one_hearing colour (Some octets) a b p q = one_burst colour (bits_of_octets octets) a b p.1 q.1

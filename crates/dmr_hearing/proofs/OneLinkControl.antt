@@ -43,6 +43,7 @@ one_spelled (Err fault) (Some a) b p q = absurd p
 one_spelled (Err fault) None (Some b) p q = absurd q
 one_spelled (Err fault) None None p q = refl
 
+-- the same link control is read from the same fields each time, or none is
 pub one_read : (fields : List ℕ) (a b : Option FullLc) → IsReadFrom fields a → IsReadFrom fields b → a ≡ b
 one_read fields a b p q =
     one_spelled q.0 a b (subst (λ extracted. IsSpelled extracted a) (one_extracted fields p.0 q.0 p.1 q.1) p.2) q.2

@@ -35,6 +35,7 @@ data_burst_by k k' i i' l l' e f g = cc
 one_message : (received a b : List Bool) → IsDecoded received (Some a) → IsDecoded received (Some b) → a ≡ b
 one_message received a b p q = same_some a b (one_decoded received (Some a) (Some b) p q)
 
+-- the same message has the same written form each time
 pub one_encoded : (m n a b : List Bool) → m ≡ n → IsWritten m a → IsWritten n b → a ≡ b
 one_encoded m n a b e p q = one_written n a b (subst (λ (x : List Bool). IsWritten x a) e p) q
 
@@ -64,6 +65,7 @@ word_read kind received message data_burst decoded made = record {
 not_some : (a : List Bool) → None ≡ Some a → ⊥
 not_some a e = cc
 
+-- where the product code gives no bits, no data burst is read of a word
 pub word_unread : (kind : ℕ) (received : List Bool) → IsDecoded received None → IsReading Word kind received None
 word_unread kind received decoded = record {
   within = tt;
@@ -82,6 +84,7 @@ sealed_read mask kind received message data_burst decoded sealed made = record {
       made_is kind message other information lc data_burst made (one_message received message other decoded decoded') encoded plain;
 }
 
+-- the same, where the bits are to be sealed under a mask
 pub sealed_unread : (mask : Mask) (kind : ℕ) (received : List Bool) → IsDecoded received None
     → IsReading (Sealed mask) kind received None
 sealed_unread mask kind received decoded = record {
@@ -90,6 +93,7 @@ sealed_unread mask kind received decoded = record {
       absurd (not_some other (one_decoded received None (Some other) decoded decoded'));
 }
 
+-- where the product code gives bits that aren't sealed under the mask, no data burst is read
 pub unsealed_unread : (mask : Mask) (kind : ℕ) (received message : List Bool) → IsDecoded received (Some message)
     → (IsSealed mask (octets_of 12 message) → ⊥)
     → IsReading (Sealed mask) kind received None
@@ -126,6 +130,7 @@ link_control_read lc_use kind received message information lc read only is encod
 not_ok : (fault : LcFault) (lc : FullLc) → ◌≡◌ {A = Result FullLc LcFault} (Err fault) (Ok lc) → ⊥
 not_ok fault lc e = cc
 
+-- where no link control is read for its use, no data burst is
 pub link_control_unread : (lc_use : LcUse) (kind : ℕ) (received : List Bool) (fault : LcFault)
     → ((other : FullLc) → IsReadLc lc_use received other → ◌≡◌ {A = Result FullLc LcFault} (Err fault) (Ok other))
     → IsReading (LinkControl lc_use) kind received None

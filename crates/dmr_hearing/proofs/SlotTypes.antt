@@ -9,6 +9,7 @@ use Rattle.dmr_hearing.specs.declared.heard.DataBurst.{DataBurst}
 same_slot_type : (a b : SlotType) → Some a ≡ Some b → a ≡ b
 same_slot_type a b e = cc
 
+-- where no slot type is found, the bits have none
 pub no_slot_type : (wanted : SlotType) (bits : List Bool) → ((s : SlotType) → HasSlotType s bits → None ≡ Some s)
     → HasSlotType wanted bits → ⊥
 no_slot_type wanted bits only has = let bad = only wanted has in cc

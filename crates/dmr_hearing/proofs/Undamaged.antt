@@ -50,12 +50,14 @@ data_recorded colour kind information lc octets sent encoding =
       };
     }
 
+-- the octets that a mobile station sends for a voice sync are a recording of one
 pub voice_sync_recorded : (colour : ℕ) (vocoder : List Bool) (octets : List ℕ)
     → IsEncoding (burst.VoiceSync vocoder) Ms (bits_of_octets octets)
     → IsRecordedAs colour VoiceSync (Some octets)
 voice_sync_recorded colour vocoder octets encoding =
     let back = read_back (burst.VoiceSync vocoder) Ms (bits_of_octets octets) encoding in record { sent = tt; damaged = back.0 }
 
+-- the same of a voice burst with the repeater's colour code
 pub voice_recorded : (colour : ℕ) (emb : Emb) (embedded : ℕ) (vocoder : List Bool) (octets : List ℕ)
     → IsSentSlot colour (Voice emb embedded)
     → IsEncoding (burst.Voice emb embedded vocoder) Ms (bits_of_octets octets)
@@ -64,6 +66,7 @@ voice_recorded colour emb embedded vocoder octets sent encoding =
     let back = read_back (burst.Voice emb embedded vocoder) Ms (bits_of_octets octets) encoding in
     record { sent = sent; damaged = (back.0, back.1) }
 
+-- the same of a data burst with another colour code
 pub foreign_data_recorded : (colour other kind : ℕ) (information : List Bool) (octets : List ℕ) → other ≢ colour
     → IsEncoding (burst.Data other kind information) Ms (bits_of_octets octets) → IsRecordedAs colour ForeignData (Some octets)
 foreign_data_recorded colour other kind information octets apart encoding =
@@ -72,6 +75,7 @@ foreign_data_recorded colour other kind information octets apart encoding =
       damaged = record { sync = back.0; other = other; kind = kind; foreign = apart; slot_type = back.1 };
     }
 
+-- the same of a voice burst with another one, its centre more than three bits from both syncs of a mobile station
 pub foreign_voice_recorded : (colour : ℕ) (emb : Emb) (embedded : ℕ) (vocoder : List Bool) (octets : List ℕ)
     → IsSentSlot colour (ForeignVoice emb) → HasNoMobileSync (bits_of_octets octets)
     → IsEncoding (burst.Voice emb embedded vocoder) Ms (bits_of_octets octets)

@@ -61,6 +61,7 @@ data_whole colour bits (Some data_burst) long within fit =
     received within.reads in
     (fit.0, whole.0, whole.1)
 
+-- a slot is heard with 216 vocoder bits, an embedded field of 32 bits, and a whole data burst or none
 pub heard_whole : (colour : ℕ) (slot : Option (List ℕ)) (heard : Heard) → Hears colour slot heard → IsWholeHeard heard
 heard_whole colour None heard silent =
     subst IsWholeHeard (sym silent)
@@ -85,6 +86,7 @@ spelled_whole (Ok octets) None p = tt
 spelled_whole (Err fault) (Some lc) p = absurd p
 spelled_whole (Err fault) None p = tt
 
+-- the fields of a link control that is read from four embedded fields fit their bits
 pub read_from_whole : (fields : List ℕ) (lc : Option FullLc) → IsReadFrom fields lc → IsWholeLc lc
 read_from_whole fields lc read = spelled_whole read.0 lc read.2
 

@@ -95,6 +95,7 @@ udp_header-right total source destination source_port destination_port payload o
     )
     (AreWords-words payload octets)
 
+-- what is built of contents that fit a datagram is a datagram
 pub IsDatagram-built : (source destination : ℕ) (c : Contents) → FitsDatagram c → IsDatagram (datagram_between source destination c)
 unfolding datagram_between
 IsDatagram-built source destination c fits =

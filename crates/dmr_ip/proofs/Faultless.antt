@@ -26,6 +26,7 @@ or_from : (n m k : ℕ) (test : Bool) → test ≡ (n == 0) → (n ≢ 0 → m �
 or_from n m k true e h = refl
 or_from n m k false e h = eq-eqb m k (h (eqb-false n 0 (sym e)))
 
+-- octets in which no fault is found are a datagram
 pub IsDatagram-from_none : (octets : List ℕ) → datagram_fault octets ≡ None → IsDatagram octets
 unfolding datagram_fault
 IsDatagram-from_none octets e =
@@ -56,6 +57,7 @@ IsDatagram-from_none octets e =
       udp_sum = λ h. eqb-true _ _ (or_parts _ _ w.0 h);
     }
 
+-- no fault is found in a datagram
 pub none-from_IsDatagram : (octets : List ℕ) → IsDatagram octets → datagram_fault octets ≡ None
 unfolding datagram_fault
 none-from_IsDatagram octets d =

@@ -43,6 +43,7 @@ not_from : (test : Bool) → test ≡ true → not test ≡ false
 not_from true e = refl
 not_from false e = cc
 
+-- octets with no fault as a form have known identifiers and both ports, and aren't too long for a datagram
 pub IsForm-from_none : (octets : List ℕ) (group : Bool) → form_fault octets group ≡ None → IsForm octets group
 unfolding form_fault
 IsForm-from_none octets group e =
@@ -229,6 +230,7 @@ Spells-unless octets source destination group datagram None h e p =
     rw d at (Spells-read octets source destination group h (IsForm-from_none octets group e))
 Spells-unless octets source destination group datagram (Some found) h e p = cc
 
+-- octets spell the datagram that they are read as
 pub Spells-from_expand : (octets : List ℕ) (source destination : ℕ) (group : Bool) (datagram : List ℕ) → AreOctets octets → expand
     octets source destination group ≡ Ok datagram → SpellsDatagram octets source destination group datagram
 Spells-from_expand octets source destination group datagram h e = Spells-unless octets source destination group datagram

@@ -20,6 +20,7 @@ Identifies-by_tests port false false e h = inl refl
 Identifies-identifier_of : (port : ℕ) → Identifies (identifier_of port) port
 Identifies-identifier_of port = Identifies-by_tests port (port == 5016) (port == 5017) refl refl
 
+-- the form that is written for a datagram spells it
 pub Spells-from_Writes : (octets : List ℕ) (source destination : ℕ) (group : Bool) (datagram : List ℕ) → Writes octets source
     destination group datagram → SpellsDatagram octets source destination group datagram
 Spells-from_Writes octets source destination group datagram h = record {
@@ -39,6 +40,7 @@ shown_contents-Writes : (octets : List ℕ) (source destination : ℕ) (group : 
 shown_contents-Writes octets source destination group datagram h =
     ap shown_contents h.stands_for ∙ shown_contents-built (radio_address source) (address group destination) h.contents h.fits
 
+-- a datagram has one written form
 pub one_written : (one other : List ℕ) (source destination : ℕ) (group : Bool) (datagram : List ℕ) → Writes one source destination
     group datagram → Writes other source destination group datagram → one ≡ other
 one_written one other source destination group datagram h k =
@@ -67,11 +69,13 @@ compress-by_test octets source destination group datagram true h d e p = record 
 }
 compress-by_test octets source destination group datagram false h d e p = cc
 
+-- the octets that a datagram is compressed to are its written form
 pub Writes-from_compress : (octets : List ℕ) (source destination : ℕ) (group : Bool) (datagram : List ℕ) → AreOctets datagram →
     IsDatagram datagram → compress datagram source destination group ≡ Some octets → Writes octets source destination group datagram
 Writes-from_compress octets source destination group datagram h d p =
     compress-by_test octets source destination group datagram _ h d refl p
 
+-- a datagram that has a written form is compressed to it
 pub compress-Writes : (octets : List ℕ) (source destination : ℕ) (group : Bool) (datagram : List ℕ) → Writes octets source
     destination group datagram → compress datagram source destination group ≡ Some octets
 compress-Writes octets source destination group datagram h =

@@ -22,6 +22,7 @@ use Rattle.dmr_link.specs.declared.sealing.LcUse.{LcUse}
 use Rattle.dmr_link.proofs.Masks.{length-masked, small-masked}
 use Rattle.dmr_link.proofs.SealedForms.{sealed_word, same_lc, one_sealed_near}
 
+-- the fields of a link control that fits have 72 bits
 pub length-full_lc_bits : (lc : FullLc) → FitsFullLc lc → length (full_lc_bits lc) ≡ 72
 length-full_lc_bits lc fit =
     let tail : List Bool = bits_of 8 lc.fid ++ bits_of_octets lc.body in
@@ -35,6 +36,7 @@ length-full_lc_bits lc fit =
       fit.count,
     )
 
+-- any link control whose fields fit has a sealed form for each use
 pub lc_somehow : (lc_use : LcUse) (lc : FullLc) → FitsFullLc lc → (message : List Bool) × IsLc lc_use lc message
 lc_somehow lc_use lc fit =
     let octets : List ℕ = octets_of 9 (full_lc_bits lc) in

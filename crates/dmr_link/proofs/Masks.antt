@@ -40,6 +40,7 @@ mask_of-lt Terminator = omega arith
 length_front : (octets : List ℕ) → length octets ≡ 12 → length (take 9 octets) ≡ 9
 length_front octets long = length-take-le 9 octets (omega arith)
 
+-- twelve octets are twelve under the mask
 pub length-masked : (lc_use : LcUse) (octets : List ℕ) → length octets ≡ 12 → length (masked lc_use octets) ≡ 12
 length-masked lc_use octets long =
     length-append (take 9 octets) (map (veiled lc_use) (drop 9 octets))
@@ -53,6 +54,7 @@ map_twice : (lc_use : LcUse) (octets : List ℕ) → map (veiled lc_use) (map (v
 map_twice lc_use [] = refl
 map_twice lc_use (o ∷ octets) = let head = twice o (parity_mask lc_use) in let tail = map_twice lc_use octets in cc
 
+-- the mask taken twice gives twelve octets back
 pub masked_twice : (lc_use : LcUse) (octets : List ℕ) → length octets ≡ 12 → masked lc_use (masked lc_use octets) ≡ octets
 masked_twice lc_use octets long =
     ap (λ l. l ++ map (veiled lc_use) (drop 9 (masked lc_use octets))) (take-masked lc_use octets long)
@@ -61,6 +63,7 @@ masked_twice lc_use octets long =
     ∙ ap (λ l. take 9 octets ++ l) (map_twice lc_use (drop 9 octets))
     ∙ take-append-drop 9 octets
 
+-- octets below 256 stay so under the mask
 pub small-masked : (lc_use : LcUse) (octets : List ℕ) → All (λ octet. octet < 256) octets → All (λ octet. octet < 256) (masked
     lc_use octets)
 small-masked lc_use octets small =
@@ -76,6 +79,7 @@ get_or-masked_front lc_use octets k long h =
     get_or_append_left (take 9 octets) (map (veiled lc_use) (drop 9 octets)) 0 k (omega (arith, length_front octets long))
     ∙ get_or-take 9 octets k 0 h
 
+-- the mask is added to each of the last three octets
 pub get_or-masked_back : (lc_use : LcUse) (octets : List ℕ) (k : ℕ) → length octets ≡ 12 → 9 ≤ k → k < 12 → get_or (masked lc_use
     octets) k 0 ≡ bit_xor (get_or octets k 0) (parity_mask lc_use)
 get_or-masked_back lc_use octets k long from to =

@@ -105,6 +105,7 @@ pub record IsOneMore (recording : Recording) (frames : Frames) (slots : List Rec
   pub marks : shown_marks frames 0 (slots ++ slot ∷ []) lines_more
       ≡ shown_marks frames 0 slots lines ++ shown frames turn.slots mark
 
+-- with a slot more, that slot is read behind the others, and its mark stands behind theirs
 pub one_more : (recording : Recording) (frames : Frames) (slots : List RecordedSlot) (lines : List BurstLine) (turn : ListingTurn)
     (slot : RecordedSlot) (mark : Mark) (end : ListingTurn) (a b c : Option (List ℕ))
     → IsRead recording slots lines [] turn a b → IsSlotOf recording slot
@@ -138,6 +139,7 @@ few_shown : (is_shown : Bool) (place : Place) (mark : Mark)
 few_shown true place mark = omega arith
 few_shown false place mark = omega arith
 
+-- before the first slot nothing was drawn, and a strip without marks waits
 pub drawn_none : {L : Type 0} (Takes : L → Picture → L → Type 0) (recording : Recording) (frames : Frames)
     (left : Option (List ℕ)) (strip : Picture) (lines : L) → strip.marks ≡ []
     → IsDrawn Takes recording frames [] [] begun left left strip lines lines
@@ -187,6 +189,7 @@ drawn_pushed Takes recording frames slots turn slot mark end place a b c strip d
       given = drawn.given;
     })
 
+-- behind the next slot, whatever its mark, one slot more was passed
 pub turn_later : (turn : ListingTurn) (slot : RecordedSlot) (mark : Mark) (end : ListingTurn) → IsMarkAt turn slot mark end
     → end.slots ≡ turn.slots + 1
 turn_later turn None mark end (silent, later) = ap (λ (t : ListingTurn). t.slots) later
@@ -294,6 +297,7 @@ drawn_part Takes recording frames slots part turn a b c strip d e drawn octets =
   given = drawn.given;
 }
 
+-- where the strip that waits was given too, unless it has no marks, all strips of the slots were given
 pub stripped : {L : Type 0} (Takes : L → Picture → L → Type 0) (recording : Recording) (frames : Frames)
     (slots : List RecordedSlot) (part : List ℕ) (turn : ListingTurn) (a b : Option (List ℕ)) (strip : Picture) (d e f : L)
     → IsDrawn Takes recording frames slots part turn a b strip d e

@@ -72,9 +72,11 @@ slots_counted turn (Some b ∷ slots) (line ∷ lines) end (first, lists) =
     let rest = slots_counted (turn_after line b turn) slots lines end lists in
     omega arith
 
+-- before the first slot nothing was read
 pub read_none : (recording : Recording) (left : Option (List ℕ)) → IsRead recording [] [] [] begun left left
 read_none recording left = record { each = tt; octets = Consumes-nil left; listed = (refl, refl) }
 
+-- a silent slot more is read, and it has no line
 pub read_silence : (recording : Recording) (slots : List RecordedSlot) (lines : List BurstLine) (end : ListingTurn)
     (a b c : Option (List ℕ)) → IsRead recording slots lines [] end a b → Consumes b c (spelling recording None)
     → IsRead recording (slots ++ None ∷ []) lines [] (turn_passed end) a c
@@ -84,6 +86,7 @@ read_silence recording slots lines end a b c read octets = record {
   listed = Lists-silent begun slots lines end read.listed;
 }
 
+-- a burst more is read, and its line stands behind the others
 pub read_burst : (recording : Recording) (slots : List RecordedSlot) (lines : List BurstLine) (end : ListingTurn)
     (burst : RecordedBurst) (line : BurstLine) (a b c : Option (List ℕ)) → IsRead recording slots lines [] end a b
     → IsBurstOf recording burst → Consumes b c (spelling recording (Some burst)) → IsLineAt end burst line
@@ -104,10 +107,12 @@ read_part recording slots lines part end a b c read octets = record {
   listed = read.listed;
 }
 
+-- before the first slot a taker was given nothing
 pub listed_none : {L : Type 0} (Takes : L → BurstLine → L → Type 0) (recording : Recording) (left : Option (List ℕ)) (lines : L)
     → IsListed Takes recording [] [] begun left left lines lines
 listed_none Takes recording left lines = record { lines = []; read = read_none recording left; given = refl }
 
+-- with a silent slot more the taker was given no line more
 pub listed_silence : {L : Type 0} (Takes : L → BurstLine → L → Type 0) (recording : Recording) (slots : List RecordedSlot)
     (end : ListingTurn) (a b c : Option (List ℕ)) (d e : L) → IsListed Takes recording slots [] end a b d e
     → Consumes b c (spelling recording None) → IsListed Takes recording (slots ++ None ∷ []) [] (turn_passed end) a c d e
@@ -117,6 +122,7 @@ listed_silence Takes recording slots end a b c d e listed octets = record {
   given = listed.given;
 }
 
+-- with a burst more the taker was given its line behind the others
 pub listed_burst : {L : Type 0} (Takes : L → BurstLine → L → Type 0) (recording : Recording) (slots : List RecordedSlot)
     (end : ListingTurn) (burst : RecordedBurst) (line : BurstLine) (a b c : Option (List ℕ)) (d e f : L)
     → IsListed Takes recording slots [] end a b d e → IsBurstOf recording burst

@@ -18,6 +18,7 @@ order_more : (last : ℕ) (sendings : List Sending) (next : Sending) → AreInFr
 order_more last [] next order behind = (behind, tt)
 order_more last (s ∷ ss) next (first, rest) behind = (first, order_more s.frame ss next rest behind)
 
+-- with a record more at the end, the last frame is that record's
 pub last_more : (last : ℕ) (sendings : List Sending) (next : Sending) → last_frame last (sendings ++ next ∷ []) ≡ next.frame
 last_more last [] next = refl
 last_more last (s ∷ ss) next = last_more s.frame ss next
@@ -36,6 +37,7 @@ outgoing_none Takes left lines = record {
   given = record { reads = []; listed = tt; given = refl };
 }
 
+-- where a record in its order was read and given behind the others, all of them were listed
 pub outgoing_more : {L : Type 0} (Takes : L → Outgoing → L → Type 0) (sendings : List Sending) (datagram : List ℕ)
     (read : Outgoing) (a b c : Option (List ℕ)) (d e f : L) → AreSendingsListed Takes sendings [] a b d e → Keeps read datagram
     → IsSending (sending_of read datagram) → last_frame 0 sendings ≤ read.frame
@@ -73,6 +75,7 @@ outgoing_part sendings part a b c read took = record {
 sending_long : (s : Sending) → length (sending_octets s) ≡ 9 + length s.datagram
 sending_long s = omega arith
 
+-- behind a record more, the next one begins nine octets and a datagram further on
 pub outgoing_octets_more : (sendings : List Sending) (next : Sending) (octet : ℕ) → octet ≡ octet_behind sending_octets sendings
     → octet + (9 + length next.datagram) ≡ octet_behind sending_octets (sendings ++ next ∷ [])
 outgoing_octets_more sendings next octet e =

@@ -68,6 +68,7 @@ told_later None place reading earlier e within stands = absurd (cc)
 told_later (Some before) place reading earlier e within stands = stands_later before place reading earlier e within (stands before
     refl)
 
+-- the newest frame stands in the place that its slot's readings give
 pub place_told : (readings : List (Option Reading)) (place : VoicePlace) → voice_place_of readings ≡ Some place
     → StandsIn place readings
 place_told [] place e = absurd (cc)
@@ -87,6 +88,7 @@ behind_told : (before place : VoicePlace) (reading : Option Reading) (earlier : 
 behind_told before place reading earlier e within told =
     after_within (voice_place_of earlier) reading within ∙ ap (λ (b : Option VoicePlace). option_and_then following b) told ∙ e
 
+-- where it stands in a place, the readings give that place
 pub place_stands : (readings : List (Option Reading)) (place : VoicePlace) → StandsIn place readings
     → voice_place_of readings ≡ Some
     place

@@ -18,6 +18,7 @@ order_more : (last : Option ReceivedFields) (receipts : List Receipt) (next : Re
 order_more last [] next order follows = (follows, tt)
 order_more last (r ∷ rs) next (first, rest) follows = (first, order_more (Some (received_fields r)) rs next rest follows)
 
+-- with a record more at the end, the last fields are that record's
 pub last_more : (last : Option ReceivedFields) (receipts : List Receipt) (next : Receipt) → last_fields last (receipts ++ next ∷ [])
     ≡ Some (received_fields next)
 last_more last [] next = refl
@@ -27,6 +28,7 @@ pub received_none : {L : Type 0} (Takes : L → Receipt → L → Type 0) (left 
     → AreReceiptsListed Takes [] [] left left lines lines
 received_none Takes left lines = record { read = record { each = tt; order = tt; octets = Consumes-nil left }; given = refl }
 
+-- where a record in its order was read and given behind the others, all of them were listed
 pub received_more : {L : Type 0} (Takes : L → Receipt → L → Type 0) (receipts : List Receipt) (next : Receipt)
     (a b c : Option (List ℕ)) (d e f : L) → AreReceiptsListed Takes receipts [] a b d e → IsReadable next
     → Follows (last_fields None receipts) (received_fields next) → Consumes b c (receipt_octets next) → Takes e next f
@@ -58,6 +60,7 @@ received_part receipts part a b c read took = record {
 receipt_long : (r : Receipt) → length (receipt_octets r) ≡ 12 + length r.octets
 receipt_long r = omega arith
 
+-- behind a record more, the next one begins twelve octets and the record's own octets further on
 pub received_octets_more : (receipts : List Receipt) (next : Receipt) (octet : ℕ) → octet ≡ octet_behind receipt_octets receipts
     → octet + (12 + length next.octets) ≡ octet_behind receipt_octets (receipts ++ next ∷ [])
 received_octets_more receipts next octet e =

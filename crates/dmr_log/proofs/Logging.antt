@@ -31,6 +31,7 @@ slots_long (f ∷ frames) = let rest = slots_long frames in omega (arith, rest)
 
 -- 2. What is told.
 
+-- an element more is given behind those that were given in turn
 pub given_one_more : {S X : Type 0} (Takes : S → X → S → Type 0) (old between new : S) (xs : List X) (x : X)
     → GivenInTurn Takes old xs between → Takes between x new → GivenInTurn Takes old (xs ++ x ∷ []) new
 given_one_more Takes old between new [] x none one = (new, subst (λ s. Takes s x new) none one, refl)
@@ -40,6 +41,7 @@ given_one_more Takes old between new (y ∷ xs) x (next, first, rest) one = (
   given_one_more Takes next between new xs x rest one,
 )
 
+-- a frame more is taken, and what is told of it stands behind the rest
 pub logs_one_more : (log end next : LogState) (frames : RecordedFrames) (told : List FrameTold) (a b : RecordedSlot)
     → Logs log frames told end → IsFrameLogged end (recorded_burst a) (recorded_burst b) next
     → Logs log (frames ++ (a, b) ∷ []) (told ++ next.told ∷ []) next
@@ -132,6 +134,7 @@ octet_frame frames a b octet e =
 
 -- 5. A fault.
 
+-- where frames were taken and the slot behind them shows a fault, they were logged up to that fault
 pub faulty : {L : Type 0} (Takes : L → FrameTold → L → Type 0) (log end : LogState) (frames : RecordedFrames)
     (begun : List RecordedSlot) (at : ReadAt) (fault : FaultLine) (a b c : Option (List ℕ)) (d e : L) → length begun ≤ 1
     → AreFramesTaken Takes log frames begun [] end a b d e → at.slots ≡ length (slots_of_frames frames ++ begun)
@@ -148,12 +151,14 @@ faulty Takes log end frames begun at fault a b c d e few taken slots octet shows
   place = shows.place ∙ ap (λ (n : ℕ). Some (place_by_number n)) slots;
 }
 
+-- there are two slots for each frame
 pub count_none : (frames : RecordedFrames) (n : ℕ) → n ≡ 2 * length frames → n ≡ length (slots_of_frames frames ++ [])
 count_none frames n e =
     let long = slots_long frames in
     let none = ap length (append-nil (slots_of_frames frames)) in
     omega (arith, e, long, none)
 
+-- with slot 1 of the next frame there is one more
 pub count_begun : (frames : RecordedFrames) (slot : RecordedSlot) (n : ℕ) → n ≡ 2 * length frames + 1
     → n ≡ length (slots_of_frames frames ++ slot ∷ [])
 count_begun frames slot n e =

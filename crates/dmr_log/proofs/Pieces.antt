@@ -156,6 +156,7 @@ shares_all (frame ∷ frames) (Some t) first fs n ended last (tells, at) below (
 
 -- 4. The laws.
 
+-- frames that were followed from the first are shared out, each burst to one transmission, ended or open
 pub each_burst_is_in_one : (frames : List RepeatedFrame) (ended : List Transmission) (last : Option Transmission)
     → length frames < 2 ^ 32 → AreFollowed None 0 frames ended last
     → AreSharedOut 0 (map repeat_of frames) (ended ++ option_to_list last)
@@ -174,6 +175,7 @@ bursts_of_pieces n (Whole t repeats ∷ pieces) (tells, told) =
     let one = sum_by-cons (λ (x : Transmission). x.span.bursts) t (transmissions_of pieces) in
     one ∙ omega (arith, rest, tells.bursts) ∙ sym both
 
+-- the bursts that these transmissions count are as many as the frames repeat
 pub all_bursts_are_told : (frames : List RepeatedFrame) (ended : List Transmission) (last : Option Transmission)
     → length frames < 2 ^ 32 → AreFollowed None 0 frames ended last
     → sum_by (λ (t : Transmission). t.span.bursts) (ended ++ option_to_list last) ≡ count_by is_burst (map repeat_of frames)

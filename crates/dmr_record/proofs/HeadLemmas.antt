@@ -15,6 +15,7 @@ front_is magic taken rest more four eight same =
           file_version,
     ))
 
+-- a text that begins with its head shows no fault there but the device's
 pub head_no_fault : (magic : List ℕ) (e : RecordFault) (taken rest more : List ℕ) → length magic ≡ 4 → ShowsHeadFault magic e taken
     → (is_of_end e ≡ true → rest ≡ []) → taken ++ rest ≡ head_octets magic ++ more → is_device_fault e ≡ true
 head_no_fault magic Read taken rest more four shows end same = refl
@@ -49,6 +50,7 @@ eight_same : (text taken rest other more : List ℕ) → taken ++ rest ≡ text 
 eight_same text taken rest other more split also eight as_many =
     sym (take_at taken rest 8 eight) ∙ ap (take 8) (split ∙ sym also) ∙ take_at other more 8 as_many
 
+-- a text has one fault of its head at most, but for the device's
 pub head_one_fault : (magic text : List ℕ) (e f : RecordFault) → HasFault (ShowsHeadFault magic) text e → HasFault (ShowsHeadFault
     magic) text f
     → e ≢ Read → f ≢ Read → e ≡ f

@@ -10,6 +10,7 @@ use Rattle.dmr_record.proofs.OutgoingReading.{sending_at, sending_at-spelled, se
 use Rattle.dmr_record.proofs.Readings.{no_fault_read}
 use Rattle.dmr_record.proofs.UplinkReading.{frame_at, frame_at-spelled, frame_at-shown, frame_at-end}
 
+-- frames within the limit of their file have no fault but the device's
 pub frames_no_fault : (limit before : ℕ) (frames : List (List (Option (List ℕ)))) (e : RecordFault) → AllByRecursion IsFrame frames
     → before + length frames ≤ limit → HasFault (ShowsUplinkFault limit before) (frames_octets frames) e → e ≡ Read
 frames_no_fault limit before [] e p few has =
@@ -22,6 +23,7 @@ frames_no_fault limit before (f ∷ fs) e p few has =
     (f, frames_octets fs)) e
     (frame_at-spelled limit before f (frames_octets fs) (omega arith) p.0) has
 
+-- the same of outgoing records in their order
 pub sendings_no_fault : (limit before last : ℕ) (sendings : List Sending) (e : RecordFault) → AllByRecursion IsSending sendings →
     AreInFrameOrder last sendings
     → before + length sendings ≤ limit → HasFault (ShowsOutgoingFault limit before last) (sendings_octets sendings) e → e ≡ Read
@@ -48,6 +50,7 @@ no_fault limit before e taken rest frames p few shows end same =
       end = end;
     }))
 
+-- the same of outgoing records in their order
 pub no_outgoing_fault : (limit before last : ℕ) (e : RecordFault) (taken rest : List ℕ) (sendings : List Sending) → AllByRecursion
     IsSending sendings
     → AreInFrameOrder last sendings → before + length sendings ≤ limit → ShowsOutgoingFault limit before last e taken

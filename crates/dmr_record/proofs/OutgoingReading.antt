@@ -53,6 +53,7 @@ sending_at limit before last [] = Ok None
 sending_at limit before last (tag ∷ text) = cond (leb limit before) (Err TooLong) (cond (eqb tag 2) (fields_behind last text) (Err
     BadTag))
 
+-- where no octets are left, the outgoing file is read as ended
 pub sending_at-end : (limit before last : ℕ) → sending_at limit before last [] ≡ Ok None
 unfolding sending_at
 sending_at-end limit before last = refl
@@ -170,6 +171,7 @@ sending_at-shown limit before last CutRecord taken rest (below, some, inr (inr (
     ∙ rw (is_place-true f.slot f.mode place, le-ltb f.frame last order, short) refl
 sending_at-shown limit before last e taken rest shows own end = absurd shows
 
+-- each record of an outgoing file has octets, which aren't the front of any other's
 pub sending_code : IsPrefixCode IsSending sending_octets
 sending_code = record {
   begins = λ x rest p e. (cc);

@@ -17,6 +17,7 @@ is_device_fault-other : (e : RecordFault) → e ≢ Read → is_device_fault e �
 is_device_fault-other Read other = absurd (other refl)
 is_device_fault-other e other = refl
 
+-- the only fault that is the device's is that of a read
 pub is_device_fault-read : (e : RecordFault) → is_device_fault e ≡ true → e ≡ Read
 is_device_fault-read Read told = refl
 is_device_fault-read e told = absurd (true≢false (sym told))

@@ -6,6 +6,7 @@ use Rattle.dmr_record.specs.declared.received.ReceivedKind.{ReceivedKind}
 use Rattle.dmr_record.specs.declared.received.ReceivedKind.TheVariants.{Datagram, ShortData, Status}
 use Rattle.dmr_record.specs.Received.{ReceivedFields, kind_octet, IsPartOfReceipt, ShowsReceivedFault}
 
+-- the octet of a kind is below three
 pub kind_octet-low : (kind : ReceivedKind) → kind_octet kind < 3
 kind_octet-low Datagram = omega arith
 kind_octet-low ShortData = omega arith

@@ -26,6 +26,7 @@ one_slot (Some x) None a b p q e = absurd (cc)
 one_slot (Some x) (Some y) a b p q e =
     let (burst, rest) = same_fronts x y a b (p ∙ sym q) (ap (drop 1) e) in (ap (λ (u : List ℕ). Some u) burst, rest)
 
+-- each slot of an uplink file has octets, which aren't the front of any other's
 pub slot_code : IsPrefixCode IsSilenceOrBurst slot_octets
 slot_code = record {
   begins = λ x rest p e. (cc);
@@ -41,6 +42,7 @@ one_sent (Some x) (Some y) a b p q e =
     let (cach, burst, rest) = same_pieces x.0 x.1 y.0 y.1 a b (p.0 ∙ sym q.0) (p.1 ∙ sym q.1) (ap (drop 1) e) in
     (ap (λ (c : List ℕ). Some (c, x.1)) cach ∙ ap (λ (u : List ℕ). Some (y.0, u)) burst, rest)
 
+-- the same of a slot of a downlink file
 pub sent_code : IsPrefixCode IsSent sent_octets
 sent_code = record {
   begins = sent_begins;
@@ -85,6 +87,7 @@ one_receipt x y a b p q e =
       octets.1,
     )
 
+-- the same of a record of a received file
 pub receipt_code : IsPrefixCode IsReceipt receipt_octets
 receipt_code = record {
   begins = λ x rest p e. (cc);

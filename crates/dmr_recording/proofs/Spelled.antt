@@ -9,6 +9,7 @@ use Rattle.dmr_recording.specs.Places.{octet_behind}
 use Rattle.dmr_recording.specs.Recordings.{RecordedSlot, spelling}
 use Rattle.dmr_recording.specs.declared.recording.Recording.{Recording}
 
+-- where slots were read, and then one more, all of them were read
 pub spelled_more : (recording : Recording) (slots : List RecordedSlot) (slot : RecordedSlot) (a b c : Option (List ℕ))
     → Consumes a b (flat_map (spelling recording) slots ++ []) → Consumes b c (spelling recording slot)
     → Consumes a c (flat_map (spelling recording) (slots ++ slot ∷ []) ++ [])
@@ -19,6 +20,7 @@ spelled_more recording slots slot a b c first next =
     subst (Consumes a c) (sym (append-nil (flat_map (spelling recording) (slots ++ slot ∷ [])) ∙ one))
     (Consumes-trans a b c _ _ (subst (Consumes a b) (append-nil (flat_map (spelling recording) slots)) first) next)
 
+-- behind a slot more, the next one begins as many octets further on as that slot has
 pub octets_more : (recording : Recording) (slots : List RecordedSlot) (slot : RecordedSlot) (octet : ℕ)
     → octet ≡ octet_behind (spelling recording)
     slots → octet + length (spelling recording slot) ≡ octet_behind (spelling recording) (slots ++ slot ∷ [])

@@ -18,9 +18,11 @@ use Rattle.dmr_show.specs.declared.filter.Filter.{Filter}
 use Rattle.dmr_show.specs.declared.form.Notation.{Notation}
 use Rattle.dmr_listing.specs.Strips.{Picture}
 
+-- a sink that stays as it was had no line put
 pub puts_none : (a : Option (List ℕ)) → PutsLines 0 a a
 puts_none a = record { texts = []; many = refl; each = All-nil IsOneLine; octets = Appends-nil a }
 
+-- a line that was put counts as one
 pub puts_one : (a b : Option (List ℕ)) → PutsLine a b → PutsLines 1 a b
 puts_one a b line = record {
   texts = line.text ∷ [];
@@ -29,6 +31,7 @@ puts_one a b line = record {
   octets = subst (Appends a b) (sym (append-nil (line_octets line.text))) line.octets;
 }
 
+-- lines behind others are as many as both numbers together
 pub puts_more : (m n : ℕ) (a b c : Option (List ℕ)) → PutsLines m a b → PutsLines n b c → PutsLines (m + n) a c
 puts_more m n a b c first next = record {
   texts = first.texts ++ next.texts;
@@ -38,6 +41,7 @@ puts_more m n a b c first next = record {
       (Appends-trans a b c _ _ first.octets next.octets);
 }
 
+-- the number of lines that were put may be written in any equal way
 pub puts_as : (m n : ℕ) (a b : Option (List ℕ)) → m ≡ n → PutsLines m a b → PutsLines n a b
 puts_as m n a b same lines = subst (λ k. PutsLines k a b) same lines
 
@@ -54,6 +58,7 @@ puts_where_done (Ok x) true a b holding line = puts_one a b line
 puts_where_done (Ok x) false a b holding line = cc
 puts_where_done (Err e) holds a b holding line = tt
 
+-- two tests that hold each hold together
 pub both_true : (a b : Bool) → a ≡ true → b ≡ true → (a && b) ≡ true
 both_true true b one other = other
 both_true false b one other = one
@@ -92,6 +97,7 @@ appended_flushed (Some xs) None c w octets p q = absurd p
 appended_flushed (Some xs) (Some ys) None w octets p q = absurd q
 appended_flushed (Some xs) (Some ys) (Some zs) w octets p q = q ∙ p
 
+-- once the octets that waited are written, all the lines that were put are in the sink
 pub puts_flushed : (count : ℕ) (a b c : Option (List ℕ)) (w : List ℕ) → PutsLines count a (held_by b w) → Appends b c w
     → PutsLines count a c
 puts_flushed count a b c w lines flushed =

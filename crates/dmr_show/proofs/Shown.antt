@@ -135,6 +135,7 @@ lines_of_reads : (filter : Filter) (sendings : List Sending) (reads : List Outgo
 lines_of_reads filter sendings reads are =
     sum_placed filter place_of_outgoing reads ∙ ap (sum_by (lines_at filter)) (reads_placed sendings reads are)
 
+-- an outgoing list that was listed is shown, with a line for each record that the filter lets pass
 pub outgoing_shown : {L : Type 0} (old new : L) (Takes : L → Outgoing → L → Type 0) (filter_of : L → Filter)
     (held_of : L → Option (List ℕ)) (count : ℕ) (sendings : List Sending) (a b : Option (List ℕ))
     → outgoing.AreSendingsListed Takes sendings [] a b old new → count ≡ length sendings
@@ -151,6 +152,7 @@ outgoing_shown old new Takes filter_of held_of count sendings a b listed many ea
       put = puts_as _ _ _ _ (lines_of_reads (filter_of old) sendings listed.given.reads listed.given.listed ∙ around_none _) put;
     }
 
+-- the same, up to a record that shows a fault
 pub outgoing_shown_up_to_fault : {L : Type 0} (old new : L) (Takes : L → Outgoing → L → Type 0) (filter_of : L → Filter)
     (held_of : L → Option (List ℕ)) (fault : FaultLine) (a b : Option (List ℕ))
     → outgoing.AreSendingsListedUpToFault Takes fault a b old new
@@ -168,6 +170,7 @@ outgoing_shown_up_to_fault old new Takes filter_of held_of fault a b listed each
           ∙ before_none _) put;
     }
 
+-- a received list that was listed is shown, with a line for each record that the filter lets pass
 pub received_shown : {L : Type 0} (old new : L) (Takes : L → Receipt → L → Type 0) (filter_of : L → Filter)
     (held_of : L → Option (List ℕ)) (count : ℕ) (receipts : List Receipt) (a b : Option (List ℕ))
     → received.AreReceiptsListed Takes receipts [] a b old new → count ≡ length receipts
@@ -184,6 +187,7 @@ received_shown old new Takes filter_of held_of count receipts a b listed many ea
       put = puts_as _ _ _ _ (sum_placed (filter_of old) place_of_receipt receipts ∙ around_none _) put;
     }
 
+-- the same, up to a record that shows a fault
 pub received_shown_up_to_fault : {L : Type 0} (old new : L) (Takes : L → Receipt → L → Type 0) (filter_of : L → Filter)
     (held_of : L → Option (List ℕ)) (fault : FaultLine) (a b : Option (List ℕ))
     → received.AreReceiptsListedUpToFault Takes fault a b old new
@@ -374,6 +378,7 @@ pub failed_at : (e : Stop) (source sink : Bool) → IfFile e (λ fault. source �
 failed_at (File fault) source sink of_source of_sink others = (of_source, others)
 failed_at Output source sink of_source of_sink others = of_sink
 
+-- which device has failed, by how the listing ended: at a fault, at a line that couldn't be put, or well
 pub failed_of : {T : Type 0} (r : Result T Stop) (source sink before : Bool)
     → IfErr r (λ e. IfFile e (λ fault. source ≡ is_device_fault fault.fault)) → IfErr r (λ e. IfNotWritten e (sink ≡ true))
     → IfErr r (λ e. IfFile e (λ fault. sink ≡ false)) → OnOk r ((before ≡ false) × (sink ≡ false)) → HaveFailed r source sink
@@ -392,6 +397,7 @@ around_as form.Listing listing = refl
 around_as form.Json listing = refl
 around_as form.Strip listing = absurd (listing refl)
 
+-- the forms of a listing and of JSON aren't that of strips
 pub no_strip : (asked : Form) → (asked ≡ form.Listing) ⊎ (asked ≡ form.Json) → asked ≡ form.Strip → ⊥
 no_strip asked (inl listing) strip = cc
 no_strip asked (inr json) strip = cc

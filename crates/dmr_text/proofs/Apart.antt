@@ -365,6 +365,7 @@ receipts_end_apart count last words is fault.WrongMode shown = shown
 receipts_end_apart count last words is fault.WrongBurst shown = shown
 receipts_end_apart count last words is fault.Read shown = shown
 
+-- words that show a fault say no record that may stand next
 pub says_no_record : (file : File) (e : TextFault) (words : List (List ℕ)) → ShowsLineFault file e words → SaysNext file words → ⊥
 says_no_record (Slots of slots) e words shown (number, burst, behind, below, entry) =
     entry_apart of (length slots) number burst words behind below entry e shown
@@ -373,6 +374,7 @@ says_no_record (Sendings sendings) e words shown (next, below, is_sending, later
 says_no_record (Receipts receipts) e words shown (next, below, readable, follows, says) =
     receipt_apart (length receipts) (last_fields None receipts) next words below readable follows says e shown
 
+-- nor may they end the text of the file
 pub is_no_last : (file : File) (e : TextFault) (words : List (List ℕ)) → ShowsLineFault file e words → SaysLast file words → ⊥
 is_no_last (Slots of slots) e words shown (frames, behind, within, line) =
     frames_apart of (length slots) frames words behind within line e shown

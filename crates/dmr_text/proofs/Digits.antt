@@ -54,6 +54,7 @@ unfolding encode_with
 digits_append [] rest = refl
 digits_append (o ∷ front) rest = rw (digits_append front rest) refl
 
+-- octets have two digits each
 pub digits_length : (octets : List ℕ) → length (encode_upper octets) ≡ 2 * length octets
 digits_length octets = length-encode_with upper_digits octets
 
@@ -87,10 +88,12 @@ digits_done old begun self octets rest begins made none some =
     ∙ append_assoc old (32 ∷ []) (encode_upper octets)
     ∙ ap (λ l. old ++ (32 ∷ l)) (sym (octets_are_digits octets some))
 
+-- the word for octets is at most one octet longer than two digits for each of them
 pub word_length : (octets : List ℕ) → length (octets_word octets) ≤ 1 + 2 * length octets
 word_length [] = omega arith
 word_length (o ∷ octets) = let e = digits_length (o ∷ octets) in omega (arith, e)
 
+-- a space and that word make a line longer by two for each octet, and at most two more
 pub word_behind_length : (old octets new : List ℕ) → new ≡ old ++ (32 ∷ octets_word octets)
     → length new ≤ length old + 2 + 2 * length octets
 word_behind_length old octets new e =

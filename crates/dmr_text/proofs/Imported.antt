@@ -49,6 +49,7 @@ imported_whole carried format mid new a b c h i j begun head end behind =
       counted = behind.counted;
     }
 
+-- where the first line was told, the head written and the rest imported, the whole text was imported
 pub imported : {E : Type 0} (result : Result Carried E) (format : FileFormat) (mid new : TextState) (a b c h i j : Option (List ℕ))
     → IsBegun format mid a b → Appends h i (head_octets (magic_of format)) → OnOk result (IsAtEnd c)
     → IfOk result (λ carried. IsImportedBehind format carried mid new b c i j) → IfOk result (λ carried. IsImported carried a c h j)

@@ -51,6 +51,7 @@ above_tested n (c ∷ word) e =
     let parts = and_parts (nat_le n c) (all_above n word) e in
     (leb-true n c parts.0, above_tested n word parts.1)
 
+-- a word that isn't empty and has no octet below 36 is one of printed octets
 pub plain_tested : (word : List ℕ) → all_above 36 word ≡ true → 0 < length word → IsPlain word
 plain_tested word e some = record { some = some; above = above_tested 36 word e }
 
@@ -58,6 +59,7 @@ abbrev pub all_below : (ℕ → Bool) → ℕ → Bool
 all_below f zero = true
 all_below f (suc n) = f n && all_below f n
 
+-- a test that all numbers below a bound have passed holds of each of them
 pub below_tested : (f : ℕ → Bool) (n d : ℕ) → all_below f n ≡ true → d < n → f d ≡ true
 below_tested f zero d e lt = absurd (omega (arith, lt))
 below_tested f (suc n) d e lt =
@@ -87,6 +89,7 @@ decimal_above : (n : ℕ) → AreAbove 36 (decimal n)
 unfolding digits
 decimal_above n = digits_above 64 n [] tt
 
+-- a number of up to 64 bits is written as a word of printed octets
 pub decimal_plain : (n : ℕ) → n < 2 ^ 64 → IsPlain (decimal n)
 decimal_plain n fits = record { some = decimal_nonempty n fits; above = decimal_above n }
 
@@ -107,6 +110,7 @@ some_digits : (o : ℕ) (octets : List ℕ) → 0 < length (encode_upper (o ∷ 
 unfolding encode_with
 some_digits o octets = omega arith
 
+-- octets are written as a word of printed octets
 pub octets_plain : (octets : List ℕ) → IsBytes octets → IsPlain (octets_word octets)
 octets_plain [] bytes = plain_tested (octets_word []) refl (omega arith)
 octets_plain (o ∷ octets) bytes = record { some = some_digits o octets; above = hexes_above (o ∷ octets) bytes }
@@ -212,6 +216,7 @@ pub record AreTold (lines : List (List (List ℕ))) (n : ℕ) (rest : List ℕ) 
   pub text : worded_behind n (flat_map line_of lines ++ rest) ≡ told ++ worded_behind (n + length lines) rest
   pub words : words_of_lines told ≡ lines
 
+-- lines of words that aren't too long are told first, each with its own words, and then what stands behind them
 pub lines_told : (lines : List (List (List ℕ))) → AllByRecursion IsWritten lines → (n : ℕ) (rest : List ℕ) → AreTold lines n rest
 lines_told [] all n rest = record {
   told = [];
@@ -235,6 +240,7 @@ lines_told ((w ∷ words) ∷ lines) (written, all) n rest =
           ∙ ap (λ (l : List (List (List ℕ))). (w ∷ words) ∷ l) behind.words;
     }
 
+-- such lines in front of a text make no difference to whether all its lines are short enough
 pub lines_short : (lines : List (List (List ℕ))) → AllByRecursion IsWritten lines → (rest : List ℕ)
     → has_short_lines (flat_map line_of lines ++ rest) ≡ has_short_lines rest
 lines_short [] all rest = refl

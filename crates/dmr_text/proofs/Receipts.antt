@@ -18,11 +18,13 @@ use Rattle.dmr_text.specs.Files.{records_lines}
 use Rattle.dmr_text.specs.Files.File.{Receipts}
 use Rattle.dmr_text.specs.Spelling.{receipt_line}
 
+-- a record that may follow the last one keeps the list in its order
 pub order_more : (last : Option ReceivedFields) (receipts : List Receipt) (next : Receipt) → FollowEachOther last receipts
     → Follows (last_fields last receipts) (received_fields next) → FollowEachOther last (receipts ++ next ∷ [])
 order_more last [] next order follows = (follows, tt)
 order_more last (r ∷ rs) next (first, rest) follows = (first, order_more (Some (received_fields r)) rs next rest follows)
 
+-- the octets of a record more stand behind those of the list
 pub octets_more : (receipts : List Receipt) (next : Receipt)
     → receipts_octets (receipts ++ next ∷ []) ≡ receipts_octets receipts ++ receipt_octets next
 octets_more receipts next =
@@ -78,6 +80,7 @@ receipt_read receipts next a b c read readable follows took =
           (Consumes-trans a b c _ _ (subst (Consumes a b) (append-nil (receipts_octets receipts)) read.octets) took);
     }
 
+-- where a record in its order was read and its line written, so are the lines of the list with it
 pub receipt_written : (receipts : List Receipt) (next : Receipt) (a b c d e f : Option (List ℕ))
     → AreLinesWritten (Receipts receipts) a b d e → IsReadable next → Follows (last_fields None receipts) (received_fields next)
     → Consumes b c (receipt_octets next) → Appends e f (receipt_line next)
@@ -87,6 +90,7 @@ receipt_written receipts next a b c d e f written readable follows took more = r
   text = subst (Appends d f) (sym (lines_more receipts next)) (Appends-trans d e f _ _ written.text more);
 }
 
+-- the same, where its line was torn: so are the lines of the list with it
 pub receipt_torn : (receipts : List Receipt) (next : Receipt) (a b c d e f : Option (List ℕ))
     → AreLinesWritten (Receipts receipts) a b d e → IsReadable next → Follows (last_fields None receipts) (received_fields next)
     → Consumes b c (receipt_octets next) → Tears e f (receipt_line next)

@@ -38,6 +38,7 @@ all_silent of (suc n) slots all =
     subst (AllByRecursion (IsSlotOf of)) (append_assoc slots (None ∷ []) (silent n))
     (all_silent of n (slots ++ None ∷ []) (All-push (IsSlotOf of) slots None all tt))
 
+-- so many silent slots more make a list so much longer
 pub length_silent : (n : ℕ) (slots : List RecordedSlot) → length (slots ++ silent n) ≡ length slots + n
 length_silent n slots = length-append slots (silent n) ∙ ap (λ k. length slots + k) (length-replicate n None)
 
@@ -58,6 +59,7 @@ entries_named n slots burst =
     long : 0 + length (slots ++ silent n) ≡ length slots + n
     long = let e = length_silent n slots in omega (arith, e)
 
+-- the same, with a burst behind them: by one more
 pub length_named : (n : ℕ) (slots : List RecordedSlot) (burst : RecordedBurst)
     → length (slots ++ (silent n ++ Some burst ∷ [])) ≡ length slots + n + 1
 length_named n slots burst =
@@ -66,6 +68,7 @@ length_named n slots burst =
     let f = length_silent n slots in
     omega (arith, whole, e, f)
 
+-- the octets of slots more stand behind those of the recording
 pub octets_named : (of : Recording) (slots more : List RecordedSlot)
     → records_octets (Slots of (slots ++ more)) ≡ records_octets (Slots of slots) ++ flat_map (spelling of) more
 octets_named of slots more = flat_map-append (spelling of) slots more

@@ -14,6 +14,7 @@ use Rattle.dmr_text.specs.Files.{records_lines}
 use Rattle.dmr_text.specs.Files.File.{Sendings}
 use Rattle.dmr_text.specs.Spelling.{sending_line}
 
+-- a record of no earlier frame than the last one keeps the frames of the list in order
 pub order_more : (last : ℕ) (sendings : List Sending) (next : Sending) → AreInFrameOrder last sendings
     → last_frame last sendings ≤ next.frame → AreInFrameOrder last (sendings ++ next ∷ [])
 order_more last [] next order behind = (behind, tt)
@@ -24,6 +25,7 @@ pub last_more : (last : ℕ) (sendings : List Sending) (next : Sending) → last
 last_more last [] next = refl
 last_more last (s ∷ ss) next = last_more s.frame ss next
 
+-- the octets of a record more stand behind those of the list
 pub octets_more : (sendings : List Sending) (next : Sending)
     → sendings_octets (sendings ++ next ∷ []) ≡ sendings_octets sendings ++ sending_octets next
 octets_more sendings next =
@@ -73,6 +75,7 @@ sending_read sendings next a b c read is_sending behind took =
           (Consumes-trans a b c _ _ (subst (Consumes a b) (append-nil (sendings_octets sendings)) read.octets) took);
     }
 
+-- where a record in its order was read and its line written, so are the lines of the list with it
 pub sending_written : (sendings : List Sending) (next : Sending) (a b c d e f : Option (List ℕ))
     → AreLinesWritten (Sendings sendings) a b d e → IsSending next → last_frame 0 sendings ≤ next.frame
     → Consumes b c (sending_octets next) → Appends e f (sending_line next)
@@ -82,6 +85,7 @@ sending_written sendings next a b c d e f written is_sending behind took more = 
   text = subst (Appends d f) (sym (lines_more sendings next)) (Appends-trans d e f _ _ written.text more);
 }
 
+-- the same, where its line was torn: so are the lines of the list with it
 pub sending_torn : (sendings : List Sending) (next : Sending) (a b c d e f : Option (List ℕ))
     → AreLinesWritten (Sendings sendings) a b d e → IsSending next → last_frame 0 sendings ≤ next.frame
     → Consumes b c (sending_octets next) → Tears e f (sending_line next)

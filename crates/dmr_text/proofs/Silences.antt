@@ -48,6 +48,7 @@ pub silence_more : (of : Recording) (n : ℕ) (a b c : Option (List ℕ)) → Ap
 silence_more of n a b c written more =
     subst (Appends a c) (sym (octets_next of n)) (Appends-trans a b c (silent_octets of n) (0 ∷ []) written more)
 
+-- where fewer silent slots than there should be were written, and the next one torn, all of them are torn
 pub silence_torn : (of : Recording) (n count : ℕ) (a b c : Option (List ℕ)) → n < count → Appends a b (silent_octets of n)
     → Tears b c (0 ∷ []) → Tears a c (silent_octets of count)
 silence_torn of n count a b c below written torn =

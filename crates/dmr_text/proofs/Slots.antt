@@ -76,6 +76,7 @@ slots_part of slots part a b c read took = record {
   octets = Consumes-trans a b c _ part (subst (Consumes a b) (append-nil (flat_map (spelling of) slots)) read.octets) took;
 }
 
+-- where a silent slot more was read, the lines that were written are still those of all slots
 pub silence_written : (of : Recording) (slots : List RecordedSlot) (a b c d e : Option (List ℕ))
     → AreLinesWritten (Slots of slots) a b d e → Consumes b c (spelling of None)
     → AreLinesWritten (Slots of (slots ++ None ∷ [])) a c d e
@@ -84,6 +85,7 @@ silence_written of slots a b c d e written took = record {
   text = subst (Appends d e) (sym (lines_silence of slots)) written.text;
 }
 
+-- where a burst more was read and its line written, so are the lines of all slots
 pub burst_written : (of : Recording) (slots : List RecordedSlot) (burst : RecordedBurst) (a b c d e f : Option (List ℕ))
     → AreLinesWritten (Slots of slots) a b d e → IsSlotOf of (Some burst) → Consumes b c (spelling of (Some burst))
     → Appends e f (burst_line (place_by_number (length slots)) burst)
@@ -93,6 +95,7 @@ burst_written of slots burst a b c d e f written is_burst took more = record {
   text = subst (Appends d f) (sym (lines_burst of slots burst)) (Appends-trans d e f _ _ written.text more);
 }
 
+-- the same, where its line was torn: so are the lines of all slots
 pub burst_torn : (of : Recording) (slots : List RecordedSlot) (burst : RecordedBurst) (a b c d e f : Option (List ℕ))
     → AreLinesWritten (Slots of slots) a b d e → IsSlotOf of (Some burst) → Consumes b c (spelling of (Some burst))
     → Tears e f (burst_line (place_by_number (length slots)) burst)

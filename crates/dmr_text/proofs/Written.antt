@@ -332,6 +332,7 @@ pub record IsReadBack (file : File) : Type 0 where
   pub says : SaysFile (worded_behind 0 (file_text file)) file
   pub short : has_short_lines (file_text file) ≡ true
 
+-- the text that is written of a file says the file, and none of its lines is too long
 pub read_back : (file : File) → AreRecords file → IsWithinLimit file → HasWholeFrames file → HasOctets file → IsReadBack file
 read_back (Slots of slots) records within whole octets =
     let small = limit_small of in
@@ -378,10 +379,12 @@ read_back (Receipts receipts) (each, order) within whole octets =
           records_plain plain (omega (arith, number));
     }
 
+-- the lines of that text say the file
 pub says_itself : (file : File) → AreRecords file → IsWithinLimit file → HasWholeFrames file → HasOctets file
     → SaysFile (worded_behind 0 (file_text file)) file
 says_itself file records within whole octets = (read_back file records within whole octets).says
 
+-- none of the lines of that text is too long
 pub is_short : (file : File) → AreRecords file → IsWithinLimit file → HasWholeFrames file → HasOctets file
     → has_short_lines (file_text file) ≡ true
 is_short file records within whole octets = (read_back file records within whole octets).short

@@ -216,6 +216,7 @@ parted : (f : FileFormat) (r : Reached) (head slots part : List ℕ)
 parted f r head slots part =
     fold-append (reached_with f) r head (slots ++ part) ∙ fold-append (reached_with f) (reached_by f r head) slots part
 
+-- behind whole slots, a half frame or a fault of a device is told of the slot that comes next
 pub told_behind : (recording : Recording) (magic : List ℕ) (slots : List RecordedSlot) (fault : RecordFault) → length magic ≡ 4
     → AllByRecursion (IsSlotOf recording) slots → length slots < 2 ^ 31 → is_told_behind fault ≡ true
     → fault_told recording magic slots [] fault ≡ fault_behind recording slots fault
@@ -237,6 +238,7 @@ told_behind recording magic slots fault four each few told =
     ∙ ap (λ (k : ℕ). line_of fault k (place_of f r.records)) is.passed
     ∙ ap (line_of fault (8 + length octets)) place
 
+-- where the octets end inside the record of a slot, any fault is told of that slot
 pub told_inside : (recording : Recording) (magic : List ℕ) (slots : List RecordedSlot) (slot : RecordedSlot)
     (tag : ℕ) (front : List ℕ) (next : ℕ) (rest : List ℕ) (fault : RecordFault) → length magic ≡ 4
     → AllByRecursion (IsSlotOf recording) slots → length slots < 2 ^ 31 → IsSlotOf recording slot

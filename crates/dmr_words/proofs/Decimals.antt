@@ -43,6 +43,7 @@ unfolding Answers
 at_result w (Ok x) m = (m, tt)
 at_result w (Err e) m = (tt, m)
 
+-- A word with a plain front spells the number that it parses as; where it parses as none, it spells no number of 32 bits.
 pub answered : {E : Type 0} (w text : List ℕ) (r : Result ℕ E) (o : Option ℕ) → has_plain_front w ≡ true → text ≡ w
     → ParsesUnsigned 32 10 text r → o ≡ result_ok r → IfSome o (λ n. w ≡ decimal n)
     × IfNone o ((n : ℕ) → n < 2 ^ 32 → w ≢ decimal n)

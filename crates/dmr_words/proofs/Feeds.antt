@@ -20,6 +20,7 @@ length_behind [] ys h = omega arith
 length_behind (x ∷ xs) ys h = more (is_line_feed x) (line_length xs) (length xs) (line_length (xs ++ ys)) (line_length ys)
     (length_behind xs ys) h
 
+-- the first line of a text is no longer than the text
 pub length_within : (xs : List ℕ) → line_length xs ≤ length xs
 length_within xs = prefix_len-le-length (λ x. not (is_line_feed x)) xs
 
@@ -59,6 +60,7 @@ short_fed front rest h l =
     ap (list_all (λ part. nat_le (length part) line_limit)) (parts_fed front rest h)
     ∙ ap (λ b. b && has_short_lines rest) (le-leb (length front) line_limit l)
 
+-- a text without a line feed that is no longer than a line may be has no line that is too long
 pub short_unfed : (front : List ℕ) → line_length front ≡ length front → length front ≤ line_limit → has_short_lines front ≡ true
 short_unfed front h l =
     ap (list_all (λ part. nat_le (length part) line_limit)) (parts_unfed front h)

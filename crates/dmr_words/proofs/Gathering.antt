@@ -27,9 +27,11 @@ pub front_unfed : (xs : List ℕ) → line_length (before_first is_line_feed xs)
 front_unfed [] = refl
 front_unfed (x ∷ xs) = step (is_line_feed x) x xs refl (front_unfed xs)
 
+-- octets that are the same as those that were gathered were gathered too
 pub passes_as : {x y : Option (List ℕ)} {before a b : List ℕ} → a ≡ b → Gathers x y before a → Gathers x y before b
 passes_as e p = record { taken = p.taken; consumed = p.consumed; octets = p.octets ∙ e }
 
+-- where nothing was read, what was there is gathered, with an empty line in front
 pub passes_none : (x : Option (List ℕ)) (before line : List ℕ) → line ≡ [] → Gathers x x before (line ++ before)
 passes_none x before line e = record {
   taken = [];
@@ -38,6 +40,7 @@ passes_none x before line e = record {
       ∙ ap (λ l. l ++ before) (sym e);
 }
 
+-- what is read next is gathered behind the rest
 pub passes_more : {x y : Option (List ℕ)} {before a : List ℕ} (z : Option (List ℕ)) (more : List ℕ) → Gathers x y before a
     → Consumes y z more
     → Gathers x z before (a ++ more)
@@ -56,6 +59,7 @@ passes_kept {x} {y} {before} {a} z p k = record {
       p.octets;
 }
 
+-- an empty line has no line feed, and isn't too long
 pub unended_none : (line : List ℕ) → line ≡ [] → IsUnended line
 unended_none line e = subst IsUnended (sym e) (record { one = refl; short = omega arith })
 

@@ -182,6 +182,7 @@ pub lines_ended : (number : ℕ) (line rest : List ℕ) → line_length line ≡
     rest
 lines_ended number line rest h = ap (numbered_lines number) (lines_fed line rest h)
 
+-- octets without a line feed, where there are any, are one line, of the next number
 pub lines_last : (number : ℕ) (line : List ℕ) → line_length line ≡ length line → 0 < length line
     → lines_behind number line ≡ numbered_line (number + 1) line ∷ []
 lines_last number line h some = ap (numbered_lines number) (lines_unfed line h some)
