@@ -1,0 +1,33 @@
+-- What is counted of two lists of slots, and how it is told.
+use Rattle.std.specs.Prelude.{◌≡◌, ◌+◌, ◌-◌, ℕ, List, ◌++◌, not, length, codes, decimal}
+use Rattle.std.specs.List.{count_by, zip}
+use Rattle.dmr_compare.specs.Kept.{is_same}
+use Rattle.dmr_compare.specs.Slots.{ListedSlot}
+use Rattle.dmr_compare.specs.declared.counts.Counts.{Counts}
+use Rattle.dmr_compare.specs.declared.settings.Ignored.{Ignored}
+
+-- The counts are those of two lists of slots: how many places that both have are the same and differ, and how many slots each of
+-- them has behind the end of the other one.
+pub record IsCounted (ignored : Ignored) (firsts seconds : List ListedSlot) (counts : Counts) : Type 0 where
+  pub same : counts.same ≡ count_by (λ place. is_same ignored place.0 place.1) (zip firsts seconds)
+  pub different : counts.different ≡ count_by (λ place. not (is_same ignored place.0 place.1)) (zip firsts seconds)
+  pub only_in_first : counts.only_in_first ≡ length firsts - length seconds
+  pub only_in_second : counts.only_in_second ≡ length seconds - length firsts
+
+-- how many there are of all four kinds
+abbrev pub places_in : Counts → ℕ
+places_in counts = counts.same + counts.different + counts.only_in_first + counts.only_in_second
+
+-- a number behind a word
+abbrev pub numbered : List ℕ → ℕ → List ℕ
+numbered word number = word ++ decimal number
+
+-- the line that tells them, the sum of the four in front
+abbrev pub counts_line : Counts → List ℕ
+counts_line counts =
+    numbered (codes "records ") (places_in counts)
+    ++ numbered (codes " same ") counts.same
+    ++ numbered (codes " different ") counts.different
+    ++ numbered (codes " only-in-A ") counts.only_in_first
+    ++ numbered (codes " only-in-B ") counts.only_in_second
+    ++ codes "\n"

@@ -1,0 +1,6 @@
+pub mod Counting
+pub mod Kept
+pub mod Reading
+pub mod Shifts
+pub mod Slots
+pub mod Status

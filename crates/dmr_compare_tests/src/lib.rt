@@ -1,0 +1,2 @@
+//! Tests of `dmr_compare`: what is printed of two recordings.
+#![tactic(auto)]
