@@ -2,11 +2,14 @@
 #![tactic(auto)]
 
 mod counts;
+mod difference;
 mod differing;
 mod listed;
+mod printing;
 mod reader;
 mod settings;
 mod status;
+mod taking;
 
 pub use counts::Counts;
 pub use differing::Differing;

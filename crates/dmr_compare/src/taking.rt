@@ -1,0 +1,75 @@
+//! Places of two recordings, compared one by one.
+ghost use Rattle.std.specs.Prelude.{◌≡◌, ◌-◌, ◌^◌, ◌<◌, false, OnOk};
+ghost use Rattle.dmr_compare.specs.Kept.{is_same};
+ghost use Rattle.dmr_compare.specs.Printed.{PutsLines, lines_of_place};
+ghost use Rattle.dmr_compare.specs.Taking.{HasRoom, counted_found, counted_place, lines_of_found};
+ghost use Rattle.dmr_record.specs.Devices.{failed_after};
+
+use crate::counts::Counts;
+use crate::difference::Difference;
+use crate::listed::ListedBurst;
+use crate::settings::Settings;
+use dmr_record::{DeviceFault, Sink};
+use dmr_recording::Place;
+
+/// Counts a place that both recordings have, and prints its lines where it differs.
+fn take_both<K: Sink>(
+    settings: &Settings,
+    place: Place,
+    first: &Option<ListedBurst>,
+    second: &Option<ListedBurst>,
+    counts: &mut Counts,
+    sink: &mut K,
+) -> Result<(), DeviceFault>
+    requires sink { K.has_failed sink.old ≡ false }
+    requires room { HasRoom counts.old }
+    ensures counted { counts.new ≡ counted_place (is_same settings.now.ignored first.now second.now) counts.old }
+    ensures lines { OnOk result (PutsLines
+        (lines_of_place settings.now.is_quiet (is_same settings.now.ignored first.now second.now))
+        (K.held sink.old) (K.held sink.new)) }
+    ensures failed { K.has_failed sink.new ≡ failed_after (K.has_failed sink.old) result }
+{
+    match Difference::between(settings.ignored, first, second) {
+        None => {
+            counts.same += 1;
+            Ok(())
+        }
+        Some(difference) => {
+            counts.different += 1;
+            if settings.is_quiet {
+                return Ok(());
+            }
+            difference.print(place, first, second, sink)
+        }
+    }
+}
+
+/// Counts what was found next in two recordings, and prints its lines where both have something and it differs.
+pub(crate) fn take_found<K: Sink>(
+    settings: &Settings,
+    place: Place,
+    first: &Option<Option<ListedBurst>>,
+    second: &Option<Option<ListedBurst>>,
+    counts: &mut Counts,
+    sink: &mut K,
+) -> Result<(), DeviceFault>
+    requires sink { K.has_failed sink.old ≡ false }
+    requires room { HasRoom counts.old }
+    ensures counted { counts.new ≡ counted_found settings.now.ignored first.now second.now counts.old }
+    ensures lines { OnOk result (PutsLines (lines_of_found settings.now first.now second.now)
+        (K.held sink.old) (K.held sink.new)) }
+    ensures failed { K.has_failed sink.new ≡ failed_after (K.has_failed sink.old) result }
+{
+    match (first, second) {
+        (Some(first), Some(second)) => take_both(settings, place, first, second, counts, sink),
+        (Some(_), None) => {
+            counts.only_in_first += 1;
+            Ok(())
+        }
+        (None, Some(_)) => {
+            counts.only_in_second += 1;
+            Ok(())
+        }
+        (None, None) => Ok(()),
+    }
+}
