@@ -1,2 +1,5 @@
+pub mod Beside
+pub mod Counting
 pub mod Distances
+pub mod Printed
 pub mod Reading

@@ -6,11 +6,19 @@ use Rattle.dmr_compare.specs.Slots.{ListedSlot}
 use Rattle.dmr_compare.specs.declared.counts.Counts.{Counts}
 use Rattle.dmr_compare.specs.declared.settings.Ignored.{Ignored}
 
+-- how many places that both lists have are the same
+abbrev pub same_places : Ignored → (firsts seconds : List ListedSlot) → ℕ
+same_places ignored firsts seconds = count_by (λ place. is_same ignored place.0 place.1) (zip firsts seconds)
+
+-- how many places that both lists have differ
+abbrev pub different_places : Ignored → (firsts seconds : List ListedSlot) → ℕ
+different_places ignored firsts seconds = count_by (λ place. not (is_same ignored place.0 place.1)) (zip firsts seconds)
+
 -- The counts are those of two lists of slots: how many places that both have are the same and differ, and how many slots each of
 -- them has behind the end of the other one.
 pub record IsCounted (ignored : Ignored) (firsts seconds : List ListedSlot) (counts : Counts) : Type 0 where
-  pub same : counts.same ≡ count_by (λ place. is_same ignored place.0 place.1) (zip firsts seconds)
-  pub different : counts.different ≡ count_by (λ place. not (is_same ignored place.0 place.1)) (zip firsts seconds)
+  pub same : counts.same ≡ same_places ignored firsts seconds
+  pub different : counts.different ≡ different_places ignored firsts seconds
   pub only_in_first : counts.only_in_first ≡ length firsts - length seconds
   pub only_in_second : counts.only_in_second ≡ length seconds - length firsts
 

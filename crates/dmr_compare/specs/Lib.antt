@@ -1,4 +1,6 @@
+pub mod Comparing
 pub mod Counting
+pub mod Files
 pub mod Kept
 pub mod Printed
 pub mod Reading

@@ -1,15 +1,18 @@
 //! Two recordings, compared slot by slot.
 #![tactic(auto)]
 
+mod comparing;
 mod counts;
 mod difference;
 mod differing;
+mod heads;
 mod listed;
 mod printing;
 mod reader;
 mod settings;
 mod status;
 mod taking;
+mod trouble;
 
 pub use counts::Counts;
 pub use differing::Differing;

@@ -1,0 +1,345 @@
+-- Two readers stand beside each other, slot by slot.
+use Rattle.std.proofs.Common.{◌≡◌, ℕ, ◌+◌, ◌*◌, ◌≤◌, Bool, true, false, not, List, [], ◌∷◌, ◌++◌, length, drop, Option, Some, None, IfSome}
+use Rattle.std.proofs.Common.{if◌then◌else◌, IfNone, refl, sym, ap, ◌∙◌, subst, arith, append-nil, length-append}
+use Rattle.std.proofs.lemmas.List.{drop_all}
+use Rattle.std.specs.List.{count_by}
+use Rattle.dmr_listing.proofs.Listings.{most_few}
+use Rattle.dmr_listing.specs.ListingRules.{IsReadUpToFault}
+use Rattle.dmr_recording.specs.declared.fault_line.FaultLine.{FaultLine}
+use Rattle.dmr_recording.specs.declared.recording.Recording.{Recording}
+use Rattle.dmr_compare.proofs.Counting.{IsFound, counted_next, dropped_found, zip_first}
+use Rattle.dmr_compare.proofs.Printed.{lines_more, put_then}
+use Rattle.dmr_compare.specs.Comparing.{AreRestsCompared, IsFirstAtFault, IsSecondAtFault, StandBeside, compared_of_first}
+use Rattle.dmr_compare.specs.Comparing.{compared_of_second}
+use Rattle.dmr_compare.specs.Counting.{IsCounted, different_places}
+use Rattle.dmr_compare.specs.Kept.{is_same}
+use Rattle.dmr_compare.specs.Printed.{PutsLines, lines_of_differences}
+use Rattle.dmr_compare.specs.Reading.{AreSlotsRead, HasRead, found_slot}
+use Rattle.dmr_compare.specs.Shifts.{slots_in_front_of_first, slots_in_front_of_second}
+use Rattle.dmr_compare.specs.Slots.{ListedSlot, lines_of, slots_of}
+use Rattle.dmr_compare.specs.Taking.{HasRoom, counted_found, lines_of_found}
+use Rattle.dmr_compare.specs.declared.counts.Counts.{Counts}
+use Rattle.dmr_compare.specs.declared.reader.Reader.{Reader}
+use Rattle.dmr_compare.specs.declared.settings.Ignored.{Ignored}
+use Rattle.dmr_compare.specs.declared.settings.Settings.{Settings}
+
+-- 1. A reader's step.
+
+-- A reader took a step: it found something where it wasn't and isn't over, and nothing where it is over now.
+pub record IsStep (old new : Reader) (found : Option ListedSlot) : Type 0 where
+  pub some : IfSome found (λ slot. (old.is_over ≡ false) × (new.is_over ≡ false))
+  pub none : IfNone found (new.is_over ≡ true)
+
+-- what was found came where the reader wasn't over
+pub was_going : (old new : Reader) (found : Option ListedSlot) → IsStep old new found → IsFound found → old.is_over ≡ false
+was_going old new None step f = absurd f
+was_going old new (Some slot) step f = step.some.0
+
+-- where a reader isn't over, something was found
+pub is_found : (old new : Reader) (found : Option ListedSlot) → IsStep old new found → new.is_over ≡ false → IsFound found
+is_found old new None step going = absurd (grind (arith, step.none, going))
+is_found old new (Some slot) step going = tt
+
+-- how much was found: at most one, and one where there is something
+pub one_found : (found : Option ListedSlot) → IsFound found → length (found_slot found) ≡ 1
+one_found None f = absurd f
+one_found (Some slot) f = refl
+
+pub one_at_most : (found : Option ListedSlot) → length (found_slot found) ≤ 1
+one_at_most None = omega arith
+one_at_most (Some slot) = omega arith
+
+-- 2. What is counted of a step is at most what was found.
+
+pub few_places : (ignored : Ignored) (first second : Option ListedSlot) (counts : Counts)
+    → (counted_found ignored first second counts).same + (counted_found ignored first second counts).different
+    ≤ counts.same + counts.different + length (found_slot first)
+few_places ignored (Some x) (Some y) counts = either (is_same ignored x y) counts.same counts.different
+  where
+    either : (b : Bool) (m n : ℕ) → (if b then m + 1 else m) + (if b then n else n + 1) ≤ m + n + 1
+    either true m n = omega arith
+    either false m n = omega arith
+few_places ignored (Some x) None counts = omega arith
+few_places ignored None (Some y) counts = omega arith
+few_places ignored None None counts = omega arith
+
+pub few_firsts : (ignored : Ignored) (first second : Option ListedSlot) (counts : Counts)
+    → (counted_found ignored first second counts).only_in_first ≤ counts.only_in_first + length (found_slot first)
+few_firsts ignored (Some x) (Some y) counts = omega arith
+few_firsts ignored (Some x) None counts = omega arith
+few_firsts ignored None (Some y) counts = omega arith
+few_firsts ignored None None counts = omega arith
+
+pub few_seconds : (ignored : Ignored) (first second : Option ListedSlot) (counts : Counts)
+    → (counted_found ignored first second counts).only_in_second ≤ counts.only_in_second + length (found_slot second)
+few_seconds ignored (Some x) (Some y) counts = omega arith
+few_seconds ignored (Some x) None counts = omega arith
+few_seconds ignored None (Some y) counts = omega arith
+few_seconds ignored None None counts = omega arith
+
+-- 3. A step of both.
+
+-- two readers that stood beside each other do so behind a step of both
+pub beside_next : (settings : Settings) (one one' other other' : Reader) (counts : Counts) (firsts seconds : List ListedSlot)
+    (first second : Option ListedSlot) (a b b' c d d' h i i' : Option (List ℕ))
+    → StandBeside settings one other counts firsts seconds a b c d h i
+    → HasRead one' (firsts ++ found_slot first) a b' → HasRead other' (seconds ++ found_slot second) c d'
+    → IsStep one one' first → IsStep other other' second → PutsLines (lines_of_found settings first second) i i'
+    → StandBeside settings one' other' (counted_found settings.ignored first second counts) (firsts ++ found_slot first)
+    (seconds ++ found_slot second) a b' c d' h i'
+beside_next settings one one' other other' counts firsts seconds first second a b b' c d d' h i i' stood read read' step step' put =
+    let m = slots_in_front_of_first settings.shift in
+    let n = slots_in_front_of_second settings.shift in
+    let e : drop m (firsts ++ found_slot first) ≡ drop m firsts ++ found_slot first =
+    dropped_found m firsts first (λ f. stood.first_front (was_going one one' first step f)) in
+    let e' : drop n (seconds ++ found_slot second) ≡ drop n seconds ++ found_slot second =
+    dropped_found n seconds second (λ f. stood.second_front (was_going other other' second step' f)) in
+    let long = length-append firsts (found_slot first) in
+    let long' = length-append seconds (found_slot second) in
+    let cut : length (drop m (firsts ++ found_slot first)) ≡ length (drop m firsts) + length (found_slot first) =
+    ap length e ∙ length-append (drop m firsts) (found_slot first) in
+    let cut' : length (drop n (seconds ++ found_slot second)) ≡ length (drop n seconds) + length (found_slot second) =
+    ap length e' ∙ length-append (drop n seconds) (found_slot second) in
+    let counted : IsCounted settings.ignored (drop m (firsts ++ found_slot first)) (drop n (seconds ++ found_slot second))
+    (counted_found settings.ignored first second counts) =
+    subst (λ (xs : List ListedSlot). IsCounted settings.ignored xs (drop n (seconds ++ found_slot second))
+    (counted_found settings.ignored first second counts)) (sym e)
+    (subst (λ (ys : List ListedSlot). IsCounted settings.ignored (drop m firsts ++ found_slot first) ys
+    (counted_found settings.ignored first second counts)) (sym e')
+    (counted_next settings.ignored (drop m firsts) (drop n seconds) first second counts
+    (λ f. stood.first_beside (was_going one one' first step f)) (λ f. stood.second_beside (was_going other other' second step' f))
+    stood.compared.counted)) in
+    let before : PutsLines (lines_of_differences settings.is_quiet counts.different) h i =
+    subst (λ k. PutsLines (lines_of_differences settings.is_quiet k) h i) (sym stood.compared.counted.different)
+    stood.compared.put in
+    let behind : PutsLines (lines_of_differences settings.is_quiet (counted_found settings.ignored first second counts).different) h i' =
+    subst (λ k. PutsLines k h i') (lines_more settings first second counts) (put_then _ _ h i i' before put) in
+    let count : one.view.slots ≡ length firsts = stood.first_read.count in
+    let count' : other.view.slots ≡ length seconds = stood.second_read.count in
+    let now : one'.view.slots ≡ length (firsts ++ found_slot first) = read.count in
+    let now' : other'.view.slots ≡ length (seconds ++ found_slot second) = read'.count in
+    record {
+      first_read = read;
+      second_read = read';
+      first_front = λ going.
+          let f = is_found one one' first step going in
+          let before = stood.first_front (was_going one one' first step f) in
+          omega (arith, before, long);
+      second_front = λ going.
+          let f = is_found other other' second step' going in
+          let before = stood.second_front (was_going other other' second step' f) in
+          omega (arith, before, long');
+      first_beside = λ going.
+          let f = is_found one one' first step going in
+          let before = stood.first_beside (was_going one one' first step f) in
+          omega (arith, before, cut, cut', one_found first f, one_at_most second);
+      second_beside = λ going.
+          let f = is_found other other' second step' going in
+          let before = stood.second_beside (was_going other other' second step' f) in
+          omega (arith, before, cut, cut', one_found second f, one_at_most first);
+      compared = record {
+        counted = counted;
+        put = subst (λ k. PutsLines (lines_of_differences settings.is_quiet k) h i') counted.different behind;
+      };
+      few_both = omega (arith, stood.few_both, few_places settings.ignored first second counts, long, count, now);
+      few_first = omega (arith, stood.few_first, few_firsts settings.ignored first second counts, long, count, now);
+      few_second = omega (arith, stood.few_second, few_seconds settings.ignored first second counts, long', count', now');
+    }
+
+-- 4. The begin.
+
+-- where nothing stands behind the slots in front of one list, there are no pairs, so no difference
+pub none_of_first : (ignored : Ignored) (m : ℕ) (firsts ys : List ListedSlot) → length firsts ≤ m
+    → different_places ignored (drop m firsts) ys ≡ 0
+none_of_first ignored m firsts ys short =
+    let none : drop m firsts ≡ [] = drop_all m firsts short in
+    ap (λ (xs : List ListedSlot). different_places ignored xs ys) none
+
+pub none_of_second : (ignored : Ignored) (n : ℕ) (xs seconds : List ListedSlot) → length seconds ≤ n
+    → different_places ignored xs (drop n seconds) ≡ 0
+none_of_second ignored n xs seconds short =
+    let none : drop n seconds ≡ [] = drop_all n seconds short in
+    ap (λ (ys : List ListedSlot). different_places ignored xs ys) none ∙ no_pairs xs
+  where
+    no_pairs : (xs : List ListedSlot) → different_places ignored xs [] ≡ 0
+    no_pairs [] = refl
+    no_pairs (x ∷ xs) = refl
+
+-- no difference has no lines
+pub no_lines : (is_quiet : Bool) (n : ℕ) (h : Option (List ℕ)) → n ≡ 0 → PutsLines (lines_of_differences is_quiet n) h h
+no_lines true n h e = refl
+no_lines false n h e = subst (λ k. PutsLines (2 * k) h h) (sym e) refl
+
+-- what a reader of a recording has read
+pub read_by : (reader : Reader) (recording : Recording) (slots : List ListedSlot) (a b : Option (List ℕ))
+    → reader.recording ≡ recording → HasRead reader slots a b → AreSlotsRead recording slots reader.view a b
+read_by reader recording slots a b e h = subst (λ (r : Recording). AreSlotsRead r slots reader.view a b) e h.read
+
+-- what a reader of a recording has read up to a fault
+pub fault_by : (reader : Reader) (recording : Recording) (slots : List ListedSlot) (fault : FaultLine) (a b : Option (List ℕ))
+    → reader.recording ≡ recording → IsReadUpToFault reader.recording (slots_of slots) (lines_of slots) fault a b
+    → IsReadUpToFault recording (slots_of slots) (lines_of slots) fault a b
+fault_by reader recording slots fault a b e h =
+    subst (λ (r : Recording). IsReadUpToFault r (slots_of slots) (lines_of slots) fault a b) e h
+
+-- the first is at fault among the slots in front
+pub fault_before_first : (settings : Settings) (one other : Reader) (recording : Recording) (firsts : List ListedSlot)
+    (fault : FaultLine) (a b c h : Option (List ℕ)) → length firsts ≤ slots_in_front_of_first settings.shift
+    → one.recording ≡ recording → other.recording ≡ recording
+    → IsReadUpToFault one.recording (slots_of firsts) (lines_of firsts) fault a b → HasRead other [] c c
+    → IsFirstAtFault settings recording fault a b c c h h
+fault_before_first settings one other recording firsts fault a b c h short e e' read read' = record {
+  firsts = firsts;
+  seconds = [];
+  turn = other.view;
+  first_read = fault_by one recording firsts fault a b e read;
+  second_read = read_by other recording [] c c e' read';
+  put = no_lines settings.is_quiet _ h
+      (none_of_first settings.ignored (slots_in_front_of_first settings.shift) firsts (compared_of_second settings.shift []) short);
+}
+
+-- the second is
+pub fault_before_second : (settings : Settings) (one other : Reader) (recording : Recording) (firsts seconds : List ListedSlot)
+    (fault : FaultLine) (a b c d h : Option (List ℕ)) → length seconds ≤ slots_in_front_of_second settings.shift
+    → one.recording ≡ recording → other.recording ≡ recording
+    → HasRead one firsts a b → IsReadUpToFault other.recording (slots_of seconds) (lines_of seconds) fault c d
+    → IsSecondAtFault settings recording fault a b c d h h
+fault_before_second settings one other recording firsts seconds fault a b c d h short e e' read read' = record {
+  firsts = firsts;
+  seconds = seconds;
+  turn = one.view;
+  first_read = read_by one recording firsts a b e read;
+  second_read = fault_by other recording seconds fault c d e' read';
+  put = no_lines settings.is_quiet _ h
+      (none_of_second settings.ignored (slots_in_front_of_second settings.shift) (compared_of_first settings.shift firsts) seconds
+      short);
+}
+
+-- nothing is counted of nothing
+pub counted_none : (ignored : Ignored) (xs ys : List ListedSlot) (counts : Counts) → xs ≡ [] → ys ≡ [] → counts.same ≡ 0
+    → counts.different ≡ 0 → counts.only_in_first ≡ 0 → counts.only_in_second ≡ 0 → IsCounted ignored xs ys counts
+counted_none ignored xs ys counts e e' same different first second =
+    subst (λ (l : List ListedSlot). IsCounted ignored l ys counts) (sym e)
+    (subst (λ (l : List ListedSlot). IsCounted ignored [] l counts) (sym e')
+    (record { same = same; different = different; only_in_first = first; only_in_second = second }))
+
+-- two readers behind the slots in front stand beside each other
+pub beside_begun : (settings : Settings) (one other : Reader) (counts : Counts) (firsts seconds : List ListedSlot)
+    (a b c d h : Option (List ℕ)) → HasRead one firsts a b → HasRead other seconds c d
+    → length firsts ≤ slots_in_front_of_first settings.shift → length seconds ≤ slots_in_front_of_second settings.shift
+    → (one.is_over ≡ false → length firsts ≡ slots_in_front_of_first settings.shift)
+    → (other.is_over ≡ false → length seconds ≡ slots_in_front_of_second settings.shift)
+    → counts.same ≡ 0 → counts.different ≡ 0 → counts.only_in_first ≡ 0 → counts.only_in_second ≡ 0
+    → StandBeside settings one other counts firsts seconds a b c d h h
+beside_begun settings one other counts firsts seconds a b c d h read read' short short' whole whole' same different first second =
+    let m = slots_in_front_of_first settings.shift in
+    let n = slots_in_front_of_second settings.shift in
+    let none : drop m firsts ≡ [] = drop_all m firsts short in
+    let none' : drop n seconds ≡ [] = drop_all n seconds short' in
+    let empty : length (drop m firsts) ≡ 0 = ap length none in
+    let empty' : length (drop n seconds) ≡ 0 = ap length none' in
+    record {
+      first_read = read;
+      second_read = read';
+      first_front = λ going. (let e = whole going in omega (arith, e));
+      second_front = λ going. (let e = whole' going in omega (arith, e));
+      first_beside = λ going. omega (arith, empty, empty');
+      second_beside = λ going. omega (arith, empty, empty');
+      compared = record {
+        counted = counted_none settings.ignored (drop m firsts) (drop n seconds) counts none none' same different first second;
+        put = no_lines settings.is_quiet _ h (none_of_first settings.ignored m firsts (drop n seconds) short);
+      };
+      few_both = omega (arith, same, different);
+      few_first = omega (arith, first);
+      few_second = omega (arith, second);
+    }
+
+-- 5. The end.
+
+-- the first is at fault behind slots that were compared
+pub fault_of_first : (settings : Settings) (one other : Reader) (recording : Recording) (counts : Counts)
+    (firsts seconds : List ListedSlot) (fault : FaultLine) (a b b' c d h i : Option (List ℕ))
+    → StandBeside settings one other counts firsts seconds a b c d h i → one.recording ≡ recording → other.recording ≡ recording
+    → IsReadUpToFault one.recording (slots_of firsts) (lines_of firsts) fault a b'
+    → IsFirstAtFault settings recording fault a b' c d h i
+fault_of_first settings one other recording counts firsts seconds fault a b b' c d h i stood e e' read = record {
+  firsts = firsts;
+  seconds = seconds;
+  turn = other.view;
+  first_read = fault_by one recording firsts fault a b' e read;
+  second_read = read_by other recording seconds c d e' stood.second_read;
+  put = stood.compared.put;
+}
+
+-- what was found of the first alone makes no difference
+pub alone_no_difference : (ignored : Ignored) (m : ℕ) (firsts ys : List ListedSlot) (found : Option ListedSlot)
+    → (IsFound found → m ≤ length firsts) → (IsFound found → length ys ≤ length (drop m firsts))
+    → different_places ignored (drop m (firsts ++ found_slot found)) ys ≡ different_places ignored (drop m firsts) ys
+alone_no_difference ignored m firsts ys None front beside =
+    ap (λ (l : List ListedSlot). different_places ignored (drop m l) ys) (append-nil firsts)
+alone_no_difference ignored m firsts ys (Some slot) front beside =
+    ap (λ (l : List ListedSlot). different_places ignored l ys) (dropped_found m firsts (Some slot) front)
+    ∙ ap (λ (l : List (ListedSlot × ListedSlot)). count_by (λ (place : ListedSlot × ListedSlot).
+    not (is_same ignored place.0 place.1)) l) (zip_first (drop m firsts) ys slot (beside tt))
+
+-- the second is at fault behind slots that were compared, and perhaps one more of the first
+pub fault_of_second : (settings : Settings) (one one' other : Reader) (recording : Recording) (counts : Counts)
+    (firsts seconds : List ListedSlot) (found : Option ListedSlot) (fault : FaultLine) (a b b' c d d' h i : Option (List ℕ))
+    → StandBeside settings one other counts firsts seconds a b c d h i → one'.recording ≡ recording → other.recording ≡ recording
+    → HasRead one' (firsts ++ found_slot found) a b' → IsStep one one' found
+    → IsReadUpToFault other.recording (slots_of seconds) (lines_of seconds) fault c d'
+    → IsSecondAtFault settings recording fault a b' c d' h i
+fault_of_second settings one one' other recording counts firsts seconds found fault a b b' c d d' h i stood e e' read step read' =
+    let m = slots_in_front_of_first settings.shift in
+    let n = slots_in_front_of_second settings.shift in
+    record {
+      firsts = firsts ++ found_slot found;
+      seconds = seconds;
+      turn = one'.view;
+      first_read = read_by one' recording (firsts ++ found_slot found) a b' e read;
+      second_read = fault_by other recording seconds fault c d' e' read';
+      put = subst (λ k. PutsLines (lines_of_differences settings.is_quiet k) h i)
+          (sym (alone_no_difference settings.ignored m firsts (drop n seconds) found
+          (λ f. stood.first_front (was_going one one' found step f))
+          (λ f. stood.first_beside (was_going one one' found step f))))
+          stood.compared.put;
+    }
+
+-- both are read to their ends
+pub whole_compared : (settings : Settings) (one one' other other' : Reader) (recording : Recording) (counts : Counts)
+    (firsts seconds : List ListedSlot) (first second : Option ListedSlot) (a b b' c d d' h i : Option (List ℕ))
+    → StandBeside settings one other counts firsts seconds a b c d h i → one'.recording ≡ recording → other'.recording ≡ recording
+    → HasRead one' (firsts ++ found_slot first) a b' → HasRead other' (seconds ++ found_slot second) c d'
+    → IsStep one one' first → IsStep other other' second → first ≡ None → second ≡ None
+    → AreRestsCompared settings recording firsts seconds counts a b' c d' h i
+whole_compared settings one one' other other' recording counts firsts seconds None None a b b' c d d' h i stood e e' read read' step
+    step' none none' = record {
+      first_turn = one'.view;
+      second_turn = other'.view;
+      first_read = subst (λ (l : List ListedSlot). AreSlotsRead recording l one'.view a b') (append-nil firsts)
+          (read_by one' recording (firsts ++ []) a b' e read);
+      second_read = subst (λ (l : List ListedSlot). AreSlotsRead recording l other'.view c d') (append-nil seconds)
+          (read_by other' recording (seconds ++ []) c d' e' read');
+      first_end = read.over step.none;
+      second_end = read'.over step'.none;
+      compared = stood.compared;
+    }
+whole_compared settings one one' other other' recording counts firsts seconds (Some x) second a b b' c d d' h i stood e e' read read'
+    step step' none none' = absurd (grind (arith, none))
+whole_compared settings one one' other other' recording counts firsts seconds None (Some y) a b b' c d d' h i stood e e' read read'
+    step step' none none' = absurd (grind (arith, none'))
+
+-- there is room for one more of each kind
+pub has_room : (settings : Settings) (one other : Reader) (counts : Counts) (firsts seconds : List ListedSlot)
+    (a b c d h i : Option (List ℕ)) → StandBeside settings one other counts firsts seconds a b c d h i → HasRoom counts
+has_room settings one other counts firsts seconds a b c d h i stood =
+    let few = stood.first_read.few in
+    let few' = stood.second_read.few in
+    let most = most_few one.recording in
+    let most' = most_few other.recording in
+    record {
+      same = omega (arith, stood.few_both, few, most);
+      different = omega (arith, stood.few_both, few, most);
+      only_in_first = omega (arith, stood.few_first, few, most);
+      only_in_second = omega (arith, stood.few_second, few', most');
+    }
