@@ -1,5 +1,5 @@
 -- Distances of lists of bits.
-use Rattle.std.proofs.Common.{◌≡◌, ◌+◌, Bool, true, false, List, [], ◌∷◌, refl, sym, ap, ◌∙◌, arith}
+use Rattle.std.proofs.Common.{◌≡◌, Bool, true, false, List, [], ◌∷◌, refl, sym, ap, ◌∙◌, arith}
 use Rattle.dmr_bits.proofs.Lists.{distance-cons}
 use Rattle.dmr_bits.specs.Bits.{distance}
 

@@ -1,5 +1,5 @@
 -- Lines behind lines.
-use Rattle.std.proofs.Common.{◌≡◌, ℕ, ◌+◌, ◌*◌, ◌||◌, Bool, true, false, if◌then◌else◌, zero, suc, List, Option, Some, None, refl, sym, ap, ◌∙◌, subst, arith}
+use Rattle.std.proofs.Common.{◌≡◌, ℕ, ◌+◌, Bool, true, false, if◌then◌else◌, zero, suc, List, Option, Some, None, sym, subst, arith}
 use Rattle.dmr_compare.specs.Kept.{is_same}
 use Rattle.dmr_compare.specs.Printed.{PutsLines, lines_of_differences, lines_of_place}
 use Rattle.dmr_compare.specs.Slots.{ListedSlot}

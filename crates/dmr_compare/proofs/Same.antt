@@ -1,7 +1,7 @@
 -- Slots are the same exactly where what isn't ignored of them is.
-use Rattle.std.proofs.Common.{◌≡◌, ◌↔◌, ℕ, ◌+◌, ◌*◌, ◌==◌, ◌&&◌, Bool, true, false, not, cond, List, [], ◌∷◌, Option, Some, None}
+use Rattle.std.proofs.Common.{◌≡◌, ℕ, ◌+◌, ◌*◌, ◌==◌, ◌&&◌, Bool, true, false, not, cond, List, [], ◌∷◌, Option, Some, None}
 use Rattle.std.proofs.Common.{if◌then◌else◌, length, map, drop, zero, suc, refl, sym, ap, ◌∙◌, subst, arith}
-use Rattle.std.specs.List.{AllByRecursion, count_by, zip}
+use Rattle.std.specs.List.{AllByRecursion, zip}
 use Rattle.std.proofs.lemmas.Bool.{and_parts, eqb-true}
 use Rattle.std.proofs.lemmas.List.Sums.{sum_by-cons}
 use Rattle.dmr_bits.proofs.Lists.{distance_zero}
@@ -12,7 +12,7 @@ use Rattle.dmr_compare.proofs.Distances.{of_equals}
 use Rattle.dmr_compare.proofs.Voice.{clash}
 use Rattle.dmr_compare.specs.Counting.{different_places}
 use Rattle.dmr_compare.specs.Kept.{KeptBurst, cach_bits, compared_bits, compared_cach, differing_in_burst, differing_in_cach, is_same}
-use Rattle.dmr_compare.specs.Kept.{is_voice, kept, kept_burst}
+use Rattle.dmr_compare.specs.Kept.{is_voice, kept}
 use Rattle.dmr_compare.specs.Slots.{ListedSlot, lines_of, slots_of}
 use Rattle.dmr_compare.specs.declared.listed.ListedBurst.{ListedBurst}
 use Rattle.dmr_compare.specs.declared.settings.Ignored.{Ignored}

@@ -1,8 +1,7 @@
 -- A burst is a voice burst, or it isn't one, whatever it is read as.
-use Rattle.std.proofs.Common.{◌≡◌, ℕ, ◌≤◌, Bool, true, false, List, [], ◌∷◌, Option, Some, None, length, sym, ap, ◌∙◌, arith, find}
+use Rattle.std.proofs.Common.{◌≡◌, Bool, true, false, List, Option, Some, None, length, sym, ap, ◌∙◌, arith}
 use Rattle.dmr_bits.proofs.Parts.{length-part}
-use Rattle.dmr_bits.specs.Bits.{part}
-use Rattle.dmr_burst.proofs.Syncs.{first_is, sync_of}
+use Rattle.dmr_burst.proofs.Syncs.{first_is}
 use Rattle.dmr_burst.specs.Layout.{sync_field}
 use Rattle.dmr_burst.specs.Sync.{HasSync}
 use Rattle.dmr_burst.specs.declared.sync.Side.{Side}

@@ -1,7 +1,6 @@
 -- Two files, compared head and all.
-use Rattle.std.specs.Prelude.{◌≡◌, ◌≢◌, ◌+◌, ◌↔◌, ◌⊎◌, ℕ, Bool, List, Option, None, map}
-use Rattle.std.specs.Io.KnownBytes.{Appends, Consumes, IsAtEnd}
-use Rattle.dmr_lines.specs.Line.{PutsError}
+use Rattle.std.specs.Prelude.{◌≡◌, ◌≢◌, ◌↔◌, ◌⊎◌, ℕ, List, Option, None, map}
+use Rattle.std.specs.Io.KnownBytes.{Appends, Consumes}
 use Rattle.dmr_record.specs.Head.{ShowsAnyHeadFault, head_octets, magic_of}
 use Rattle.dmr_record.specs.declared.head.FileFormat.{FileFormat}
 use Rattle.dmr_record.specs.declared.head.FileFormat.TheVariants as format

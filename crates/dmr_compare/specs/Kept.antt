@@ -1,5 +1,5 @@
 -- What is compared of a slot, and when two slots are the same.
-use Rattle.std.specs.Prelude.{◌≡◌, ◌==◌, ◌&&◌, ℕ, Bool, true, false, List, [], Option, Some, None, if◌then◌else◌, map}
+use Rattle.std.specs.Prelude.{◌==◌, ◌&&◌, ℕ, Bool, true, false, List, [], Option, Some, None, if◌then◌else◌}
 use Rattle.dmr_bits.specs.Bits.{bits_of_octets, distance, part}
 use Rattle.dmr_reading.specs.declared.reading.Reading.{Reading}
 use Rattle.dmr_reading.specs.declared.reading.Reading.TheVariants.{VoiceSync, Voice}

@@ -1,4 +1,4 @@
-use Rattle.std.proofs.Common.{rules, ◌≡◌, ◌≤◌, ◌++◌, List, None, Option, length, sym, ap, ◌∙◌, subst, arith}
+use Rattle.std.proofs.Common.{rules, ◌≡◌, ◌++◌, None, sym, ◌∙◌, subst, arith}
 use Rattle.dmr_compare.proofs.Beside.{IsStep, beside_begun, beside_next, fault_before_first, fault_before_second, fault_of_first}
 use Rattle.dmr_compare.proofs.Beside.{fault_of_second, has_room, whole_compared}
 use Rattle.dmr_compare.specs.Comparing.{StandBeside}
