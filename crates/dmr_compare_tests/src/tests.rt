@@ -23,6 +23,7 @@ const NAMES: Names<'static> = Names {
 };
 
 /// What a comparison ends with: its status, what it prints, and what it tells.
+#[derive(Drop)]
 struct Wanted<'a> {
     status: u8,
     out: &'a str,
