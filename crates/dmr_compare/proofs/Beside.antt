@@ -2,22 +2,22 @@
 use Rattle.std.proofs.Common.{◌≡◌, ℕ, ◌+◌, ◌*◌, ◌≤◌, Bool, true, false, not, List, [], ◌∷◌, ◌++◌, length, drop, Option, Some, None, IfSome}
 use Rattle.std.proofs.Common.{if◌then◌else◌, IfNone, refl, sym, ap, ◌∙◌, subst, arith, append-nil, length-append}
 use Rattle.std.proofs.lemmas.List.{drop_all}
-use Rattle.std.specs.List.{count_by}
+use Rattle.std.specs.List.{zip}
 use Rattle.dmr_listing.proofs.Listings.{most_few}
 use Rattle.dmr_listing.specs.ListingRules.{IsReadUpToFault}
 use Rattle.dmr_recording.specs.declared.fault_line.FaultLine.{FaultLine}
 use Rattle.dmr_recording.specs.declared.recording.Recording.{Recording}
 use Rattle.dmr_compare.proofs.Counting.{IsFound, counted_next, dropped_found, zip_first}
-use Rattle.dmr_compare.proofs.Printed.{lines_more, put_then}
+use Rattle.dmr_compare.proofs.Printed.{put_next}
 use Rattle.dmr_compare.specs.Comparing.{AreRestsCompared, IsFirstAtFault, IsSecondAtFault, StandBeside, compared_of_first}
 use Rattle.dmr_compare.specs.Comparing.{compared_of_second}
-use Rattle.dmr_compare.specs.Counting.{IsCounted, different_places}
+use Rattle.dmr_compare.specs.Counting.{IsCounted}
 use Rattle.dmr_compare.specs.Kept.{is_same}
-use Rattle.dmr_compare.specs.Printed.{PutsLines, lines_of_differences}
+use Rattle.dmr_compare.specs.Printed.{PutsPlaces}
 use Rattle.dmr_compare.specs.Reading.{AreSlotsRead, HasRead, found_slot}
 use Rattle.dmr_compare.specs.Shifts.{slots_in_front_of_first, slots_in_front_of_second}
 use Rattle.dmr_compare.specs.Slots.{ListedSlot, lines_of, slots_of}
-use Rattle.dmr_compare.specs.Taking.{HasRoom, counted_found, lines_of_found}
+use Rattle.dmr_compare.specs.Taking.{HasRoom, PutsFound, counted_found}
 use Rattle.dmr_compare.specs.declared.counts.Counts.{Counts}
 use Rattle.dmr_compare.specs.declared.reader.Reader.{Reader}
 use Rattle.dmr_compare.specs.declared.settings.Ignored.{Ignored}
@@ -84,7 +84,7 @@ pub beside_next : (settings : Settings) (one one' other other' : Reader) (counts
     (first second : Option ListedSlot) (a b b' c d d' h i i' : Option (List ℕ))
     → StandBeside settings one other counts firsts seconds a b c d h i
     → HasRead one' (firsts ++ found_slot first) a b' → HasRead other' (seconds ++ found_slot second) c d'
-    → IsStep one one' first → IsStep other other' second → PutsLines (lines_of_found settings first second) i i'
+    → IsStep one one' first → IsStep other other' second → PutsFound settings first second i i'
     → StandBeside settings one' other' (counted_found settings.ignored first second counts) (firsts ++ found_slot first)
     (seconds ++ found_slot second) a b' c d' h i'
 beside_next settings one one' other other' counts firsts seconds first second a b b' c d d' h i i' stood read read' step step' put =
@@ -109,11 +109,12 @@ beside_next settings one one' other other' counts firsts seconds first second a 
     (counted_next settings.ignored (drop m firsts) (drop n seconds) first second counts
     (λ f. stood.first_beside (was_going one one' first step f)) (λ f. stood.second_beside (was_going other other' second step' f))
     stood.compared.counted)) in
-    let before : PutsLines (lines_of_differences settings.is_quiet counts.different) h i =
-    subst (λ k. PutsLines (lines_of_differences settings.is_quiet k) h i) (sym stood.compared.counted.different)
-    stood.compared.put in
-    let behind : PutsLines (lines_of_differences settings.is_quiet (counted_found settings.ignored first second counts).different) h i' =
-    subst (λ k. PutsLines k h i') (lines_more settings first second counts) (put_then _ _ h i i' before put) in
+    let put_all : PutsPlaces settings (zip (drop m (firsts ++ found_slot first)) (drop n (seconds ++ found_slot second))) h i' =
+    subst (λ (xs : List ListedSlot). PutsPlaces settings (zip xs (drop n (seconds ++ found_slot second))) h i') (sym e)
+    (subst (λ (ys : List ListedSlot). PutsPlaces settings (zip (drop m firsts ++ found_slot first) ys) h i') (sym e')
+    (put_next settings (drop m firsts) (drop n seconds) first second h i i'
+    (λ f. stood.first_beside (was_going one one' first step f)) (λ f. stood.second_beside (was_going other other' second step' f))
+    stood.compared.put put)) in
     let count : one.view.slots ≡ length firsts = stood.first_read.count in
     let count' : other.view.slots ≡ length seconds = stood.second_read.count in
     let now : one'.view.slots ≡ length (firsts ++ found_slot first) = read.count in
@@ -137,10 +138,7 @@ beside_next settings one one' other other' counts firsts seconds first second a 
           let f = is_found other other' second step' going in
           let before = stood.second_beside (was_going other other' second step' f) in
           omega (arith, before, cut, cut', one_found second f, one_at_most first);
-      compared = record {
-        counted = counted;
-        put = subst (λ k. PutsLines (lines_of_differences settings.is_quiet k) h i') counted.different behind;
-      };
+      compared = record { counted = counted; put = put_all };
       few_both = omega (arith, stood.few_both, few_places settings.ignored first second counts, long, count, now);
       few_first = omega (arith, stood.few_first, few_firsts settings.ignored first second counts, long, count, now);
       few_second = omega (arith, stood.few_second, few_seconds settings.ignored first second counts, long', count', now');
@@ -148,27 +146,20 @@ beside_next settings one one' other other' counts firsts seconds first second a 
 
 -- 4. The begin.
 
--- where nothing stands behind the slots in front of one list, there are no pairs, so no difference
-pub none_of_first : (ignored : Ignored) (m : ℕ) (firsts ys : List ListedSlot) → length firsts ≤ m
-    → different_places ignored (drop m firsts) ys ≡ 0
-none_of_first ignored m firsts ys short =
-    let none : drop m firsts ≡ [] = drop_all m firsts short in
-    ap (λ (xs : List ListedSlot). different_places ignored xs ys) none
+-- where nothing stands behind the slots in front of one list, there are no places, and no lines
+pub none_of_first : (settings : Settings) (m : ℕ) (firsts ys : List ListedSlot) (h : Option (List ℕ)) → length firsts ≤ m
+    → PutsPlaces settings (zip (drop m firsts) ys) h h
+none_of_first settings m firsts ys h short =
+    subst (λ (xs : List ListedSlot). PutsPlaces settings (zip xs ys) h h) (sym (drop_all m firsts short)) refl
 
-pub none_of_second : (ignored : Ignored) (n : ℕ) (xs seconds : List ListedSlot) → length seconds ≤ n
-    → different_places ignored xs (drop n seconds) ≡ 0
-none_of_second ignored n xs seconds short =
-    let none : drop n seconds ≡ [] = drop_all n seconds short in
-    ap (λ (ys : List ListedSlot). different_places ignored xs ys) none ∙ no_pairs xs
+pub none_of_second : (settings : Settings) (n : ℕ) (xs seconds : List ListedSlot) (h : Option (List ℕ)) → length seconds ≤ n
+    → PutsPlaces settings (zip xs (drop n seconds)) h h
+none_of_second settings n xs seconds h short =
+    subst (λ (ys : List ListedSlot). PutsPlaces settings (zip xs ys) h h) (sym (drop_all n seconds short)) (no_places xs)
   where
-    no_pairs : (xs : List ListedSlot) → different_places ignored xs [] ≡ 0
-    no_pairs [] = refl
-    no_pairs (x ∷ xs) = refl
-
--- no difference has no lines
-pub no_lines : (is_quiet : Bool) (n : ℕ) (h : Option (List ℕ)) → n ≡ 0 → PutsLines (lines_of_differences is_quiet n) h h
-no_lines true n h e = refl
-no_lines false n h e = subst (λ k. PutsLines (2 * k) h h) (sym e) refl
+    no_places : (l : List ListedSlot) → PutsPlaces settings (zip l []) h h
+    no_places [] = refl
+    no_places (x ∷ l) = refl
 
 -- what a reader of a recording has read
 pub read_by : (reader : Reader) (recording : Recording) (slots : List ListedSlot) (a b : Option (List ℕ))
@@ -194,8 +185,7 @@ fault_before_first settings one other recording firsts fault a b c h short e e' 
   turn = other.view;
   first_read = fault_by one recording firsts fault a b e read;
   second_read = read_by other recording [] c c e' read';
-  put = no_lines settings.is_quiet _ h
-      (none_of_first settings.ignored (slots_in_front_of_first settings.shift) firsts (compared_of_second settings.shift []) short);
+  put = none_of_first settings (slots_in_front_of_first settings.shift) firsts (compared_of_second settings.shift []) h short;
 }
 
 -- the second is
@@ -210,9 +200,7 @@ fault_before_second settings one other recording firsts seconds fault a b c d h 
   turn = one.view;
   first_read = read_by one recording firsts a b e read;
   second_read = fault_by other recording seconds fault c d e' read';
-  put = no_lines settings.is_quiet _ h
-      (none_of_second settings.ignored (slots_in_front_of_second settings.shift) (compared_of_first settings.shift firsts) seconds
-      short);
+  put = none_of_second settings (slots_in_front_of_second settings.shift) (compared_of_first settings.shift firsts) seconds h short;
 }
 
 -- nothing is counted of nothing
@@ -247,7 +235,7 @@ beside_begun settings one other counts firsts seconds a b c d h read read' short
       second_beside = λ going. omega (arith, empty, empty');
       compared = record {
         counted = counted_none settings.ignored (drop m firsts) (drop n seconds) counts none none' same different first second;
-        put = no_lines settings.is_quiet _ h (none_of_first settings.ignored m firsts (drop n seconds) short);
+        put = none_of_first settings m firsts (drop n seconds) h short;
       };
       few_both = omega (arith, same, different);
       few_first = omega (arith, first);
@@ -271,16 +259,14 @@ fault_of_first settings one other recording counts firsts seconds fault a b b' c
   put = stood.compared.put;
 }
 
--- what was found of the first alone makes no difference
-pub alone_no_difference : (ignored : Ignored) (m : ℕ) (firsts ys : List ListedSlot) (found : Option ListedSlot)
+-- what was found of the first alone makes no place
+pub alone_no_place : (m : ℕ) (firsts ys : List ListedSlot) (found : Option ListedSlot)
     → (IsFound found → m ≤ length firsts) → (IsFound found → length ys ≤ length (drop m firsts))
-    → different_places ignored (drop m (firsts ++ found_slot found)) ys ≡ different_places ignored (drop m firsts) ys
-alone_no_difference ignored m firsts ys None front beside =
-    ap (λ (l : List ListedSlot). different_places ignored (drop m l) ys) (append-nil firsts)
-alone_no_difference ignored m firsts ys (Some slot) front beside =
-    ap (λ (l : List ListedSlot). different_places ignored l ys) (dropped_found m firsts (Some slot) front)
-    ∙ ap (λ (l : List (ListedSlot × ListedSlot)). count_by (λ (place : ListedSlot × ListedSlot).
-    not (is_same ignored place.0 place.1)) l) (zip_first (drop m firsts) ys slot (beside tt))
+    → zip (drop m (firsts ++ found_slot found)) ys ≡ zip (drop m firsts) ys
+alone_no_place m firsts ys None front beside = ap (λ (l : List ListedSlot). zip (drop m l) ys) (append-nil firsts)
+alone_no_place m firsts ys (Some slot) front beside =
+    ap (λ (l : List ListedSlot). zip l ys) (dropped_found m firsts (Some slot) front)
+    ∙ zip_first (drop m firsts) ys slot (beside tt)
 
 -- the second is at fault behind slots that were compared, and perhaps one more of the first
 pub fault_of_second : (settings : Settings) (one one' other : Reader) (recording : Recording) (counts : Counts)
@@ -298,8 +284,8 @@ fault_of_second settings one one' other recording counts firsts seconds found fa
       turn = one'.view;
       first_read = read_by one' recording (firsts ++ found_slot found) a b' e read;
       second_read = fault_by other recording seconds fault c d' e' read';
-      put = subst (λ k. PutsLines (lines_of_differences settings.is_quiet k) h i)
-          (sym (alone_no_difference settings.ignored m firsts (drop n seconds) found
+      put = subst (λ (l : List (ListedSlot × ListedSlot)). PutsPlaces settings l h i)
+          (sym (alone_no_place m firsts (drop n seconds) found
           (λ f. stood.first_front (was_going one one' found step f))
           (λ f. stood.first_beside (was_going one one' found step f))))
           stood.compared.put;

@@ -1,12 +1,13 @@
 -- What was compared of two recordings.
 use Rattle.std.specs.Prelude.{◌≡◌, ◌≤◌, ◌+◌, ℕ, Bool, true, false, List, Option, Result, Ok, Err, length, drop}
 use Rattle.std.specs.Io.KnownBytes.{IsAtEnd}
+use Rattle.std.specs.List.{zip}
 use Rattle.dmr_listing.specs.ListingRules.{IsReadUpToFault, ListingTurn}
 use Rattle.dmr_record.specs.Faults.{is_device_fault}
 use Rattle.dmr_recording.specs.declared.fault_line.FaultLine.{FaultLine}
 use Rattle.dmr_recording.specs.declared.recording.Recording.{Recording}
-use Rattle.dmr_compare.specs.Counting.{IsCounted, different_places}
-use Rattle.dmr_compare.specs.Printed.{PutsLines, lines_of_differences}
+use Rattle.dmr_compare.specs.Counting.{IsCounted}
+use Rattle.dmr_compare.specs.Printed.{PutsPlaces}
 use Rattle.dmr_compare.specs.Reading.{AreSlotsRead, HasRead}
 use Rattle.dmr_compare.specs.Shifts.{slots_in_front_of_first, slots_in_front_of_second}
 use Rattle.dmr_compare.specs.Slots.{ListedSlot, lines_of, slots_of}
@@ -25,13 +26,14 @@ compared_of_first shift slots = drop (slots_in_front_of_first shift) slots
 abbrev pub compared_of_second : Shift → List ListedSlot → List ListedSlot
 compared_of_second shift slots = drop (slots_in_front_of_second shift) slots
 
--- Each difference of the slots that were read of two recordings has its two lines, in their order, as far as both have slots.
+-- The places that two recordings both have, of the slots that were read, behind the ones in front.
+abbrev pub places_of : Shift → (firsts seconds : List ListedSlot) → List (ListedSlot × ListedSlot)
+places_of shift firsts seconds = zip (compared_of_first shift firsts) (compared_of_second shift seconds)
+
+-- The lines of these places were put: two for each difference, in their order.
 abbrev pub AreDifferencesPut : Settings → (firsts seconds : List ListedSlot) → (held_old held_new : Option (List ℕ)) → Type 0
 AreDifferencesPut settings firsts seconds held_old held_new =
-    PutsLines
-    (lines_of_differences settings.is_quiet
-    (different_places settings.ignored (compared_of_first settings.shift firsts) (compared_of_second settings.shift seconds)))
-    held_old held_new
+    PutsPlaces settings (places_of settings.shift firsts seconds) held_old held_new
 
 -- The slots that were read of two recordings were counted, and each difference has its lines.
 pub record AreCompared (settings : Settings) (firsts seconds : List ListedSlot) (counts : Counts)

@@ -1,7 +1,7 @@
 -- What is counted and printed of the next slots of two recordings.
-use Rattle.std.specs.Prelude.{ℕ, ◌+◌, ◌-◌, ◌^◌, ◌<◌, Bool, Option, Some, None, if◌then◌else◌}
+use Rattle.std.specs.Prelude.{◌≡◌, ℕ, ◌+◌, ◌-◌, ◌^◌, ◌<◌, Bool, List, Option, Some, None, if◌then◌else◌}
 use Rattle.dmr_compare.specs.Kept.{is_same}
-use Rattle.dmr_compare.specs.Printed.{lines_of_place}
+use Rattle.dmr_compare.specs.Printed.{PutsPlace}
 use Rattle.dmr_compare.specs.Slots.{ListedSlot}
 use Rattle.dmr_compare.specs.declared.counts.Counts.{Counts}
 use Rattle.dmr_compare.specs.declared.settings.Ignored.{Ignored}
@@ -48,8 +48,7 @@ counted_found ignored (Some first) None counts = counted_first counts
 counted_found ignored None (Some second) counts = counted_second counts
 counted_found ignored None None counts = counts
 
--- the lines of what was found next: those of a place that both have
-abbrev pub lines_of_found : Settings → (first second : Option ListedSlot) → ℕ
-lines_of_found settings (Some first) (Some second) =
-    lines_of_place settings.is_quiet (is_same settings.ignored first second)
-lines_of_found settings first second = 0
+-- What was found next in both is put: a place, where both have one.
+abbrev pub PutsFound : Settings → (first second : Option ListedSlot) → (old new : Option (List ℕ)) → Type 0
+PutsFound settings (Some first) (Some second) old new = PutsPlace settings (first, second) old new
+PutsFound settings first second old new = new ≡ old

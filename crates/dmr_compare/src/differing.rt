@@ -1,13 +1,14 @@
 //! How many bits differ of two bursts.
-ghost use Rattle.std.specs.Prelude.{◌≡◌, ◌==◌, ◌&&◌};
+ghost use Rattle.std.specs.Prelude.{◌≡◌, ◌==◌, ◌&&◌, ◌+◌, ◌≤◌, ◌++◌, length};
 ghost use Rattle.dmr_bits.specs.Bits.{bits_of_octets, distance, part};
 ghost use Rattle.dmr_compare.specs.Kept.{cach_bits, differing_in_burst, differing_in_cach, is_voice};
+ghost use Rattle.dmr_compare.specs.Printed.{differing_text};
 
+use crate::line::Line;
 use crate::listed::ListedBurst;
 use crate::settings::Ignored;
 use dmr_bits::Bits;
 use dmr_reading::Reading;
-use std::fmt;
 
 /// How many bits differ of what is compared of two bursts.
 #[derive(Clone, Copy, Debug, Drop, PartialEq, Eq)]
@@ -85,20 +86,22 @@ impl Differing {
     {
         self.cach == 0 && self.burst == 0
     }
-}
 
-impl fmt::Display for Differing {
-    /// The parts that differ in brackets, and nothing where none does.
-    fn fmt<W: fmt::Write>(&self, f: &mut fmt::Formatter<W>) -> fmt::Result {
-        let mut before = "  [differ: ";
-        let mut end = "";
-        for (name, bits) in [("CACH", self.cach), ("burst", self.burst)] {
-            if bits > 0 {
-                write!(f, "{before}{name} {bits}")?;
-                before = ", ";
-                end = "]";
+    /// Adds the parts that differ to a line, in brackets, and nothing where none does.
+    pub(crate) fn add_to(&self, line: &mut Line)
+        requires room { length line.old + 100 ≤ 640 }
+        ensures value { line.new ≡ line.old ++ differing_text self.now.cach self.now.burst }
+        ensures length { length line.new ≤ length line.old + 100 }
+    {
+        if self.cach > 0 {
+            line.add_number(b"  [differ: CACH ", self.cach as u64);
+            if self.burst > 0 {
+                line.add_number(b", burst ", self.burst as u64);
             }
+            line.add(b"]");
+        } else if self.burst > 0 {
+            line.add_number(b"  [differ: burst ", self.burst as u64);
+            line.add(b"]");
         }
-        write!(f, "{end}")
     }
 }

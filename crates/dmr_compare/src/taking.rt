@@ -1,8 +1,8 @@
 //! Places of two recordings, compared one by one.
 ghost use Rattle.std.specs.Prelude.{◌≡◌, ◌-◌, ◌^◌, ◌<◌, false, OnOk};
 ghost use Rattle.dmr_compare.specs.Kept.{is_same};
-ghost use Rattle.dmr_compare.specs.Printed.{PutsLines, lines_of_place};
-ghost use Rattle.dmr_compare.specs.Taking.{HasRoom, counted_found, counted_place, lines_of_found};
+ghost use Rattle.dmr_compare.specs.Printed.{PutsPlace};
+ghost use Rattle.dmr_compare.specs.Taking.{HasRoom, PutsFound, counted_found, counted_place};
 ghost use Rattle.dmr_record.specs.Devices.{failed_after};
 
 use crate::counts::Counts;
@@ -24,9 +24,7 @@ fn take_both<K: Sink>(
     requires sink { K.has_failed sink.old ≡ false }
     requires room { HasRoom counts.old }
     ensures counted { counts.new ≡ counted_place (is_same settings.now.ignored first.now second.now) counts.old }
-    ensures lines { OnOk result (PutsLines
-        (lines_of_place settings.now.is_quiet (is_same settings.now.ignored first.now second.now))
-        (K.held sink.old) (K.held sink.new)) }
+    ensures lines { OnOk result (PutsPlace settings.now (first.now, second.now) (K.held sink.old) (K.held sink.new)) }
     ensures failed { K.has_failed sink.new ≡ failed_after (K.has_failed sink.old) result }
 {
     match Difference::between(settings.ignored, first, second) {
@@ -56,8 +54,7 @@ pub(crate) fn take_found<K: Sink>(
     requires sink { K.has_failed sink.old ≡ false }
     requires room { HasRoom counts.old }
     ensures counted { counts.new ≡ counted_found settings.now.ignored first.now second.now counts.old }
-    ensures lines { OnOk result (PutsLines (lines_of_found settings.now first.now second.now)
-        (K.held sink.old) (K.held sink.new)) }
+    ensures lines { OnOk result (PutsFound settings.now first.now second.now (K.held sink.old) (K.held sink.new)) }
     ensures failed { K.has_failed sink.new ≡ failed_after (K.has_failed sink.old) result }
 {
     match (first, second) {

@@ -2,9 +2,8 @@ use Rattle.std.proofs.Common.{rules, ◌≡◌, ◌++◌, None, sym, ◌∙◌, 
 use Rattle.dmr_compare.proofs.Beside.{IsStep, beside_begun, beside_next, fault_before_first, fault_before_second, fault_of_first}
 use Rattle.dmr_compare.proofs.Beside.{fault_of_second, has_room, whole_compared}
 use Rattle.dmr_compare.specs.Comparing.{StandBeside}
-use Rattle.dmr_compare.specs.Printed.{PutsLines}
 use Rattle.dmr_compare.specs.Reading.{found_slot}
-use Rattle.dmr_compare.specs.Taking.{lines_of_found}
+use Rattle.dmr_compare.specs.Taking.{PutsFound}
 use Rattle.dmr_compare.specs.declared.counts.Counts.{Counts}
 use Rattle.dmr_compare.proofs.comparing.compare_recordings.Goals as goal
 
@@ -100,7 +99,7 @@ loop-found-preserved g c =
     record { some = c.in-Ok.ensures.some; none = c.in-Ok.ensures.none } in
     let step' : IsStep c.loop-found.other c.next-in-loop-found.new.self c.in-Ok-next.found =
     record { some = c.in-Ok-next.ensures.some; none = c.in-Ok-next.ensures.none } in
-    let lines : PutsLines (lines_of_found c.args.settings.now c.in-Ok.found c.in-Ok-next.found) (g.K.Sink.held c.loop-found.sink)
+    let lines : PutsFound c.args.settings.now c.in-Ok.found c.in-Ok-next.found (g.K.Sink.held c.loop-found.sink)
     (g.K.Sink.held c.take_found.new.sink) = search rules in
     let next = beside_next c.args.settings.now c.loop-found.one c.next.new.self c.loop-found.other c.next-in-loop-found.new.self
     c.loop-found.counts firsts seconds c.in-Ok.found c.in-Ok-next.found _ _ _ _ _ _ _ _ _ stood
