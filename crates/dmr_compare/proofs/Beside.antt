@@ -1,5 +1,5 @@
 -- Two readers stand beside each other, slot by slot.
-use Rattle.std.proofs.Common.{◌≡◌, ℕ, ◌+◌, ◌*◌, ◌≤◌, Bool, true, false, not, List, [], ◌∷◌, ◌++◌, length, drop, Option, Some, None, IfSome}
+use Rattle.std.proofs.Common.{◌≡◌, ℕ, ◌+◌, ◌≤◌, Bool, true, false, List, [], ◌∷◌, ◌++◌, length, drop, Option, Some, None, IfSome}
 use Rattle.std.proofs.Common.{if◌then◌else◌, IfNone, refl, sym, ap, ◌∙◌, subst, arith, append-nil, length-append}
 use Rattle.std.proofs.lemmas.List.{drop_all}
 use Rattle.std.specs.List.{zip}
@@ -11,32 +11,32 @@ use Rattle.dmr_compare.proofs.Counting.{IsFound, counted_next, dropped_found, zi
 use Rattle.dmr_compare.proofs.Printed.{put_next}
 use Rattle.dmr_compare.specs.Comparing.{AreRestsCompared, IsFirstAtFault, IsSecondAtFault, StandBeside, compared_of_first}
 use Rattle.dmr_compare.specs.Comparing.{compared_of_second}
-use Rattle.dmr_compare.specs.Counting.{IsCounted}
+use Rattle.dmr_compare.specs.Counting.{AreCountsOf}
 use Rattle.dmr_compare.specs.Kept.{is_same}
 use Rattle.dmr_compare.specs.Printed.{PutsPlaces}
 use Rattle.dmr_compare.specs.Reading.{AreSlotsRead, HasRead, found_slot}
 use Rattle.dmr_compare.specs.Shifts.{slots_in_front_of_first, slots_in_front_of_second}
-use Rattle.dmr_compare.specs.Slots.{ListedSlot, lines_of, slots_of}
+use Rattle.dmr_compare.specs.Slots.{ListedSlot, lines_of, bare_slots}
 use Rattle.dmr_compare.specs.Taking.{HasRoom, PutsFound, counted_found}
-use Rattle.dmr_compare.specs.declared.counts.Counts.{Counts}
-use Rattle.dmr_compare.specs.declared.reader.Reader.{Reader}
+use Rattle.dmr_compare.specs.declared.counts.PlaceCounts.{PlaceCounts}
+use Rattle.dmr_compare.specs.declared.reader.SlotReader.{SlotReader}
 use Rattle.dmr_compare.specs.declared.settings.Ignored.{Ignored}
-use Rattle.dmr_compare.specs.declared.settings.Settings.{Settings}
+use Rattle.dmr_compare.specs.declared.settings.CompareSettings.{CompareSettings}
 
 -- 1. A reader's step.
 
 -- A reader took a step: it found something where it wasn't and isn't over, and nothing where it is over now.
-pub record IsStep (old new : Reader) (found : Option ListedSlot) : Type 0 where
+pub record IsStep (old new : SlotReader) (found : Option ListedSlot) : Type 0 where
   pub some : IfSome found (λ slot. (old.is_over ≡ false) × (new.is_over ≡ false))
   pub none : IfNone found (new.is_over ≡ true)
 
 -- what was found came where the reader wasn't over
-pub was_going : (old new : Reader) (found : Option ListedSlot) → IsStep old new found → IsFound found → old.is_over ≡ false
+pub was_going : (old new : SlotReader) (found : Option ListedSlot) → IsStep old new found → IsFound found → old.is_over ≡ false
 was_going old new None step f = absurd f
 was_going old new (Some slot) step f = step.some.0
 
 -- where a reader isn't over, something was found
-pub is_found : (old new : Reader) (found : Option ListedSlot) → IsStep old new found → new.is_over ≡ false → IsFound found
+pub is_found : (old new : SlotReader) (found : Option ListedSlot) → IsStep old new found → new.is_over ≡ false → IsFound found
 is_found old new None step going = absurd (grind (arith, step.none, going))
 is_found old new (Some slot) step going = tt
 
@@ -51,7 +51,7 @@ one_at_most (Some slot) = omega arith
 
 -- 2. What is counted of a step is at most what was found.
 
-pub few_places : (ignored : Ignored) (first second : Option ListedSlot) (counts : Counts)
+pub few_places : (ignored : Ignored) (first second : Option ListedSlot) (counts : PlaceCounts)
     → (counted_found ignored first second counts).same + (counted_found ignored first second counts).different
     ≤ counts.same + counts.different + length (found_slot first)
 few_places ignored (Some x) (Some y) counts = either (is_same ignored x y) counts.same counts.different
@@ -63,14 +63,14 @@ few_places ignored (Some x) None counts = omega arith
 few_places ignored None (Some y) counts = omega arith
 few_places ignored None None counts = omega arith
 
-pub few_firsts : (ignored : Ignored) (first second : Option ListedSlot) (counts : Counts)
+pub few_firsts : (ignored : Ignored) (first second : Option ListedSlot) (counts : PlaceCounts)
     → (counted_found ignored first second counts).only_in_first ≤ counts.only_in_first + length (found_slot first)
 few_firsts ignored (Some x) (Some y) counts = omega arith
 few_firsts ignored (Some x) None counts = omega arith
 few_firsts ignored None (Some y) counts = omega arith
 few_firsts ignored None None counts = omega arith
 
-pub few_seconds : (ignored : Ignored) (first second : Option ListedSlot) (counts : Counts)
+pub few_seconds : (ignored : Ignored) (first second : Option ListedSlot) (counts : PlaceCounts)
     → (counted_found ignored first second counts).only_in_second ≤ counts.only_in_second + length (found_slot second)
 few_seconds ignored (Some x) (Some y) counts = omega arith
 few_seconds ignored (Some x) None counts = omega arith
@@ -80,8 +80,8 @@ few_seconds ignored None None counts = omega arith
 -- 3. A step of both.
 
 -- two readers that stood beside each other do so behind a step of both
-pub beside_next : (settings : Settings) (one one' other other' : Reader) (counts : Counts) (firsts seconds : List ListedSlot)
-    (first second : Option ListedSlot) (a b b' c d d' h i i' : Option (List ℕ))
+pub beside_next : (settings : CompareSettings) (one one' other other' : SlotReader) (counts : PlaceCounts)
+    (firsts seconds : List ListedSlot) (first second : Option ListedSlot) (a b b' c d d' h i i' : Option (List ℕ))
     → StandBeside settings one other counts firsts seconds a b c d h i
     → HasRead one' (firsts ++ found_slot first) a b' → HasRead other' (seconds ++ found_slot second) c d'
     → IsStep one one' first → IsStep other other' second → PutsFound settings first second i i'
@@ -100,11 +100,11 @@ beside_next settings one one' other other' counts firsts seconds first second a 
     ap length e ∙ length-append (drop m firsts) (found_slot first) in
     let cut' : length (drop n (seconds ++ found_slot second)) ≡ length (drop n seconds) + length (found_slot second) =
     ap length e' ∙ length-append (drop n seconds) (found_slot second) in
-    let counted : IsCounted settings.ignored (drop m (firsts ++ found_slot first)) (drop n (seconds ++ found_slot second))
+    let counted : AreCountsOf settings.ignored (drop m (firsts ++ found_slot first)) (drop n (seconds ++ found_slot second))
     (counted_found settings.ignored first second counts) =
-    subst (λ (xs : List ListedSlot). IsCounted settings.ignored xs (drop n (seconds ++ found_slot second))
+    subst (λ (xs : List ListedSlot). AreCountsOf settings.ignored xs (drop n (seconds ++ found_slot second))
     (counted_found settings.ignored first second counts)) (sym e)
-    (subst (λ (ys : List ListedSlot). IsCounted settings.ignored (drop m firsts ++ found_slot first) ys
+    (subst (λ (ys : List ListedSlot). AreCountsOf settings.ignored (drop m firsts ++ found_slot first) ys
     (counted_found settings.ignored first second counts)) (sym e')
     (counted_next settings.ignored (drop m firsts) (drop n seconds) first second counts
     (λ f. stood.first_beside (was_going one one' first step f)) (λ f. stood.second_beside (was_going other other' second step' f))
@@ -147,12 +147,12 @@ beside_next settings one one' other other' counts firsts seconds first second a 
 -- 4. The begin.
 
 -- where nothing stands behind the slots in front of one list, there are no places, and no lines
-pub none_of_first : (settings : Settings) (m : ℕ) (firsts ys : List ListedSlot) (h : Option (List ℕ)) → length firsts ≤ m
+pub none_of_first : (settings : CompareSettings) (m : ℕ) (firsts ys : List ListedSlot) (h : Option (List ℕ)) → length firsts ≤ m
     → PutsPlaces settings (zip (drop m firsts) ys) h h
 none_of_first settings m firsts ys h short =
     subst (λ (xs : List ListedSlot). PutsPlaces settings (zip xs ys) h h) (sym (drop_all m firsts short)) refl
 
-pub none_of_second : (settings : Settings) (n : ℕ) (xs seconds : List ListedSlot) (h : Option (List ℕ)) → length seconds ≤ n
+pub none_of_second : (settings : CompareSettings) (n : ℕ) (xs seconds : List ListedSlot) (h : Option (List ℕ)) → length seconds ≤ n
     → PutsPlaces settings (zip xs (drop n seconds)) h h
 none_of_second settings n xs seconds h short =
     subst (λ (ys : List ListedSlot). PutsPlaces settings (zip xs ys) h h) (sym (drop_all n seconds short)) (no_places xs)
@@ -162,22 +162,22 @@ none_of_second settings n xs seconds h short =
     no_places (x ∷ l) = refl
 
 -- what a reader of a recording has read
-pub read_by : (reader : Reader) (recording : Recording) (slots : List ListedSlot) (a b : Option (List ℕ))
+pub read_by : (reader : SlotReader) (recording : Recording) (slots : List ListedSlot) (a b : Option (List ℕ))
     → reader.recording ≡ recording → HasRead reader slots a b → AreSlotsRead recording slots reader.view a b
 read_by reader recording slots a b e h = subst (λ (r : Recording). AreSlotsRead r slots reader.view a b) e h.read
 
 -- what a reader of a recording has read up to a fault
-pub fault_by : (reader : Reader) (recording : Recording) (slots : List ListedSlot) (fault : FaultLine) (a b : Option (List ℕ))
-    → reader.recording ≡ recording → IsReadUpToFault reader.recording (slots_of slots) (lines_of slots) fault a b
-    → IsReadUpToFault recording (slots_of slots) (lines_of slots) fault a b
+pub fault_by : (reader : SlotReader) (recording : Recording) (slots : List ListedSlot) (fault : FaultLine) (a b : Option (List ℕ))
+    → reader.recording ≡ recording → IsReadUpToFault reader.recording (bare_slots slots) (lines_of slots) fault a b
+    → IsReadUpToFault recording (bare_slots slots) (lines_of slots) fault a b
 fault_by reader recording slots fault a b e h =
-    subst (λ (r : Recording). IsReadUpToFault r (slots_of slots) (lines_of slots) fault a b) e h
+    subst (λ (r : Recording). IsReadUpToFault r (bare_slots slots) (lines_of slots) fault a b) e h
 
 -- the first is at fault among the slots in front
-pub fault_before_first : (settings : Settings) (one other : Reader) (recording : Recording) (firsts : List ListedSlot)
+pub fault_before_first : (settings : CompareSettings) (one other : SlotReader) (recording : Recording) (firsts : List ListedSlot)
     (fault : FaultLine) (a b c h : Option (List ℕ)) → length firsts ≤ slots_in_front_of_first settings.shift
     → one.recording ≡ recording → other.recording ≡ recording
-    → IsReadUpToFault one.recording (slots_of firsts) (lines_of firsts) fault a b → HasRead other [] c c
+    → IsReadUpToFault one.recording (bare_slots firsts) (lines_of firsts) fault a b → HasRead other [] c c
     → IsFirstAtFault settings recording fault a b c c h h
 fault_before_first settings one other recording firsts fault a b c h short e e' read read' = record {
   firsts = firsts;
@@ -189,10 +189,11 @@ fault_before_first settings one other recording firsts fault a b c h short e e' 
 }
 
 -- the second is
-pub fault_before_second : (settings : Settings) (one other : Reader) (recording : Recording) (firsts seconds : List ListedSlot)
-    (fault : FaultLine) (a b c d h : Option (List ℕ)) → length seconds ≤ slots_in_front_of_second settings.shift
+pub fault_before_second : (settings : CompareSettings) (one other : SlotReader) (recording : Recording)
+    (firsts seconds : List ListedSlot) (fault : FaultLine) (a b c d h : Option (List ℕ))
+    → length seconds ≤ slots_in_front_of_second settings.shift
     → one.recording ≡ recording → other.recording ≡ recording
-    → HasRead one firsts a b → IsReadUpToFault other.recording (slots_of seconds) (lines_of seconds) fault c d
+    → HasRead one firsts a b → IsReadUpToFault other.recording (bare_slots seconds) (lines_of seconds) fault c d
     → IsSecondAtFault settings recording fault a b c d h h
 fault_before_second settings one other recording firsts seconds fault a b c d h short e e' read read' = record {
   firsts = firsts;
@@ -204,15 +205,15 @@ fault_before_second settings one other recording firsts seconds fault a b c d h 
 }
 
 -- nothing is counted of nothing
-pub counted_none : (ignored : Ignored) (xs ys : List ListedSlot) (counts : Counts) → xs ≡ [] → ys ≡ [] → counts.same ≡ 0
-    → counts.different ≡ 0 → counts.only_in_first ≡ 0 → counts.only_in_second ≡ 0 → IsCounted ignored xs ys counts
+pub counted_none : (ignored : Ignored) (xs ys : List ListedSlot) (counts : PlaceCounts) → xs ≡ [] → ys ≡ [] → counts.same ≡ 0
+    → counts.different ≡ 0 → counts.only_in_first ≡ 0 → counts.only_in_second ≡ 0 → AreCountsOf ignored xs ys counts
 counted_none ignored xs ys counts e e' same different first second =
-    subst (λ (l : List ListedSlot). IsCounted ignored l ys counts) (sym e)
-    (subst (λ (l : List ListedSlot). IsCounted ignored [] l counts) (sym e')
+    subst (λ (l : List ListedSlot). AreCountsOf ignored l ys counts) (sym e)
+    (subst (λ (l : List ListedSlot). AreCountsOf ignored [] l counts) (sym e')
     (record { same = same; different = different; only_in_first = first; only_in_second = second }))
 
 -- two readers behind the slots in front stand beside each other
-pub beside_begun : (settings : Settings) (one other : Reader) (counts : Counts) (firsts seconds : List ListedSlot)
+pub beside_begun : (settings : CompareSettings) (one other : SlotReader) (counts : PlaceCounts) (firsts seconds : List ListedSlot)
     (a b c d h : Option (List ℕ)) → HasRead one firsts a b → HasRead other seconds c d
     → length firsts ≤ slots_in_front_of_first settings.shift → length seconds ≤ slots_in_front_of_second settings.shift
     → (one.is_over ≡ false → length firsts ≡ slots_in_front_of_first settings.shift)
@@ -245,10 +246,10 @@ beside_begun settings one other counts firsts seconds a b c d h read read' short
 -- 5. The end.
 
 -- the first is at fault behind slots that were compared
-pub fault_of_first : (settings : Settings) (one other : Reader) (recording : Recording) (counts : Counts)
+pub fault_of_first : (settings : CompareSettings) (one other : SlotReader) (recording : Recording) (counts : PlaceCounts)
     (firsts seconds : List ListedSlot) (fault : FaultLine) (a b b' c d h i : Option (List ℕ))
     → StandBeside settings one other counts firsts seconds a b c d h i → one.recording ≡ recording → other.recording ≡ recording
-    → IsReadUpToFault one.recording (slots_of firsts) (lines_of firsts) fault a b'
+    → IsReadUpToFault one.recording (bare_slots firsts) (lines_of firsts) fault a b'
     → IsFirstAtFault settings recording fault a b' c d h i
 fault_of_first settings one other recording counts firsts seconds fault a b b' c d h i stood e e' read = record {
   firsts = firsts;
@@ -269,11 +270,11 @@ alone_no_place m firsts ys (Some slot) front beside =
     ∙ zip_first (drop m firsts) ys slot (beside tt)
 
 -- the second is at fault behind slots that were compared, and perhaps one more of the first
-pub fault_of_second : (settings : Settings) (one one' other : Reader) (recording : Recording) (counts : Counts)
+pub fault_of_second : (settings : CompareSettings) (one one' other : SlotReader) (recording : Recording) (counts : PlaceCounts)
     (firsts seconds : List ListedSlot) (found : Option ListedSlot) (fault : FaultLine) (a b b' c d d' h i : Option (List ℕ))
     → StandBeside settings one other counts firsts seconds a b c d h i → one'.recording ≡ recording → other.recording ≡ recording
     → HasRead one' (firsts ++ found_slot found) a b' → IsStep one one' found
-    → IsReadUpToFault other.recording (slots_of seconds) (lines_of seconds) fault c d'
+    → IsReadUpToFault other.recording (bare_slots seconds) (lines_of seconds) fault c d'
     → IsSecondAtFault settings recording fault a b' c d' h i
 fault_of_second settings one one' other recording counts firsts seconds found fault a b b' c d d' h i stood e e' read step read' =
     let m = slots_in_front_of_first settings.shift in
@@ -292,8 +293,9 @@ fault_of_second settings one one' other recording counts firsts seconds found fa
     }
 
 -- both are read to their ends
-pub whole_compared : (settings : Settings) (one one' other other' : Reader) (recording : Recording) (counts : Counts)
-    (firsts seconds : List ListedSlot) (first second : Option ListedSlot) (a b b' c d d' h i : Option (List ℕ))
+pub whole_compared : (settings : CompareSettings) (one one' other other' : SlotReader) (recording : Recording)
+    (counts : PlaceCounts) (firsts seconds : List ListedSlot) (first second : Option ListedSlot)
+    (a b b' c d d' h i : Option (List ℕ))
     → StandBeside settings one other counts firsts seconds a b c d h i → one'.recording ≡ recording → other'.recording ≡ recording
     → HasRead one' (firsts ++ found_slot first) a b' → HasRead other' (seconds ++ found_slot second) c d'
     → IsStep one one' first → IsStep other other' second → first ≡ None → second ≡ None
@@ -310,13 +312,13 @@ whole_compared settings one one' other other' recording counts firsts seconds No
       second_end = read'.over step'.none;
       compared = stood.compared;
     }
-whole_compared settings one one' other other' recording counts firsts seconds (Some x) second a b b' c d d' h i stood e e' read read'
-    step step' none none' = absurd (grind (arith, none))
+whole_compared settings one one' other other' recording counts firsts seconds (Some x) second a b b' c d d' h i stood e e' read
+    read' step step' none none' = absurd (grind (arith, none))
 whole_compared settings one one' other other' recording counts firsts seconds None (Some y) a b b' c d d' h i stood e e' read read'
     step step' none none' = absurd (grind (arith, none'))
 
 -- there is room for one more of each kind
-pub has_room : (settings : Settings) (one other : Reader) (counts : Counts) (firsts seconds : List ListedSlot)
+pub has_room : (settings : CompareSettings) (one other : SlotReader) (counts : PlaceCounts) (firsts seconds : List ListedSlot)
     (a b c d h i : Option (List ℕ)) → StandBeside settings one other counts firsts seconds a b c d h i → HasRoom counts
 has_room settings one other counts firsts seconds a b c d h i stood =
     let few = stood.first_read.few in

@@ -4,12 +4,12 @@ use Rattle.std.proofs.Common.{if◌then◌else◌, Option, Some, None, refl, sym
 use Rattle.std.specs.List.{count_by, zip}
 use Rattle.std.proofs.lemmas.List.{length_push, drop-append-le}
 use Rattle.std.proofs.lemmas.List.Sums.{sum_by-append}
-use Rattle.dmr_compare.specs.Counting.{IsCounted}
+use Rattle.dmr_compare.specs.Counting.{AreCountsOf}
 use Rattle.dmr_compare.specs.Kept.{is_same}
 use Rattle.dmr_compare.specs.Reading.{found_slot}
 use Rattle.dmr_compare.specs.Slots.{ListedSlot}
 use Rattle.dmr_compare.specs.Taking.{counted_first, counted_found, counted_place, counted_second}
-use Rattle.dmr_compare.specs.declared.counts.Counts.{Counts}
+use Rattle.dmr_compare.specs.declared.counts.PlaceCounts.{PlaceCounts}
 use Rattle.dmr_compare.specs.declared.settings.Ignored.{Ignored}
 
 -- 1. Pairs.
@@ -43,7 +43,7 @@ count_push p xs x =
     let one : count_by p (x ∷ []) ≡ 0 + cond (p x) 1 0 = refl in
     omega (arith, split, one)
 
--- 2. Counts.
+-- 2. PlaceCounts.
 
 -- how many pairs are the same, and how many differ
 abbrev pub same_of : Ignored → List (ListedSlot × ListedSlot) → ℕ
@@ -53,23 +53,23 @@ abbrev pub different_of : Ignored → List (ListedSlot × ListedSlot) → ℕ
 different_of ignored pairs = count_by (λ (place : ListedSlot × ListedSlot). not (is_same ignored place.0 place.1)) pairs
 
 -- a place that both have
-pub counted_both : (ignored : Ignored) (xs ys : List ListedSlot) (x y : ListedSlot) (counts : Counts) → length xs ≡ length ys
-    → IsCounted ignored xs ys counts
-    → IsCounted ignored (xs ++ x ∷ []) (ys ++ y ∷ []) (counted_place (is_same ignored x y) counts)
+pub counted_both : (ignored : Ignored) (xs ys : List ListedSlot) (x y : ListedSlot) (counts : PlaceCounts) → length xs ≡ length ys
+    → AreCountsOf ignored xs ys counts
+    → AreCountsOf ignored (xs ++ x ∷ []) (ys ++ y ∷ []) (counted_place (is_same ignored x y) counts)
 counted_both ignored xs ys x y counts e h =
     let pairs = zip_both xs ys x y e in
     let same = count_push (λ (place : ListedSlot × ListedSlot). is_same ignored place.0 place.1) (zip xs ys) (x, y) in
     let different = count_push (λ (place : ListedSlot × ListedSlot). not (is_same ignored place.0 place.1)) (zip xs ys) (x, y) in
     let longer_xs = length_push xs x in
     let longer_ys = length_push ys y in
-    let old_same : counts.same ≡ count_by (λ (place : ListedSlot × ListedSlot). is_same ignored place.0 place.1) (zip xs ys) = h.same in
-    let old_different : counts.different ≡ count_by (λ (place : ListedSlot × ListedSlot). not (is_same ignored place.0 place.1)) (zip xs ys) =
-    h.different in
+    let old_same : counts.same ≡ same_of ignored (zip xs ys) = h.same in
+    let old_different : counts.different ≡ different_of ignored (zip xs ys) = h.different in
     let old_first : counts.only_in_first ≡ length xs - length ys = h.only_in_first in
     let old_second : counts.only_in_second ≡ length ys - length xs = h.only_in_second in
     record {
       same = added_same (is_same ignored x y) counts.same _ old_same ∙ sym same ∙ ap (same_of ignored) (sym pairs);
-      different = added_different (is_same ignored x y) counts.different _ old_different ∙ sym different ∙ ap (different_of ignored) (sym pairs);
+      different = added_different (is_same ignored x y) counts.different _ old_different ∙ sym different
+          ∙ ap (different_of ignored) (sym pairs);
       only_in_first = omega (arith, old_first, longer_xs, longer_ys, e);
       only_in_second = omega (arith, old_second, longer_xs, longer_ys, e);
     }
@@ -83,8 +83,8 @@ counted_both ignored xs ys x y counts e h =
     added_different false m n e = omega arith
 
 -- a slot that the first has alone
-pub counted_one : (ignored : Ignored) (xs ys : List ListedSlot) (x : ListedSlot) (counts : Counts) → length ys ≤ length xs
-    → IsCounted ignored xs ys counts → IsCounted ignored (xs ++ x ∷ []) ys (counted_first counts)
+pub counted_one : (ignored : Ignored) (xs ys : List ListedSlot) (x : ListedSlot) (counts : PlaceCounts) → length ys ≤ length xs
+    → AreCountsOf ignored xs ys counts → AreCountsOf ignored (xs ++ x ∷ []) ys (counted_first counts)
 counted_one ignored xs ys x counts long h =
     let pairs = zip_first xs ys x long in
     let longer = length_push xs x in
@@ -98,8 +98,8 @@ counted_one ignored xs ys x counts long h =
     }
 
 -- a slot that the second has alone
-pub counted_other : (ignored : Ignored) (xs ys : List ListedSlot) (y : ListedSlot) (counts : Counts) → length xs ≤ length ys
-    → IsCounted ignored xs ys counts → IsCounted ignored xs (ys ++ y ∷ []) (counted_second counts)
+pub counted_other : (ignored : Ignored) (xs ys : List ListedSlot) (y : ListedSlot) (counts : PlaceCounts) → length xs ≤ length ys
+    → AreCountsOf ignored xs ys counts → AreCountsOf ignored xs (ys ++ y ∷ []) (counted_second counts)
 counted_other ignored xs ys y counts long h =
     let pairs = zip_second xs ys y long in
     let longer = length_push ys y in
@@ -126,18 +126,18 @@ dropped_found n slots None h = ap (drop n) (append-nil slots) ∙ sym (append-ni
 dropped_found n slots (Some slot) h = drop-append-le n slots (slot ∷ []) (h tt)
 
 -- what was found next in both is counted
-pub counted_next : (ignored : Ignored) (xs ys : List ListedSlot) (first second : Option ListedSlot) (counts : Counts)
+pub counted_next : (ignored : Ignored) (xs ys : List ListedSlot) (first second : Option ListedSlot) (counts : PlaceCounts)
     → (IsFound first → length ys ≤ length xs) → (IsFound second → length xs ≤ length ys)
-    → IsCounted ignored xs ys counts
-    → IsCounted ignored (xs ++ found_slot first) (ys ++ found_slot second) (counted_found ignored first second counts)
+    → AreCountsOf ignored xs ys counts
+    → AreCountsOf ignored (xs ++ found_slot first) (ys ++ found_slot second) (counted_found ignored first second counts)
 counted_next ignored xs ys (Some x) (Some y) counts a b h =
     counted_both ignored xs ys x y counts (omega (arith, a tt, b tt)) h
 counted_next ignored xs ys (Some x) None counts a b h =
-    subst (λ (l : List ListedSlot). IsCounted ignored (xs ++ x ∷ []) l (counted_first counts)) (sym (append-nil ys))
+    subst (λ (l : List ListedSlot). AreCountsOf ignored (xs ++ x ∷ []) l (counted_first counts)) (sym (append-nil ys))
     (counted_one ignored xs ys x counts (a tt) h)
 counted_next ignored xs ys None (Some y) counts a b h =
-    subst (λ (l : List ListedSlot). IsCounted ignored l (ys ++ y ∷ []) (counted_second counts)) (sym (append-nil xs))
+    subst (λ (l : List ListedSlot). AreCountsOf ignored l (ys ++ y ∷ []) (counted_second counts)) (sym (append-nil xs))
     (counted_other ignored xs ys y counts (b tt) h)
 counted_next ignored xs ys None None counts a b h =
-    subst (λ (l : List ListedSlot). IsCounted ignored l (ys ++ []) counts) (sym (append-nil xs))
-    (subst (λ (l : List ListedSlot). IsCounted ignored xs l counts) (sym (append-nil ys)) h)
+    subst (λ (l : List ListedSlot). AreCountsOf ignored l (ys ++ []) counts) (sym (append-nil xs))
+    (subst (λ (l : List ListedSlot). AreCountsOf ignored xs l counts) (sym (append-nil ys)) h)

@@ -8,17 +8,17 @@ use Rattle.dmr_compare.specs.Printed.{PutsDifference, PutsPlace, PutsPlaces, Put
 use Rattle.dmr_compare.specs.Reading.{found_slot}
 use Rattle.dmr_compare.specs.Slots.{ListedSlot}
 use Rattle.dmr_compare.specs.Taking.{PutsFound}
-use Rattle.dmr_compare.specs.declared.settings.Settings.{Settings}
+use Rattle.dmr_compare.specs.declared.settings.CompareSettings.{CompareSettings}
 use Rattle.dmr_lines.specs.Line.{first_line}
 
 -- nothing is put of slots that are the same
-pub put_same : (settings : Settings) (x y : ListedSlot) (h : Option (List ℕ)) → is_same settings.ignored x y ≡ true
+pub put_same : (settings : CompareSettings) (x y : ListedSlot) (h : Option (List ℕ)) → is_same settings.ignored x y ≡ true
     → PutsPlace settings (x, y) h h
 put_same settings x y h same =
     subst (λ (b : Bool). PutsUnless (b || settings.is_quiet) (told_of settings.ignored x y) h h) (sym same) refl
 
 -- nor where differences are counted alone
-pub put_quiet : (settings : Settings) (x y : ListedSlot) (h : Option (List ℕ)) → settings.is_quiet ≡ true
+pub put_quiet : (settings : CompareSettings) (x y : ListedSlot) (h : Option (List ℕ)) → settings.is_quiet ≡ true
     → PutsPlace settings (x, y) h h
 put_quiet settings x y h quiet =
     subst (λ (b : Bool). PutsUnless (is_same settings.ignored x y || b) (told_of settings.ignored x y) h h) (sym quiet)
@@ -29,7 +29,7 @@ put_quiet settings x y h quiet =
     either false = refl
 
 -- two lines are put of slots that differ
-pub put_different : (settings : Settings) (x y : ListedSlot) (ending : List ℕ) (h i : Option (List ℕ))
+pub put_different : (settings : CompareSettings) (x y : ListedSlot) (ending : List ℕ) (h i : Option (List ℕ))
     → is_same settings.ignored x y ≡ false → settings.is_quiet ≡ false → ending ≡ told_of settings.ignored x y
     → PutsDifference ending h i → PutsPlace settings (x, y) h i
 put_different settings x y ending h i differ loud told put =
@@ -43,7 +43,7 @@ on_ok (Ok x) f p = f p
 on_ok (Err e) f p = tt
 
 -- the lines of some places were put, and then those of one more
-pub put_one_more : (settings : Settings) (places : List (ListedSlot × ListedSlot)) (place : ListedSlot × ListedSlot)
+pub put_one_more : (settings : CompareSettings) (places : List (ListedSlot × ListedSlot)) (place : ListedSlot × ListedSlot)
     (a b c : Option (List ℕ)) → PutsPlaces settings places a b → PutsPlace settings place b c
     → PutsPlaces settings (places ++ place ∷ []) a c
 put_one_more settings [] place a b c none one =
@@ -52,12 +52,13 @@ put_one_more settings (p ∷ places) place a b c (next, first, rest) one =
     (next, first, put_one_more settings places place next b c rest one)
 
 -- what is put of what was found next stands behind the lines of the places before
-pub put_next : (settings : Settings) (xs ys : List ListedSlot) (first second : Option ListedSlot) (a b c : Option (List ℕ))
+pub put_next : (settings : CompareSettings) (xs ys : List ListedSlot) (first second : Option ListedSlot) (a b c : Option (List ℕ))
     → (IsFound first → length ys ≤ length xs) → (IsFound second → length xs ≤ length ys)
     → PutsPlaces settings (zip xs ys) a b → PutsFound settings first second b c
     → PutsPlaces settings (zip (xs ++ found_slot first) (ys ++ found_slot second)) a c
 put_next settings xs ys (Some x) (Some y) a b c h h' put one =
-    subst (λ (l : List (ListedSlot × ListedSlot)). PutsPlaces settings l a c) (sym (zip_both xs ys x y (omega (arith, h tt, h' tt))))
+    subst (λ (l : List (ListedSlot × ListedSlot)). PutsPlaces settings l a c)
+    (sym (zip_both xs ys x y (omega (arith, h tt, h' tt))))
     (put_one_more settings (zip xs ys) (x, y) a b c put one)
 put_next settings xs ys (Some x) None a b c h h' put one =
     subst (λ (l : List (ListedSlot × ListedSlot)). PutsPlaces settings l a c)

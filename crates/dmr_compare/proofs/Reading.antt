@@ -1,5 +1,6 @@
 -- What is read goes on, slot by slot.
-use Rattle.std.proofs.Common.{◌≡◌, ℕ, ◌+◌, ◌*◌, ◌<◌, ◌≤◌, Bool, false, List, [], ◌∷◌, ◌++◌, length, Option, None, Some, sym, ap, ◌∙◌, subst}
+use Rattle.std.proofs.Common.{◌≡◌, ℕ, ◌+◌, ◌*◌, ◌<◌, ◌≤◌, Bool, false, List, [], ◌∷◌, ◌++◌, length, Option, None, Some}
+use Rattle.std.proofs.Common.{sym, ap, ◌∙◌, subst}
 use Rattle.std.proofs.Common.{arith, append-nil}
 use Rattle.std.specs.Io.KnownBytes.{Consumes}
 use Rattle.std.proofs.lemmas.List.Concat.{flat_map-append}
@@ -12,16 +13,17 @@ use Rattle.dmr_recording.specs.Places.{octet_behind}
 use Rattle.dmr_recording.specs.Recordings.{IsSlotOf, RecordedSlot, slot_limit_of, spelling}
 use Rattle.dmr_recording.specs.declared.recording.Recording.{Recording}
 use Rattle.dmr_compare.specs.Reading.{AreSlotsRead, HasRead}
-use Rattle.dmr_compare.specs.Slots.{IsListedAt, ListedSlot, line_of, lines_of, slot_of, slots_of}
+use Rattle.dmr_compare.specs.Slots.{IsListedAt, ListedSlot, line_in_slot, lines_of, bare_slot, bare_slots}
 
 -- the slots of a list and of one more
-pub slots_more : (slots : List ListedSlot) (slot : ListedSlot) → slots_of (slots ++ slot ∷ []) ≡ slots_of slots ++ slot_of slot ∷ []
-slots_more slots slot = map-append slot_of slots (slot ∷ [])
+pub slots_more : (slots : List ListedSlot) (slot : ListedSlot)
+    → bare_slots (slots ++ slot ∷ []) ≡ bare_slots slots ++ bare_slot slot ∷ []
+slots_more slots slot = map-append bare_slot slots (slot ∷ [])
 
 -- the lines of a list and of one more
-pub lines_more : (slots : List ListedSlot) (slot : ListedSlot) → lines_of (slots ++ slot ∷ []) ≡ lines_of slots ++ line_of slot
+pub lines_more : (slots : List ListedSlot) (slot : ListedSlot) → lines_of (slots ++ slot ∷ []) ≡ lines_of slots ++ line_in_slot slot
 lines_more slots slot =
-    flat_map-append line_of slots (slot ∷ []) ∙ ap (λ l. lines_of slots ++ l) (append-nil (line_of slot))
+    flat_map-append line_in_slot slots (slot ∷ []) ∙ ap (λ l. lines_of slots ++ l) (append-nil (line_in_slot slot))
 
 -- these slots and lines were read, whatever they are called
 pub read_as : (recording : Recording) (slots slots' : List RecordedSlot) (lines lines' : List BurstLine) (turn turn' : ListingTurn)
@@ -34,24 +36,25 @@ read_as recording slots slots' lines lines' turn turn' a c same_slots same_lines
 
 -- a slot more was read
 pub read_more : (recording : Recording) (slots : List ListedSlot) (slot : ListedSlot) (turn next : ListingTurn)
-    (a b c : Option (List ℕ)) → AreSlotsRead recording slots turn a b → IsSlotOf recording (slot_of slot)
-    → Consumes b c (spelling recording (slot_of slot)) → IsListedAt turn slot next
+    (a b c : Option (List ℕ)) → AreSlotsRead recording slots turn a b → IsSlotOf recording (bare_slot slot)
+    → Consumes b c (spelling recording (bare_slot slot)) → IsListedAt turn slot next
     → AreSlotsRead recording (slots ++ slot ∷ []) next a c
 read_more recording slots None turn next a b c read is_slot octets listed =
-    read_as recording _ (slots_of (slots ++ None ∷ [])) _ (lines_of (slots ++ None ∷ [])) _ next a c (slots_more slots None)
+    read_as recording _ (bare_slots (slots ++ None ∷ [])) _ (lines_of (slots ++ None ∷ [])) _ next a c (slots_more slots None)
     (lines_more slots None ∙ append-nil (lines_of slots)) listed
-    (read_silence recording (slots_of slots) (lines_of slots) turn a b c read octets)
+    (read_silence recording (bare_slots slots) (lines_of slots) turn a b c read octets)
 read_more recording slots (Some s) turn next a b c read is_slot octets listed =
-    read_as recording _ (slots_of (slots ++ Some s ∷ [])) _ (lines_of (slots ++ Some s ∷ [])) _ next a c (slots_more slots (Some s))
+    read_as recording _ (bare_slots (slots ++ Some s ∷ [])) _ (lines_of (slots ++ Some s ∷ [])) _ next a c
+    (slots_more slots (Some s))
     (lines_more slots (Some s)) listed.1
-    (read_burst recording (slots_of slots) (lines_of slots) turn s.burst s.line a b c read is_slot octets listed.0)
+    (read_burst recording (bare_slots slots) (lines_of slots) turn s.burst s.line a b c read is_slot octets listed.0)
 
 -- where the record behind one more slot begins
 pub octet_more : (recording : Recording) (slots : List ListedSlot) (slot : ListedSlot) (octet : ℕ)
-    → octet ≡ octet_behind (spelling recording) (slots_of slots)
-    → octet + length (spelling recording (slot_of slot)) ≡ octet_behind (spelling recording) (slots_of (slots ++ slot ∷ []))
+    → octet ≡ octet_behind (spelling recording) (bare_slots slots)
+    → octet + length (spelling recording (bare_slot slot)) ≡ octet_behind (spelling recording) (bare_slots (slots ++ slot ∷ []))
 octet_more recording slots slot octet e =
-    octets_more recording (slots_of slots) (slot_of slot) octet e
+    octets_more recording (bare_slots slots) (bare_slot slot) octet e
     ∙ ap (λ (s : List RecordedSlot). octet_behind (spelling recording) s) (sym (slots_more slots slot))
 
 -- one slot more is counted
@@ -63,9 +66,9 @@ counted_more turn next (Some s) listed = ap (λ (t : ListingTurn). t.slots) list
 pub goes_on : (recording : Recording) (turn next : ListingTurn) (octet octet' : ℕ) (is_over : Bool) (slots : List ListedSlot)
     (slot : ListedSlot) (a b c : Option (List ℕ))
     → HasRead (record { recording = recording; view = turn; octet = octet; is_over = is_over }) slots a b
-    → is_over ≡ false → turn.slots < slot_limit_of recording → IsSlotOf recording (slot_of slot)
-    → Consumes b c (spelling recording (slot_of slot)) → IsListedAt turn slot next
-    → octet' ≡ octet + length (spelling recording (slot_of slot)) → octet' ≤ octet + 37
+    → is_over ≡ false → turn.slots < slot_limit_of recording → IsSlotOf recording (bare_slot slot)
+    → Consumes b c (spelling recording (bare_slot slot)) → IsListedAt turn slot next
+    → octet' ≡ octet + length (spelling recording (bare_slot slot)) → octet' ≤ octet + 37
     → HasRead (record { recording = recording; view = next; octet = octet'; is_over = is_over }) (slots ++ slot ∷ []) a c
 goes_on recording turn next octet octet' is_over slots slot a b c h going below is_slot octets listed long short =
     let more = counted_more turn next slot listed in

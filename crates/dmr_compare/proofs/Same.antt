@@ -11,9 +11,9 @@ use Rattle.dmr_bits.specs.Bits.{bits_of_octets, distance, part}
 use Rattle.dmr_compare.proofs.Distances.{of_equals}
 use Rattle.dmr_compare.proofs.Voice.{clash}
 use Rattle.dmr_compare.specs.Counting.{different_places}
-use Rattle.dmr_compare.specs.Kept.{KeptBurst, cach_bits, compared_bits, compared_cach, differing_in_burst, differing_in_cach, is_same}
-use Rattle.dmr_compare.specs.Kept.{is_voice, kept}
-use Rattle.dmr_compare.specs.Slots.{ListedSlot, lines_of, slots_of}
+use Rattle.dmr_compare.specs.Kept.{KeptBurst, cach_bits, compared_bits, compared_cach, differing_in_burst, differing_in_cach}
+use Rattle.dmr_compare.specs.Kept.{is_same, is_voice, kept}
+use Rattle.dmr_compare.specs.Slots.{ListedSlot, lines_of, bare_slots}
 use Rattle.dmr_compare.specs.declared.listed.ListedBurst.{ListedBurst}
 use Rattle.dmr_compare.specs.declared.settings.Ignored.{Ignored}
 use Rattle.dmr_listing.specs.ListingRules.{Lists, ListingTurn, turn_after, turn_passed}
@@ -32,7 +32,7 @@ IsSeen recording (Some s) = IsBurstOf recording s.burst × IsReadAs (bits_of_oct
 
 -- so it is with all slots that were read
 pub all_seen : (recording : Recording) (turn end : ListingTurn) (slots : List ListedSlot)
-    → AllByRecursion (IsSlotOf recording) (slots_of slots) → Lists turn (slots_of slots) (lines_of slots) end
+    → AllByRecursion (IsSlotOf recording) (bare_slots slots) → Lists turn (bare_slots slots) (lines_of slots) end
     → AllByRecursion (IsSeen recording) slots
 all_seen recording turn end [] each lists = tt
 all_seen recording turn end (None ∷ slots) each lists =

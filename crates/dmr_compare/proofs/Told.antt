@@ -5,13 +5,13 @@ use Rattle.std.proofs.lemmas.Bool.{eqb-true}
 use Rattle.std.specs.List.{AllByRecursion}
 use Rattle.dmr_compare.proofs.Same.{IsSeen, all_seen, lists_back, lists_same, seen_behind}
 use Rattle.dmr_compare.specs.Comparing.{compared_of_first, compared_of_second}
-use Rattle.dmr_compare.specs.Counting.{IsCounted, different_places}
+use Rattle.dmr_compare.specs.Counting.{AreCountsOf, different_places}
 use Rattle.dmr_compare.specs.Files.{AreComparedWhole, AreSame, AreToldApart}
 use Rattle.dmr_compare.specs.Shifts.{slots_in_front_of_first, slots_in_front_of_second}
 use Rattle.dmr_compare.specs.Slots.{ListedSlot}
-use Rattle.dmr_compare.specs.Status.{different, same, status_of}
-use Rattle.dmr_compare.specs.declared.counts.Counts.{Counts}
-use Rattle.dmr_compare.specs.declared.settings.Settings.{Settings}
+use Rattle.dmr_compare.specs.Status.{different, same, counted_status}
+use Rattle.dmr_compare.specs.declared.counts.PlaceCounts.{PlaceCounts}
+use Rattle.dmr_compare.specs.declared.settings.CompareSettings.{CompareSettings}
 use Rattle.dmr_listing.specs.ListingRules.{begun}
 use Rattle.dmr_recording.specs.declared.recording.Recording.{Recording}
 
@@ -33,10 +33,10 @@ all_none d f s e e' e'' =
     ∙ ap (λ n. status_by ((0 == 0) && (0 == 0) && (n == 0))) e''
 
 -- the status is 0 exactly where the two keep the same
-status_same : (settings : Settings) (recording : Recording) (firsts seconds : List ListedSlot) (counts : Counts)
+status_same : (settings : CompareSettings) (recording : Recording) (firsts seconds : List ListedSlot) (counts : PlaceCounts)
     → AllByRecursion (IsSeen recording) firsts → AllByRecursion (IsSeen recording) seconds
-    → IsCounted settings.ignored (compared_of_first settings.shift firsts) (compared_of_second settings.shift seconds) counts
-    → (status_of counts ≡ 0) ↔ AreSame settings firsts seconds
+    → AreCountsOf settings.ignored (compared_of_first settings.shift firsts) (compared_of_second settings.shift seconds) counts
+    → (counted_status counts ≡ 0) ↔ AreSame settings firsts seconds
 status_same settings recording firsts seconds counts seen seen' h = (forth, back)
   where
     xs : List ListedSlot
@@ -60,27 +60,28 @@ status_same settings recording firsts seconds counts seen seen' h = (forth, back
     second : counts.only_in_second ≡ length ys - length xs
     second = h.only_in_second
 
-    forth : status_of counts ≡ 0 → AreSame settings firsts seconds
+    forth : counted_status counts ≡ 0 → AreSame settings firsts seconds
     forth e =
         let (none, none_first, none_second) =
         all_true (counts.different == 0) (counts.only_in_first == 0) (counts.only_in_second == 0) e in
         lists_same recording settings.ignored xs ys of_xs of_ys
         (omega (arith, first, second, eqb-true _ _ none_first, eqb-true _ _ none_second)) (sym differing ∙ eqb-true _ _ none)
 
-    back : AreSame settings firsts seconds → status_of counts ≡ 0
+    back : AreSame settings firsts seconds → counted_status counts ≡ 0
     back e =
         let (long, none) = lists_back recording settings.ignored xs ys of_xs of_ys e in
         all_none counts.different counts.only_in_first counts.only_in_second (differing ∙ none) (omega (arith, first, long))
         (omega (arith, second, long))
 
 -- so two files that were compared whole are told apart
-pub told_apart : (settings : Settings) (firsts seconds : List ListedSlot) (counts : Counts) (status : ℕ)
-    (a b c d h i : Option (List ℕ)) → AreComparedWhole settings firsts seconds counts a b c d h i → status ≡ status_of counts
+pub told_apart : (settings : CompareSettings) (firsts seconds : List ListedSlot) (counts : PlaceCounts) (status : ℕ)
+    (a b c d h i : Option (List ℕ)) → AreComparedWhole settings firsts seconds counts a b c d h i → status ≡ counted_status counts
     → AreToldApart settings status a b c d h i
 told_apart settings firsts seconds counts status a b c d h i whole e =
     let recording = whole.recording in
     let seen = all_seen recording begun whole.rests.first_turn firsts whole.rests.first_read.each whole.rests.first_read.listed in
-    let seen' = all_seen recording begun whole.rests.second_turn seconds whole.rests.second_read.each whole.rests.second_read.listed in
+    let seen' =
+    all_seen recording begun whole.rests.second_turn seconds whole.rests.second_read.each whole.rests.second_read.listed in
     let exact = status_same settings recording firsts seconds counts seen seen' whole.rests.compared.counted in
     record {
       firsts = firsts;

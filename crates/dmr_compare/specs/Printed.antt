@@ -1,12 +1,13 @@
 -- What is printed of the places that two recordings have.
-use Rattle.std.specs.Prelude.{◌≡◌, ◌==◌, ◌||◌, ℕ, Bool, true, false, List, [], ◌∷◌, ◌++◌, Option, Some, None, if◌then◌else◌, codes, decimal}
+use Rattle.std.specs.Prelude.{◌≡◌, ◌==◌, ◌||◌, ℕ, Bool, true, false, List, [], ◌∷◌, ◌++◌, Option, Some}
+use Rattle.std.specs.Prelude.{if◌then◌else◌, codes, decimal}
 use Rattle.std.specs.Io.KnownBytes.{Appends}
 use Rattle.dmr_compare.specs.Kept.{differing_in_burst, differing_in_cach, is_same}
 use Rattle.dmr_compare.specs.Slots.{ListedSlot}
 use Rattle.dmr_compare.specs.declared.difference.Difference.{Difference}
 use Rattle.dmr_compare.specs.declared.difference.Difference.TheVariants.{Silence, Bits}
 use Rattle.dmr_compare.specs.declared.settings.Ignored.{Ignored}
-use Rattle.dmr_compare.specs.declared.settings.Settings.{Settings}
+use Rattle.dmr_compare.specs.declared.settings.CompareSettings.{CompareSettings}
 use Rattle.dmr_lines.specs.Line.{IsOneLine, PutsLine, line_octets}
 
 -- what tells how many bits of two CACHs and of two bursts differ: the parts that differ in brackets, and nothing where none does
@@ -46,12 +47,12 @@ PutsUnless false ending old new = PutsDifference ending old new
 
 -- What is put of a place that both recordings have: nothing where its slots are the same or differences are counted alone, and else
 -- two lines. The second ends with how many bits differ, where both have a burst.
-abbrev pub PutsPlace : Settings → ListedSlot × ListedSlot → (old new : Option (List ℕ)) → Type 0
+abbrev pub PutsPlace : CompareSettings → ListedSlot × ListedSlot → (old new : Option (List ℕ)) → Type 0
 PutsPlace settings place old new =
     PutsUnless (is_same settings.ignored place.0 place.1 || settings.is_quiet) (told_of settings.ignored place.0 place.1) old new
 
 -- The lines of places were put, one place behind the other.
-abbrev pub PutsPlaces : Settings → List (ListedSlot × ListedSlot) → (old new : Option (List ℕ)) → Type 0
+abbrev pub PutsPlaces : CompareSettings → List (ListedSlot × ListedSlot) → (old new : Option (List ℕ)) → Type 0
 PutsPlaces settings [] old new = new ≡ old
 PutsPlaces settings (place ∷ places) old new =
     (between : Option (List ℕ)) × PutsPlace settings place old between × PutsPlaces settings places between new

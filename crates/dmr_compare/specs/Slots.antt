@@ -11,22 +11,22 @@ abbrev pub ListedSlot : Type 0
 ListedSlot = Option ListedBurst
 
 -- the slot as the file has it
-abbrev pub slot_of : ListedSlot → RecordedSlot
-slot_of None = None
-slot_of (Some listed) = Some listed.burst
+abbrev pub bare_slot : ListedSlot → RecordedSlot
+bare_slot None = None
+bare_slot (Some listed) = Some listed.burst
 
 -- the slots as the file has them
-abbrev pub slots_of : List ListedSlot → List RecordedSlot
-slots_of slots = map slot_of slots
+abbrev pub bare_slots : List ListedSlot → List RecordedSlot
+bare_slots slots = map bare_slot slots
 
 -- the line that a listing has of a slot: none of silence
-abbrev pub line_of : ListedSlot → List BurstLine
-line_of None = []
-line_of (Some listed) = listed.line ∷ []
+abbrev pub line_in_slot : ListedSlot → List BurstLine
+line_in_slot None = []
+line_in_slot (Some listed) = listed.line ∷ []
 
 -- the lines that a listing has of slots
 abbrev pub lines_of : List ListedSlot → List BurstLine
-lines_of slots = flat_map line_of slots
+lines_of slots = flat_map line_in_slot slots
 
 -- A listing goes on from one turn to another over a slot, which has this line where it is a burst.
 abbrev pub IsListedAt : ListingTurn → ListedSlot → ListingTurn → Type 0

@@ -1,14 +1,14 @@
 //! What is counted of two recordings.
 ghost use Rattle.std.specs.Prelude.{◌≡◌};
 ghost use Rattle.dmr_compare.specs.Counting.{counts_line, places_in};
-ghost use Rattle.dmr_compare.specs.Status.{status_of};
+ghost use Rattle.dmr_compare.specs.Status.{counted_status};
 
 use crate::line::Line;
 use crate::status::{DIFFERENT, SAME};
 
 /// How many slots of two recordings are the same, and how many aren't.
 #[derive(Clone, Copy, Debug, Default, Drop, PartialEq, Eq)]
-pub struct Counts {
+pub struct PlaceCounts {
     /// That both have, and that are the same.
     pub same: u32,
     /// That both have, and that differ.
@@ -19,7 +19,7 @@ pub struct Counts {
     pub only_in_second: u32,
 }
 
-impl Counts {
+impl PlaceCounts {
     /// How many slots were compared, or stand in one of the two alone.
     pub fn places(&self) -> u64
         ensures value { result ≡ places_in self.now }
@@ -32,7 +32,7 @@ impl Counts {
 
     /// The exit status of a comparison that counted this.
     pub fn status(&self) -> u8
-        ensures value { result ≡ status_of self.now }
+        ensures value { result ≡ counted_status self.now }
     {
         if self.different == 0 && self.only_in_first == 0 && self.only_in_second == 0 {
             SAME

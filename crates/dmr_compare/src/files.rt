@@ -1,6 +1,6 @@
 //! Two files, compared.
 ghost use Rattle.std.specs.Prelude.{◌≡◌, ◌≤◌, List, false, true, IfOk, IfErr};
-ghost use Rattle.dmr_compare.specs.Comparing.{HaveFailed, HaveFailedAt};
+ghost use Rattle.dmr_compare.specs.Comparing.{DevicesFail, DevicesFailAt};
 ghost use Rattle.dmr_compare.specs.Files.{AreComparedInPart, AreComparedWhole, AreToldApart};
 ghost use Rattle.dmr_compare.specs.Slots.{ListedSlot};
 ghost use Rattle.dmr_compare.specs.Status.{different, same, trouble};
@@ -8,22 +8,22 @@ ghost use Rattle.dmr_compare.specs.declared.trouble.Trouble.{Trouble as Reason};
 ghost use Rattle.dmr_lines.specs.Line.{PutsError};
 
 use crate::comparing::compare_recordings;
-use crate::counts::Counts;
+use crate::counts::PlaceCounts;
 use crate::heads::read_heads;
-use crate::settings::Settings;
+use crate::settings::CompareSettings;
 use crate::status::TROUBLE;
-use crate::telling::{Names, tell};
+use crate::telling::{FileNames, tell};
 use crate::trouble::Trouble;
 use dmr_record::{Sink, Source, put};
 use std::alloc::Global;
 
 /// Compares two files, as far as both can be read, and prints what differs and the counts.
 fn compare_to<S: Source, T: Source, K: Sink>(
-    settings: &Settings,
+    settings: &CompareSettings,
     first: &mut S,
     second: &mut T,
     out: &mut K,
-) -> Result<Counts, Trouble>
+) -> Result<PlaceCounts, Trouble>
     requires first { S.has_failed first.old ≡ false }
     requires second { T.has_failed second.old ≡ false }
     requires out { K.has_failed out.old ≡ false }
@@ -32,7 +32,7 @@ fn compare_to<S: Source, T: Source, K: Sink>(
         (S.left first.old) (S.left first.new) (T.left second.old) (T.left second.new) (K.held out.old) (K.held out.new)) }
     ensures part { IfErr result (λ reason. AreComparedInPart settings.now reason
         (S.left first.old) (S.left first.new) (T.left second.old) (T.left second.new) (K.held out.old) (K.held out.new)) }
-    ensures failed { HaveFailed result (S.has_failed first.new) (T.has_failed second.new) (K.has_failed out.new) }
+    ensures failed { DevicesFail result (S.has_failed first.new) (T.has_failed second.new) (K.has_failed out.new) }
 {
     let recording = read_heads(first, second)?;
     let counts = compare_recordings(settings, recording, first, second, out)?;
@@ -43,12 +43,12 @@ fn compare_to<S: Source, T: Source, K: Sink>(
 }
 
 /// Compares two recordings of one kind slot by slot, as far as both can be read, and answers the exit status. The sources stand
-/// before the heads. Of each place that differs two lines go to the first sink, and behind them one line with the counts. A fault of
-/// a file is told on the second sink, by the name of that file, and so is that the files aren't two recordings of one kind.
+/// before the heads. Of each place that differs two lines go to the first sink, and behind them goes one line with the counts. A
+/// fault of a file is told on the second sink, by the name of that file. So is that the files aren't two recordings of one kind.
 pub fn compare<S: Source, T: Source, K: Sink, E: Sink>(
     alloc: Global,
-    settings: &Settings,
-    names: &Names<'_>,
+    settings: &CompareSettings,
+    names: &FileNames<'_>,
     first: &mut S,
     second: &mut T,
     out: &mut K,
@@ -65,7 +65,7 @@ pub fn compare<S: Source, T: Source, K: Sink, E: Sink>(
     // Or they were compared in part, for a reason that says which device failed.
     ensures part { result ≡ trouble → (reason : Reason) × AreComparedInPart settings.now reason
         (S.left first.old) (S.left first.new) (T.left second.old) (T.left second.new) (K.held out.old) (K.held out.new)
-        × HaveFailedAt reason (S.has_failed first.new) (T.has_failed second.new) (K.has_failed out.new) }
+        × DevicesFailAt reason (S.has_failed first.new) (T.has_failed second.new) (K.has_failed out.new) }
     // It is told, unless what differs can't be printed.
     ensures told { result ≡ trouble → K.has_failed out.new ≡ false → E.has_failed err.new ≡ false
         → PutsError (E.held err.old) (E.held err.new) }

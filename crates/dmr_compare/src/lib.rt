@@ -16,10 +16,10 @@ mod taking;
 mod telling;
 mod trouble;
 
-pub use counts::Counts;
+pub use counts::PlaceCounts;
 pub use differing::Differing;
 pub use files::compare;
 pub use listed::ListedBurst;
-pub use settings::{Ignored, Settings, Shift};
+pub use settings::{CompareSettings, Ignored, Shift};
 pub use status::{DIFFERENT, SAME, TROUBLE};
-pub use telling::Names;
+pub use telling::FileNames;

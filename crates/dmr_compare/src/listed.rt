@@ -1,6 +1,6 @@
 //! Bursts that are compared.
 ghost use Rattle.std.specs.Prelude.{◌≡◌, ◌-◌, ◌^◌, ◌<◌};
-ghost use Rattle.dmr_compare.specs.Slots.{IsListedAt, slot_of};
+ghost use Rattle.dmr_compare.specs.Slots.{IsListedAt, bare_slot};
 
 use dmr_listing::{BurstLine, BurstText, RecordingView};
 use dmr_recording::RecordedBurst;
@@ -21,7 +21,7 @@ pub(crate) fn list_slot(
     slot: Option<RecordedBurst>,
 ) -> Option<ListedBurst>
     requires room { view.old.slots < 2 ^ 32 - 1 }
-    ensures slot { slot_of result ≡ slot }
+    ensures slot { bare_slot result ≡ slot }
     ensures line { IsListedAt view.old result view.new }
 {
     match slot {

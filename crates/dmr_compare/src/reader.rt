@@ -1,11 +1,12 @@
 //! A recording, read slot by slot.
-ghost use Rattle.std.specs.Prelude.{◌≡◌, ◌+◌, ◌≤◌, ◌++◌, ℕ, List, Option, Some, [], false, true, length, IfOk, IfErr, OnOk, IfSome, IfNone};
+ghost use Rattle.std.specs.Prelude.{◌≡◌, ◌+◌, ◌≤◌, ◌++◌, ℕ, List, Option, Some, [], false, true, length, IfOk, IfErr, OnOk};
+ghost use Rattle.std.specs.Prelude.{IfSome, IfNone};
 ghost use Rattle.std.specs.Io.KnownBytes.{IsAtEnd};
 ghost use Rattle.dmr_listing.specs.ListingRules.{IsReadUpToFault};
 ghost use Rattle.dmr_recording.specs.Places.{place_by_number};
 ghost use Rattle.dmr_record.specs.Faults.{is_device_fault, is_of_end};
 ghost use Rattle.dmr_compare.specs.Reading.{HasRead, found_slot, slots_to_come};
-ghost use Rattle.dmr_compare.specs.Slots.{ListedSlot, lines_of, slots_of};
+ghost use Rattle.dmr_compare.specs.Slots.{ListedSlot, lines_of, bare_slots};
 
 use crate::listed::{ListedBurst, list_slot};
 use dmr_listing::RecordingView;
@@ -14,7 +15,7 @@ use dmr_recording::{FaultLine, HEAD_OCTETS, Place, Recording, read_recording, re
 
 /// Where the reading of a recording stands.
 #[derive(Drop)]
-pub(crate) struct Reader {
+pub(crate) struct SlotReader {
     pub(crate) recording: Recording,
     /// What the lines of the next slots need of those before.
     pub(crate) view: RecordingView,
@@ -24,14 +25,14 @@ pub(crate) struct Reader {
     pub(crate) is_over: bool,
 }
 
-impl Reader {
+impl SlotReader {
     /// Nothing was read behind the head of a recording.
-    pub(crate) fn new(recording: Recording) -> Reader
+    pub(crate) fn new(recording: Recording) -> SlotReader
         ensures none { (left : Option (List ℕ)) → HasRead result [] left left }
         ensures recording { result.recording ≡ recording }
         ensures begun { result.is_over ≡ false }
     {
-        Reader {
+        SlotReader {
             recording,
             view: RecordingView::new(),
             octet: HEAD_OCTETS,
@@ -79,7 +80,7 @@ impl Reader {
         // Or the record behind them shows a fault.
         ensures fault { IfErr result (λ fault. (slots : List ListedSlot) (start : Option (List ℕ))
             → HasRead self.old slots start (S.left source.old)
-            → IsReadUpToFault self.old.recording (slots_of slots) (lines_of slots) fault start (S.left source.new)) }
+            → IsReadUpToFault self.old.recording (bare_slots slots) (lines_of slots) fault start (S.left source.new)) }
         ensures cut { IfErr result (λ fault. is_of_end fault.fault ≡ true → IsAtEnd (S.left source.new)) }
         ensures device { IfErr result (λ fault. S.has_failed source.new ≡ is_device_fault fault.fault) }
         ensures same_recording { self.new.recording ≡ self.old.recording }
@@ -110,7 +111,8 @@ impl Reader {
             × HasRead self.new slots (S.left source.old) (S.left source.new)) }
         ensures well { OnOk result (S.has_failed source.new ≡ false) }
         ensures fault { IfErr result (λ fault. (slots : List ListedSlot) × (length slots ≤ front)
-            × IsReadUpToFault self.old.recording (slots_of slots) (lines_of slots) fault (S.left source.old) (S.left source.new)) }
+            × IsReadUpToFault self.old.recording (bare_slots slots) (lines_of slots) fault
+            (S.left source.old) (S.left source.new)) }
         ensures cut { IfErr result (λ fault. is_of_end fault.fault ≡ true → IsAtEnd (S.left source.new)) }
         ensures device { IfErr result (λ fault. S.has_failed source.new ≡ is_device_fault fault.fault) }
         ensures same_recording { self.new.recording ≡ self.old.recording }

@@ -23,7 +23,7 @@ pub enum Shift {
 
 /// How two recordings are compared.
 #[derive(Clone, Copy, Debug, Drop, PartialEq, Eq)]
-pub struct Settings {
+pub struct CompareSettings {
     /// Which frames are compared with one another.
     pub shift: Shift,
     /// What is left out of them.

@@ -5,20 +5,20 @@ ghost use Rattle.dmr_compare.specs.Printed.{PutsPlace};
 ghost use Rattle.dmr_compare.specs.Taking.{HasRoom, PutsFound, counted_found, counted_place};
 ghost use Rattle.dmr_record.specs.Devices.{failed_after};
 
-use crate::counts::Counts;
+use crate::counts::PlaceCounts;
 use crate::difference::Difference;
 use crate::listed::ListedBurst;
-use crate::settings::Settings;
+use crate::settings::CompareSettings;
 use dmr_record::{DeviceFault, Sink};
 use dmr_recording::Place;
 
-/// Counts a place that both recordings have, and prints its lines where it differs.
+/// PlaceCounts a place that both recordings have, and prints its lines where it differs.
 fn take_both<K: Sink>(
-    settings: &Settings,
+    settings: &CompareSettings,
     place: Place,
     first: &Option<ListedBurst>,
     second: &Option<ListedBurst>,
-    counts: &mut Counts,
+    counts: &mut PlaceCounts,
     sink: &mut K,
 ) -> Result<(), DeviceFault>
     requires sink { K.has_failed sink.old ≡ false }
@@ -42,13 +42,13 @@ fn take_both<K: Sink>(
     }
 }
 
-/// Counts what was found next in two recordings, and prints its lines where both have something and it differs.
+/// PlaceCounts what was found next in two recordings, and prints its lines where both have something and it differs.
 pub(crate) fn take_found<K: Sink>(
-    settings: &Settings,
+    settings: &CompareSettings,
     place: Place,
     first: &Option<Option<ListedBurst>>,
     second: &Option<Option<ListedBurst>>,
-    counts: &mut Counts,
+    counts: &mut PlaceCounts,
     sink: &mut K,
 ) -> Result<(), DeviceFault>
     requires sink { K.has_failed sink.old ≡ false }

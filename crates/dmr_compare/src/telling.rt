@@ -9,7 +9,7 @@ use std::alloc::{AllocError, Global};
 
 /// The names of two files, by which their faults are told.
 #[derive(Clone, Copy, Debug)]
-pub struct Names<'a> {
+pub struct FileNames<'a> {
     /// Of the first.
     pub first: &'a str,
     /// Of the second.
@@ -17,7 +17,7 @@ pub struct Names<'a> {
 }
 
 /// What is told of a trouble. A sink that failed tells itself.
-fn text_of(alloc: Global, names: &Names<'_>, trouble: &Trouble) -> Result<String, AllocError> {
+fn text_of(alloc: Global, names: &FileNames<'_>, trouble: &Trouble) -> Result<String, AllocError> {
     let first = ToldName(names.first);
     let second = ToldName(names.second);
     match trouble {
@@ -38,7 +38,7 @@ fn tell_text<E: Sink>(err: &mut E, what: &str)
 }
 
 /// Tells why two files weren't compared, by their names.
-pub(crate) fn tell<E: Sink>(alloc: Global, names: &Names<'_>, trouble: &Trouble, err: &mut E)
+pub(crate) fn tell<E: Sink>(alloc: Global, names: &FileNames<'_>, trouble: &Trouble, err: &mut E)
     requires err { E.has_failed err.old ≡ false }
     ensures error { E.has_failed err.new ≡ false → PutsError (E.held err.old) (E.held err.new) }
 {

@@ -1,13 +1,15 @@
 //! What is printed of two recordings. The lines are worked out from docs/protocol.md, and so are the counts.
 use crate::recordings::{CALL, DOWNLINK_BEFORE, DOWNLINK_BEHIND, RECEIVED, REPEATED, UPLINK};
-use dmr_compare::{Counts, DIFFERENT, Ignored, Names, SAME, Settings, Shift, TROUBLE, compare};
+use dmr_compare::{
+    CompareSettings, DIFFERENT, FileNames, Ignored, PlaceCounts, SAME, Shift, TROUBLE, compare,
+};
 use dmr_record::{FromRead, ToWrite};
 use dmr_test_devices::{FailsAt, OneByOne};
 use std::process::Abort;
 use std::test::Fail;
 
 /// Everything is compared, with no shift.
-const ALL: Settings = Settings {
+const ALL: CompareSettings = CompareSettings {
     shift: Shift::Later(0),
     ignored: Ignored {
         cach: false,
@@ -17,7 +19,7 @@ const ALL: Settings = Settings {
 };
 
 /// The names of the files.
-const NAMES: Names<'static> = Names {
+const NAMES: FileNames<'static> = FileNames {
     first: "one.dmrd",
     second: "two\n.dmrd",
 };
@@ -33,7 +35,7 @@ struct Wanted<'a> {
 /// Two files are compared so.
 fn expect_octets(
     rt: &(impl Abort + AllocGlobal),
-    settings: Settings,
+    settings: CompareSettings,
     first: &[u8],
     second: &[u8],
     wanted: &Wanted<'_>,
@@ -63,7 +65,7 @@ fn expect_octets(
 /// Two files, in digits, are compared so.
 fn expect(
     rt: &(impl Abort + AllocGlobal),
-    settings: Settings,
+    settings: CompareSettings,
     first: &str,
     second: &str,
     wanted: &Wanted<'_>,
@@ -126,7 +128,7 @@ fn alike(rt: HostRuntime) -> Result<(), Fail> {
 #[test]
 fn statuses(rt: HostRuntime) -> Result<(), Fail> {
     assert_eq!(&rt; (SAME, DIFFERENT, TROUBLE), (0, 1, 2));
-    let counts = Counts {
+    let counts = PlaceCounts {
         same: 7,
         different: 0,
         only_in_first: 0,
@@ -164,7 +166,7 @@ fn one_bit_of_a_burst(rt: HostRuntime) -> Result<(), Fail> {
             err: "",
         },
     )?;
-    let quiet = Settings {
+    let quiet = CompareSettings {
         is_quiet: true,
         ..ALL
     };
@@ -238,7 +240,7 @@ fn a_cach(rt: HostRuntime) -> Result<(), Fail> {
             err: "",
         },
     )?;
-    let without = Settings {
+    let without = CompareSettings {
         ignored: Ignored {
             cach: true,
             vocoder: false,
@@ -257,7 +259,7 @@ fn a_cach(rt: HostRuntime) -> Result<(), Fail> {
         },
     )?;
     // Vocoder bits are something else.
-    let without_vocoder = Settings {
+    let without_vocoder = CompareSettings {
         ignored: Ignored {
             cach: false,
             vocoder: true,
@@ -284,7 +286,7 @@ const VOICE_DIFFERS: &str = "     0.48       8 1  A  - *  1  voice B       LCSS 
 #[test]
 fn vocoder_bits(rt: HostRuntime) -> Result<(), Fail> {
     let alloc = rt.alloc();
-    let without = Settings {
+    let without = CompareSettings {
         ignored: Ignored {
             cach: false,
             vocoder: true,
@@ -327,7 +329,7 @@ fn shifts(rt: HostRuntime) -> Result<(), Fail> {
     let head = CALL.get(..16).unwrap_or("");
     let rest = CALL.get(16..).unwrap_or("");
     let later = format!(in alloc; "{head}000000000000{rest}")?;
-    let by_three = Settings {
+    let by_three = CompareSettings {
         shift: Shift::Later(3),
         ..ALL
     };
@@ -337,13 +339,13 @@ fn shifts(rt: HostRuntime) -> Result<(), Fail> {
         err: "",
     };
     expect(&rt, by_three, CALL, later.as_str(), &same)?;
-    let back = Settings {
+    let back = CompareSettings {
         shift: Shift::Earlier(3),
         ..ALL
     };
     expect(&rt, back, later.as_str(), CALL, &same)?;
     // More frames than there are stand in front.
-    let far = Settings {
+    let far = CompareSettings {
         shift: Shift::Later(1_000),
         ..ALL
     };

@@ -4,7 +4,7 @@ use Rattle.dmr_compare.proofs.Beside.{fault_of_second, has_room, whole_compared}
 use Rattle.dmr_compare.specs.Comparing.{StandBeside}
 use Rattle.dmr_compare.specs.Reading.{found_slot}
 use Rattle.dmr_compare.specs.Taking.{PutsFound}
-use Rattle.dmr_compare.specs.declared.counts.Counts.{Counts}
+use Rattle.dmr_compare.specs.declared.counts.PlaceCounts.{PlaceCounts}
 use Rattle.dmr_compare.proofs.comparing.compare_recordings.Goals as goal
 
 pub pass-requires-clause-none : goal.pass-requires-clause-none
@@ -81,8 +81,8 @@ returns-then-is_none-2-clause-whole g c =
     let none : c.in-Ok.found ≡ None = search rules in
     let none' : c.in-Ok-next.found ≡ None = search rules in
     let compared = whole_compared c.args.settings.now c.loop-found.one c.next.new.self c.loop-found.other
-    c.next-in-loop-found.new.self c.args.recording c.loop-found.counts firsts seconds c.in-Ok.found c.in-Ok-next.found _ _ _ _ _ _ _ _
-    stood (c.in-Ok.ensures.same_recording ∙ c.loop-found.invariant.one)
+    c.next-in-loop-found.new.self c.args.recording c.loop-found.counts firsts seconds c.in-Ok.found c.in-Ok-next.found
+    _ _ _ _ _ _ _ _ stood (c.in-Ok.ensures.same_recording ∙ c.loop-found.invariant.one)
     (c.in-Ok-next.ensures.same_recording ∙ c.loop-found.invariant.other) (c.in-Ok.ensures.read firsts _ stood.first_read)
     (c.in-Ok-next.ensures.read seconds _ stood.second_read) step step' none none' in
     (firsts, seconds, compared)
@@ -113,7 +113,7 @@ loop-found-preserved g c =
       beside = (
         firsts ++ found_slot c.in-Ok.found,
         seconds ++ found_slot c.in-Ok-next.found,
-        subst (λ (k : Counts). StandBeside c.args.settings.now c.next.new.self c.next-in-loop-found.new.self k
+        subst (λ (k : PlaceCounts). StandBeside c.args.settings.now c.next.new.self c.next-in-loop-found.new.self k
             (firsts ++ found_slot c.in-Ok.found) (seconds ++ found_slot c.in-Ok-next.found) (g.S.Source.left c.args.first.now)
             (g.S.Source.left c.next.new.source) (g.T.Source.left c.args.second.now)
             (g.T.Source.left c.next-in-loop-found.new.source) (g.K.Sink.held c.args.sink.now) (g.K.Sink.held c.take_found.new.sink))

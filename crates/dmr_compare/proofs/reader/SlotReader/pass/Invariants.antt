@@ -2,7 +2,7 @@
 use Rattle.std.proofs.Common.{◌≡◌, ◌≤◌, List, length, false}
 use Rattle.dmr_compare.specs.Reading.{HasRead, slots_to_come}
 use Rattle.dmr_compare.specs.Slots.{ListedSlot}
-use Rattle.dmr_compare.proofs.reader.Reader.pass.Given as goal
+use Rattle.dmr_compare.proofs.reader.SlotReader.pass.Given as goal
 
 abbrev pub invariant-loop-self : goal.invariant-loop-self
 invariant-loop-self g l = record {

@@ -2,7 +2,7 @@ use Rattle.std.proofs.Common.{◌≡◌, ◌+◌, ◌<◌, length, sym, ap, subs
 use Rattle.dmr_recording.specs.Recordings.{IsSlotOf, RecordedSlot, slot_limit_of, spelling}
 use Rattle.std.specs.Io.KnownBytes.{Consumes}
 use Rattle.dmr_compare.proofs.Reading.{goes_on}
-use Rattle.dmr_compare.proofs.reader.Reader.next.Goals as goal
+use Rattle.dmr_compare.proofs.reader.SlotReader.next.Goals as goal
 
 -- a slot that was read stands behind those before it
 pub returns-in-Ok-Some-clause-read : goal.returns-in-Ok-Some-clause-read
