@@ -20,9 +20,9 @@ use Rattle.dmr_compare.specs.declared.trouble.Trouble.TheVariants.{First, Second
 -- 1. Heads.
 
 -- the format of the file of a recording
-abbrev pub recording_format : Recording → FileFormat
-recording_format Uplink = format.Uplink
-recording_format Downlink = format.Downlink
+abbrev pub kind_format : Recording → FileFormat
+kind_format Uplink = format.Uplink
+kind_format Downlink = format.Downlink
 
 -- The fault is one of a head, which begins at octet 0 and in no slot.
 pub record IsFaultOfHead (fault : FaultLine) (left_old left_new : Option (List ℕ)) : Type 0 where
@@ -83,8 +83,8 @@ pub record AreComparedWhole (settings : CompareSettings) (firsts seconds : List 
   pub first_left : Option (List ℕ)
   pub second_left : Option (List ℕ)
   pub held : Option (List ℕ)
-  pub first_head : Consumes first_old first_left (head_octets (magic_of (recording_format recording)))
-  pub second_head : Consumes second_old second_left (head_octets (magic_of (recording_format recording)))
+  pub first_head : Consumes first_old first_left (head_octets (magic_of (kind_format recording)))
+  pub second_head : Consumes second_old second_left (head_octets (magic_of (kind_format recording)))
   pub rests : AreRestsCompared settings recording firsts seconds counts first_left first_new second_left second_new held_old held
   pub counts_put : Appends held held_new (counts_line counts)
 
@@ -103,8 +103,8 @@ pub record AreComparedUpToFirst (settings : CompareSettings) (fault : FaultLine)
   pub recording : Recording
   pub first_left : Option (List ℕ)
   pub second_left : Option (List ℕ)
-  pub first_head : Consumes first_old first_left (head_octets (magic_of (recording_format recording)))
-  pub second_head : Consumes second_old second_left (head_octets (magic_of (recording_format recording)))
+  pub first_head : Consumes first_old first_left (head_octets (magic_of (kind_format recording)))
+  pub second_head : Consumes second_old second_left (head_octets (magic_of (kind_format recording)))
   pub rests : IsFirstAtFault settings recording fault first_left first_new second_left second_new held_old held_new
 
 -- Or up to a fault of the second.
@@ -113,8 +113,8 @@ pub record AreComparedUpToSecond (settings : CompareSettings) (fault : FaultLine
   pub recording : Recording
   pub first_left : Option (List ℕ)
   pub second_left : Option (List ℕ)
-  pub first_head : Consumes first_old first_left (head_octets (magic_of (recording_format recording)))
-  pub second_head : Consumes second_old second_left (head_octets (magic_of (recording_format recording)))
+  pub first_head : Consumes first_old first_left (head_octets (magic_of (kind_format recording)))
+  pub second_head : Consumes second_old second_left (head_octets (magic_of (kind_format recording)))
   pub rests : IsSecondAtFault settings recording fault first_left first_new second_left second_new held_old held_new
 
 -- The heads were refused, and nothing was printed.

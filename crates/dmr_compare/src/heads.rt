@@ -2,7 +2,7 @@
 ghost use Rattle.std.specs.Prelude.{◌≡◌, false, None, IfOk, IfErr};
 ghost use Rattle.std.specs.Io.KnownBytes.{Consumes};
 ghost use Rattle.dmr_compare.specs.Comparing.{DevicesFail};
-ghost use Rattle.dmr_compare.specs.Files.{AreHeadsRefused, AreRefused, recording_format};
+ghost use Rattle.dmr_compare.specs.Files.{AreHeadsRefused, AreRefused, kind_format};
 ghost use Rattle.dmr_record.specs.Head.{head_octets, magic_of};
 
 use crate::trouble::Trouble;
@@ -24,8 +24,8 @@ fn head_fault(fault: RecordFault) -> FaultLine
 
 /// Which recordings two files are, by their formats: of one kind, and no lists.
 fn recording_of(first: FileFormat, second: FileFormat) -> Result<Recording, Trouble>
-    ensures first { IfOk result (λ recording. first ≡ recording_format recording) }
-    ensures second { IfOk result (λ recording. second ≡ recording_format recording) }
+    ensures first { IfOk result (λ recording. first ≡ kind_format recording) }
+    ensures second { IfOk result (λ recording. second ≡ kind_format recording) }
     ensures trouble { IfErr result (λ trouble. AreRefused trouble first second) }
 {
     match (first, second) {
@@ -45,9 +45,9 @@ pub(crate) fn read_heads<S: Source, T: Source>(
     requires first { S.has_failed first.old ≡ false }
     requires second { T.has_failed second.old ≡ false }
     ensures first_head { IfOk result (λ recording.
-        Consumes (S.left first.old) (S.left first.new) (head_octets (magic_of (recording_format recording)))) }
+        Consumes (S.left first.old) (S.left first.new) (head_octets (magic_of (kind_format recording)))) }
     ensures second_head { IfOk result (λ recording.
-        Consumes (T.left second.old) (T.left second.new) (head_octets (magic_of (recording_format recording)))) }
+        Consumes (T.left second.old) (T.left second.new) (head_octets (magic_of (kind_format recording)))) }
     ensures refused { IfErr result (λ trouble. AreHeadsRefused trouble
         (S.left first.old) (S.left first.new) (T.left second.old) (T.left second.new)) }
     ensures failed { DevicesFail result (S.has_failed first.new) (T.has_failed second.new) false }

@@ -1,9 +1,12 @@
 //! What is printed of two recordings. The lines are worked out from docs/protocol.md, and so are the counts.
 use crate::recordings::{CALL, DOWNLINK_BEFORE, DOWNLINK_BEHIND, RECEIVED, REPEATED, UPLINK};
 use dmr_compare::{
-    CompareSettings, DIFFERENT, FileNames, Ignored, PlaceCounts, SAME, Shift, TROUBLE, compare,
+    CompareSettings, DIFFERENT, Differing, FileNames, Ignored, ListedBurst, PlaceCounts, SAME,
+    Shift, TROUBLE, compare,
 };
+use dmr_listing::RecordingView;
 use dmr_record::{FromRead, ToWrite};
+use dmr_recording::RecordedBurst;
 use dmr_test_devices::{FailsAt, OneByOne};
 use std::process::Abort;
 use std::test::Fail;
@@ -320,6 +323,58 @@ fn vocoder_bits(rt: HostRuntime) -> Result<(), Fail> {
             },
         )?;
     }
+    Ok(())
+}
+
+/// A burst of a downlink with its CACH, in digits, as the first of its recording.
+fn listed(digits: &str) -> Result<ListedBurst, Fail> {
+    let mut octets = [0u8; 36];
+    hex::decode_to_slice(digits.as_bytes(), &mut octets)?;
+    let mut cach = [0u8; 3];
+    cach.copy_from_slice(&octets[..3]);
+    let mut burst = [0u8; 33];
+    burst.copy_from_slice(&octets[3..]);
+    let burst = RecordedBurst {
+        cach: Some(cach),
+        burst,
+    };
+    let line = RecordingView::new().line(&burst);
+    Ok(ListedBurst { burst, line })
+}
+
+#[test]
+fn bits_between(rt: HostRuntime) -> Result<(), Fail> {
+    let none = Ignored {
+        cach: false,
+        vocoder: false,
+    };
+    let both = Ignored {
+        cach: true,
+        vocoder: true,
+    };
+    // Place B of the call. In the second the last bit of its CACH is turned, bits 0 and 7 of its own, and bit 155, the last one of
+    // its centre.
+    let first = listed("800A650E71E0FD77B07670EB940BD5335130000000091F973DAAD8619B91FFC911F57CCE")?;
+    let second = listed(
+        "800A648F71E0FD77B07670EB940BD5335130000000090F973DAAD8619B91FFC911F57CCE",
+    )?;
+    let differing = Differing::between(none, &first, &second);
+    assert_eq!(&rt; differing, Differing { cach: 1, burst: 3 });
+    assert!(&rt; !differing.is_none());
+    assert_eq!(&rt;
+        Differing::between(both, &first, &second),
+        Differing { cach: 0, burst: 1 }
+    );
+    assert!(&rt; Differing::between(none, &first, &first).is_none());
+    // Of data all bits count: bit 19 of the control block is turned.
+    let block = listed("800A200062008201900100042004E004CDFF57D75DF5DAC81800280250028000C0120022")?;
+    let turned = listed(
+        "800A200062108201900100042004E004CDFF57D75DF5DAC81800280250028000C0120022",
+    )?;
+    assert_eq!(&rt;
+        Differing::between(both, &block, &turned),
+        Differing { cach: 0, burst: 1 }
+    );
     Ok(())
 }
 
