@@ -144,6 +144,14 @@ beside_next settings one one' other other' counts firsts seconds first second a 
       few_second = omega (arith, stood.few_second, few_seconds settings.ignored first second counts, long', count', now');
     }
 
+-- they do so by whatever counts are the same
+pub beside_by : (settings : CompareSettings) (one other : SlotReader) (counts counts' : PlaceCounts)
+    (firsts seconds : List ListedSlot) (a b c d h i : Option (List ℕ)) → counts' ≡ counts
+    → StandBeside settings one other counts firsts seconds a b c d h i
+    → StandBeside settings one other counts' firsts seconds a b c d h i
+beside_by settings one other counts counts' firsts seconds a b c d h i e stood =
+    subst (λ (k : PlaceCounts). StandBeside settings one other k firsts seconds a b c d h i) (sym e) stood
+
 -- 4. The begin.
 
 -- where nothing stands behind the slots in front of one list, there are no places, and no lines

@@ -1,10 +1,8 @@
-use Rattle.std.proofs.Common.{rules, ◌≡◌, ◌++◌, None, sym, ◌∙◌, subst, arith}
-use Rattle.dmr_compare.proofs.Beside.{IsStep, beside_begun, beside_next, fault_before_first, fault_before_second, fault_of_first}
-use Rattle.dmr_compare.proofs.Beside.{fault_of_second, has_room, whole_compared}
-use Rattle.dmr_compare.specs.Comparing.{StandBeside}
+use Rattle.std.proofs.Common.{rules, ◌≡◌, ◌++◌, None, ◌∙◌, arith}
+use Rattle.dmr_compare.proofs.Beside.{IsStep, beside_begun, beside_by, beside_next, fault_before_first, fault_before_second}
+use Rattle.dmr_compare.proofs.Beside.{fault_of_first, fault_of_second, has_room, whole_compared}
 use Rattle.dmr_compare.specs.Reading.{found_slot}
 use Rattle.dmr_compare.specs.Taking.{PutsFound}
-use Rattle.dmr_compare.specs.declared.counts.PlaceCounts.{PlaceCounts}
 use Rattle.dmr_compare.proofs.comparing.compare_recordings.Goals as goal
 
 pub pass-requires-clause-none : goal.pass-requires-clause-none
@@ -113,10 +111,8 @@ loop-found-preserved g c =
       beside = (
         firsts ++ found_slot c.in-Ok.found,
         seconds ++ found_slot c.in-Ok-next.found,
-        subst (λ (k : PlaceCounts). StandBeside c.args.settings.now c.next.new.self c.next-in-loop-found.new.self k
-            (firsts ++ found_slot c.in-Ok.found) (seconds ++ found_slot c.in-Ok-next.found) (g.S.Source.left c.args.first.now)
-            (g.S.Source.left c.next.new.source) (g.T.Source.left c.args.second.now)
-            (g.T.Source.left c.next-in-loop-found.new.source) (g.K.Sink.held c.args.sink.now) (g.K.Sink.held c.take_found.new.sink))
-            (sym c.take_found.ensures.counted) next,
+        beside_by c.args.settings.now c.next.new.self c.next-in-loop-found.new.self _ c.take_found.new.counts
+            (firsts ++ found_slot c.in-Ok.found) (seconds ++ found_slot c.in-Ok-next.found) _ _ _ _ _ _
+            c.take_found.ensures.counted next,
       );
     }
