@@ -1,6 +1,7 @@
 -- Two readers stand beside each other, slot by slot.
 use Rattle.std.proofs.Common.{◌≡◌, ℕ, ◌+◌, ◌≤◌, Bool, true, false, List, [], ◌∷◌, ◌++◌, length, drop, Option, Some, None, IfSome}
 use Rattle.std.proofs.Common.{if◌then◌else◌, IfNone, refl, sym, ap, ◌∙◌, subst, arith, append-nil, length-append}
+use Rattle.std.proofs.Common.{◌⊎◌, inl, inr}
 use Rattle.std.proofs.lemmas.List.{drop_all}
 use Rattle.std.specs.List.{zip}
 use Rattle.dmr_listing.proofs.Listings.{most_few}
@@ -10,7 +11,7 @@ use Rattle.dmr_recording.specs.declared.recording.Recording.{Recording}
 use Rattle.dmr_compare.proofs.Counting.{IsFound, counted_next, dropped_found, zip_first}
 use Rattle.dmr_compare.proofs.Printed.{put_next}
 use Rattle.dmr_compare.specs.Comparing.{AreRestsCompared, IsFirstAtFault, IsSecondAtFault, StandBeside, compared_of_first}
-use Rattle.dmr_compare.specs.Comparing.{compared_of_second}
+use Rattle.dmr_compare.specs.Comparing.{IsReadAsFar, compared_of_second}
 use Rattle.dmr_compare.specs.Counting.{AreCountsOf}
 use Rattle.dmr_compare.specs.Kept.{is_same}
 use Rattle.dmr_compare.specs.Printed.{PutsPlaces}
@@ -169,6 +170,17 @@ none_of_second settings n xs seconds h short =
     no_places [] = refl
     no_places (x ∷ l) = refl
 
+-- and what has no slots behind those in front isn't further than anything
+pub none_as_far : (m : ℕ) (slots others : List ListedSlot) → length slots ≤ m → length (drop m slots) ≤ length others
+none_as_far m slots others short =
+    let empty : length (drop m slots) ≡ 0 = ap length (drop_all m slots short) in
+    omega (arith, empty)
+
+-- one of two holds, by whether an end was seen
+pub by_end : {P Q : Type 0} (is_over : Bool) → (is_over ≡ false → P) → (is_over ≡ true → Q) → P ⊎ Q
+by_end true f g = inr (g refl)
+by_end false f g = inl (f refl)
+
 -- what a reader of a recording has read
 pub read_by : (reader : SlotReader) (recording : Recording) (slots : List ListedSlot) (a b : Option (List ℕ))
     → reader.recording ≡ recording → HasRead reader slots a b → AreSlotsRead recording slots reader.view a b
@@ -193,6 +205,7 @@ fault_before_first settings one other recording firsts fault a b c h short e e' 
   turn = other.view;
   first_read = fault_by one recording firsts fault a b e read;
   second_read = read_by other recording [] c c e' read';
+  beside = inl (none_as_far (slots_in_front_of_first settings.shift) firsts (compared_of_second settings.shift []) short);
   put = none_of_first settings (slots_in_front_of_first settings.shift) firsts (compared_of_second settings.shift []) h short;
 }
 
@@ -209,6 +222,7 @@ fault_before_second settings one other recording firsts seconds fault a b c d h 
   turn = one.view;
   first_read = read_by one recording firsts a b e read;
   second_read = fault_by other recording seconds fault c d e' read';
+  beside = inl (none_as_far (slots_in_front_of_second settings.shift) seconds (compared_of_first settings.shift firsts) short);
   put = none_of_second settings (slots_in_front_of_second settings.shift) (compared_of_first settings.shift firsts) seconds h short;
 }
 
@@ -265,6 +279,7 @@ fault_of_first settings one other recording counts firsts seconds fault a b b' c
   turn = other.view;
   first_read = fault_by one recording firsts fault a b' e read;
   second_read = read_by other recording seconds c d e' stood.second_read;
+  beside = by_end other.is_over stood.second_beside stood.second_read.over;
   put = stood.compared.put;
 }
 
@@ -276,6 +291,21 @@ alone_no_place m firsts ys None front beside = ap (λ (l : List ListedSlot). zip
 alone_no_place m firsts ys (Some slot) front beside =
     ap (λ (l : List ListedSlot). zip l ys) (dropped_found m firsts (Some slot) front)
     ∙ zip_first (drop m firsts) ys slot (beside tt)
+
+-- behind what was found of the first alone it was read as far as the second, or to its end
+pub found_as_far : (settings : CompareSettings) (one one' other : SlotReader) (counts : PlaceCounts)
+    (firsts seconds : List ListedSlot) (found : Option ListedSlot) (a b b' c d h i : Option (List ℕ))
+    → StandBeside settings one other counts firsts seconds a b c d h i → HasRead one' (firsts ++ found_slot found) a b'
+    → IsStep one one' found
+    → IsReadAsFar (compared_of_second settings.shift seconds) (compared_of_first settings.shift (firsts ++ found_slot found)) b'
+found_as_far settings one one' other counts firsts seconds None a b b' c d h i stood read step = inr (read.over step.none)
+found_as_far settings one one' other counts firsts seconds (Some slot) a b b' c d h i stood read step =
+    let m = slots_in_front_of_first settings.shift in
+    let front = stood.first_front step.some.0 in
+    let before = stood.first_beside step.some.0 in
+    let more : length (drop m (firsts ++ slot ∷ [])) ≡ length (drop m firsts) + 1 =
+    ap length (dropped_found m firsts (Some slot) (λ f. front)) ∙ length-append (drop m firsts) (slot ∷ []) in
+    inl (omega (arith, before, more))
 
 -- the second is at fault behind slots that were compared, and perhaps one more of the first
 pub fault_of_second : (settings : CompareSettings) (one one' other : SlotReader) (recording : Recording) (counts : PlaceCounts)
@@ -293,6 +323,7 @@ fault_of_second settings one one' other recording counts firsts seconds found fa
       turn = one'.view;
       first_read = read_by one' recording (firsts ++ found_slot found) a b' e read;
       second_read = fault_by other recording seconds fault c d' e' read';
+      beside = found_as_far settings one one' other counts firsts seconds found a b b' c d h i stood read step;
       put = subst (λ (l : List (ListedSlot × ListedSlot)). PutsPlaces settings l h i)
           (sym (alone_no_place m firsts (drop n seconds) found
           (λ f. stood.first_front (was_going one one' found step f))

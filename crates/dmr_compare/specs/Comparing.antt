@@ -1,5 +1,5 @@
 -- What was compared of two recordings.
-use Rattle.std.specs.Prelude.{◌≡◌, ◌≤◌, ◌+◌, ℕ, Bool, true, false, List, Option, Result, Ok, Err, length, drop}
+use Rattle.std.specs.Prelude.{◌≡◌, ◌≤◌, ◌+◌, ◌⊎◌, ℕ, Bool, true, false, List, Option, Result, Ok, Err, length, drop}
 use Rattle.std.specs.Io.KnownBytes.{IsAtEnd}
 use Rattle.std.specs.List.{zip}
 use Rattle.dmr_listing.specs.ListingRules.{IsReadUpToFault, ListingTurn}
@@ -53,8 +53,11 @@ pub record AreRestsCompared (settings : CompareSettings) (recording : Recording)
   pub second_end : IsAtEnd second_new
   pub compared : AreCompared settings firsts seconds counts held_old held_new
 
--- The first recording was read up to a slot that shows this fault, and the second up to some slot; what both have before that was
--- compared.
+-- The other recording was read as far as one of them, or to its end.
+abbrev pub IsReadAsFar : (slots others : List ListedSlot) → (others_left : Option (List ℕ)) → Type 0
+IsReadAsFar slots others others_left = (length slots ≤ length others) ⊎ IsAtEnd others_left
+
+-- The first recording was read up to a slot that shows this fault, and the second as far; what both have before that was compared.
 pub record IsFirstAtFault (settings : CompareSettings) (recording : Recording) (fault : FaultLine)
     (first_old first_new second_old second_new held_old held_new : Option (List ℕ)) : Type 0 where
   pub firsts : List ListedSlot
@@ -62,9 +65,10 @@ pub record IsFirstAtFault (settings : CompareSettings) (recording : Recording) (
   pub turn : ListingTurn
   pub first_read : IsReadUpToFault recording (bare_slots firsts) (lines_of firsts) fault first_old first_new
   pub second_read : AreSlotsRead recording seconds turn second_old second_new
+  pub beside : IsReadAsFar (compared_of_first settings.shift firsts) (compared_of_second settings.shift seconds) second_new
   pub put : AreDifferencesPut settings firsts seconds held_old held_new
 
--- The second was read up to a slot that shows this fault, and the first up to some slot; what both have before that was compared.
+-- The second was read up to a slot that shows this fault, and the first as far; what both have before that was compared.
 pub record IsSecondAtFault (settings : CompareSettings) (recording : Recording) (fault : FaultLine)
     (first_old first_new second_old second_new held_old held_new : Option (List ℕ)) : Type 0 where
   pub firsts : List ListedSlot
@@ -72,6 +76,7 @@ pub record IsSecondAtFault (settings : CompareSettings) (recording : Recording) 
   pub turn : ListingTurn
   pub first_read : AreSlotsRead recording firsts turn first_old first_new
   pub second_read : IsReadUpToFault recording (bare_slots seconds) (lines_of seconds) fault second_old second_new
+  pub beside : IsReadAsFar (compared_of_second settings.shift seconds) (compared_of_first settings.shift firsts) first_new
   pub put : AreDifferencesPut settings firsts seconds held_old held_new
 
 -- Two recordings were compared behind their heads as far as they could be read. Where a line couldn't be put, nothing is said.
