@@ -84,10 +84,11 @@ fn downlink(rt: &impl AllocGlobal) -> Result<String, Fail> {
     Ok(format!(in rt.alloc(); "{DOWNLINK_BEFORE}{REPEATED}{DOWNLINK_BEHIND}")?)
 }
 
-/// The downlink of the call with one bit turned, by its octet and the octet's new digits.
-fn call_with(rt: &impl AllocGlobal, octet: usize, digits: &str) -> Result<String, Fail> {
-    let before = CALL.get(..2 * octet).unwrap_or(CALL);
-    let behind = CALL.get(2 * octet + 2..).unwrap_or("");
+/// The downlink of the call with other digits for one octet of a record, by where that begins.
+fn call_with(rt: &impl AllocGlobal, record: u16, octet: u8, digits: &str) -> Result<String, Fail> {
+    let at = 2 * (usize::from(record) + usize::from(octet));
+    let before = CALL.get(..at).unwrap_or(CALL);
+    let behind = CALL.get(at + 2..).unwrap_or("");
     Ok(format!(in rt.alloc(); "{before}{digits}{behind}")?)
 }
 
@@ -97,9 +98,9 @@ const ONE_DIFFERS: &str = "records 52 same 51 different 1 only-in-A 0 only-in-B 
 
 /// Where the voice bursts A and B of the call begin, with their CACHs: behind a head of 8 octets, twelve silent slots and as many
 /// bursts of 37 octets as stand before them.
-const VOICE_A: usize = 8 + 12 + 2 * 37;
+const VOICE_A: u16 = 8 + 12 + 2 * 37;
 
-const VOICE_B: usize = 8 + 12 + 4 * 37;
+const VOICE_B: u16 = 8 + 12 + 4 * 37;
 
 #[test]
 fn alike(rt: HostRuntime) -> Result<(), Fail> {
@@ -230,7 +231,7 @@ const CACH_DIFFERS: &str = "     0.42       7 1  A  BS*  -  voice A
 #[test]
 fn a_cach(rt: HostRuntime) -> Result<(), Fail> {
     let alloc = rt.alloc();
-    let got = call_with(&rt, VOICE_A + 1, "C3")?;
+    let got = call_with(&rt, VOICE_A, 1, "C3")?;
     let lines = format!(in alloc; "{CACH_DIFFERS}{ONE_DIFFERS}")?;
     expect(
         &rt,
@@ -297,9 +298,9 @@ fn vocoder_bits(rt: HostRuntime) -> Result<(), Fail> {
         ..ALL
     };
     let lines = format!(in alloc; "{VOICE_DIFFERS}{ONE_DIFFERS}")?;
-    // Bits 0, 107, 156 and 263 are vocoder bits.
-    for (octet, digits) in [(0, "8E"), (13, "41"), (19, "17"), (32, "CF")] {
-        let got = call_with(&rt, VOICE_B + 4 + octet, digits)?;
+    // Bits 0, 107, 156 and 263 are vocoder bits. The burst stands behind its tag and its CACH.
+    for (octet, digits) in [(4, "8E"), (17, "41"), (23, "17"), (36, "CF")] {
+        let got = call_with(&rt, VOICE_B, octet, digits)?;
         expect(
             &rt,
             ALL,
@@ -326,21 +327,51 @@ fn vocoder_bits(rt: HostRuntime) -> Result<(), Fail> {
     Ok(())
 }
 
-/// A burst of a downlink with its CACH, in digits, as the first of its recording.
-fn listed(digits: &str) -> Result<ListedBurst, Fail> {
-    let mut octets = [0u8; 36];
-    hex::decode_to_slice(digits.as_bytes(), &mut octets)?;
-    let mut cach = [0u8; 3];
-    cach.copy_from_slice(&octets[..3]);
-    let mut burst = [0u8; 33];
-    burst.copy_from_slice(&octets[3..]);
-    let burst = RecordedBurst {
-        cach: Some(cach),
-        burst,
+/// Of two bursts of a downlink with their CACHs, in digits, so many bits differ.
+fn expect_between(
+    rt: &impl Abort,
+    ignored: Ignored,
+    first: &str,
+    second: &str,
+    wanted: Differing,
+) -> Result<(), Fail> {
+    let mut lines = [0u8; 72];
+    hex::decode_to_slice(first.as_bytes(), &mut lines[..36])?;
+    hex::decode_to_slice(second.as_bytes(), &mut lines[36..])?;
+    let mut cachs = [[0u8; 3]; 2];
+    let mut bursts = [[0u8; 33]; 2];
+    cachs[0].copy_from_slice(&lines[..3]);
+    bursts[0].copy_from_slice(&lines[3..36]);
+    cachs[1].copy_from_slice(&lines[36..39]);
+    bursts[1].copy_from_slice(&lines[39..]);
+    let one = RecordedBurst {
+        cach: Some(cachs[0]),
+        burst: bursts[0],
     };
-    let line = RecordingView::new().line(&burst);
-    Ok(ListedBurst { burst, line })
+    let other = RecordedBurst {
+        cach: Some(cachs[1]),
+        burst: bursts[1],
+    };
+    let one = ListedBurst {
+        burst: one,
+        line: RecordingView::new().line(&one),
+    };
+    let other = ListedBurst {
+        burst: other,
+        line: RecordingView::new().line(&other),
+    };
+    let differing = Differing::between(ignored, &one, &other);
+    assert_eq!(rt; differing.cach, wanted.cach);
+    assert_eq!(rt; differing.burst, wanted.burst);
+    assert_eq!(rt; differing.is_none(), wanted.cach == 0 && wanted.burst == 0);
+    Ok(())
 }
+
+/// Place B of the call with its CACH, and the same with the last bit of the CACH turned, bits 0 and 7 of the burst, and bit 155, the
+/// last one of its centre.
+const PLACE_B: &str = "800A650E71E0FD77B07670EB940BD5335130000000091F973DAAD8619B91FFC911F57CCE";
+
+const OTHER_B: &str = "800A648F71E0FD77B07670EB940BD5335130000000090F973DAAD8619B91FFC911F57CCE";
 
 #[test]
 fn bits_between(rt: HostRuntime) -> Result<(), Fail> {
@@ -352,30 +383,13 @@ fn bits_between(rt: HostRuntime) -> Result<(), Fail> {
         cach: true,
         vocoder: true,
     };
-    // Place B of the call. In the second the last bit of its CACH is turned, bits 0 and 7 of its own, and bit 155, the last one of
-    // its centre.
-    let first = listed("800A650E71E0FD77B07670EB940BD5335130000000091F973DAAD8619B91FFC911F57CCE")?;
-    let second = listed(
-        "800A648F71E0FD77B07670EB940BD5335130000000090F973DAAD8619B91FFC911F57CCE",
-    )?;
-    let differing = Differing::between(none, &first, &second);
-    assert_eq!(&rt; differing, Differing { cach: 1, burst: 3 });
-    assert!(&rt; !differing.is_none());
-    assert_eq!(&rt;
-        Differing::between(both, &first, &second),
-        Differing { cach: 0, burst: 1 }
-    );
-    assert!(&rt; Differing::between(none, &first, &first).is_none());
+    expect_between(&rt, none, PLACE_B, OTHER_B, Differing { cach: 1, burst: 3 })?;
+    expect_between(&rt, both, PLACE_B, OTHER_B, Differing { cach: 0, burst: 1 })?;
+    expect_between(&rt, none, PLACE_B, PLACE_B, Differing { cach: 0, burst: 0 })?;
     // Of data all bits count: bit 19 of the control block is turned.
-    let block = listed("800A200062008201900100042004E004CDFF57D75DF5DAC81800280250028000C0120022")?;
-    let turned = listed(
-        "800A200062108201900100042004E004CDFF57D75DF5DAC81800280250028000C0120022",
-    )?;
-    assert_eq!(&rt;
-        Differing::between(both, &block, &turned),
-        Differing { cach: 0, burst: 1 }
-    );
-    Ok(())
+    let block = REPEATED.get(2..).unwrap_or("");
+    let turned = TURNED.get(2..).unwrap_or("");
+    expect_between(&rt, both, block, turned, Differing { cach: 0, burst: 1 })
 }
 
 #[test]
