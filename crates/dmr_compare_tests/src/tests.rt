@@ -6,7 +6,7 @@ use dmr_compare::{
 };
 use dmr_listing::RecordingView;
 use dmr_record::{FromRead, ToWrite};
-use dmr_recording::RecordedBurst;
+use dmr_recording::{RecordedBurst, Recording, read_recording};
 use dmr_test_devices::{FailsAt, OneByOne};
 use std::process::Abort;
 use std::test::Fail;
@@ -327,31 +327,28 @@ fn vocoder_bits(rt: HostRuntime) -> Result<(), Fail> {
     Ok(())
 }
 
-/// Of two bursts of a downlink with their CACHs, in digits, so many bits differ.
+/// The burst of a record of a downlink, in digits.
+fn burst_of(rt: &(impl Abort + AllocGlobal), record: &str) -> Result<RecordedBurst, Fail> {
+    let octets = hex::decode(rt.alloc(), record.as_bytes())?;
+    let mut source = FromRead::new(octets.as_slice());
+    match read_recording(&mut source, Recording::Downlink, 0) {
+        Ok(Some(Some(burst))) => Ok(burst),
+        _ => panic!(rt; "no burst"),
+    }
+}
+
+/// Of the bursts of two records so many bits differ.
 fn expect_between(
-    rt: &impl Abort,
+    rt: &(impl Abort + AllocGlobal),
     ignored: Ignored,
     first: &str,
     second: &str,
     wanted: Differing,
 ) -> Result<(), Fail> {
-    let mut lines = [0u8; 72];
-    hex::decode_to_slice(first.as_bytes(), &mut lines[..36])?;
-    hex::decode_to_slice(second.as_bytes(), &mut lines[36..])?;
-    let mut cachs = [[0u8; 3]; 2];
-    let mut bursts = [[0u8; 33]; 2];
-    cachs[0].copy_from_slice(&lines[..3]);
-    bursts[0].copy_from_slice(&lines[3..36]);
-    cachs[1].copy_from_slice(&lines[36..39]);
-    bursts[1].copy_from_slice(&lines[39..]);
-    let one = RecordedBurst {
-        cach: Some(cachs[0]),
-        burst: bursts[0],
-    };
-    let other = RecordedBurst {
-        cach: Some(cachs[1]),
-        burst: bursts[1],
-    };
+    let one = burst_of(rt, first)?;
+    let other = burst_of(rt, second)?;
+    assert!(rt; one.cach.is_some());
+    assert!(rt; other.cach.is_some());
     let one = ListedBurst {
         burst: one,
         line: RecordingView::new().line(&one),
@@ -369,9 +366,9 @@ fn expect_between(
 
 /// Place B of the call with its CACH, and the same with the last bit of the CACH turned, bits 0 and 7 of the burst, and bit 155, the
 /// last one of its centre.
-const PLACE_B: &str = "800A650E71E0FD77B07670EB940BD5335130000000091F973DAAD8619B91FFC911F57CCE";
+const PLACE_B: &str = "01800A650E71E0FD77B07670EB940BD5335130000000091F973DAAD8619B91FFC911F57CCE";
 
-const OTHER_B: &str = "800A648F71E0FD77B07670EB940BD5335130000000090F973DAAD8619B91FFC911F57CCE";
+const OTHER_B: &str = "01800A648F71E0FD77B07670EB940BD5335130000000090F973DAAD8619B91FFC911F57CCE";
 
 #[test]
 fn bits_between(rt: HostRuntime) -> Result<(), Fail> {
@@ -387,9 +384,7 @@ fn bits_between(rt: HostRuntime) -> Result<(), Fail> {
     expect_between(&rt, both, PLACE_B, OTHER_B, Differing { cach: 0, burst: 1 })?;
     expect_between(&rt, none, PLACE_B, PLACE_B, Differing { cach: 0, burst: 0 })?;
     // Of data all bits count: bit 19 of the control block is turned.
-    let block = REPEATED.get(2..).unwrap_or("");
-    let turned = TURNED.get(2..).unwrap_or("");
-    expect_between(&rt, both, block, turned, Differing { cach: 0, burst: 1 })
+    expect_between(&rt, both, REPEATED, TURNED, Differing { cach: 0, burst: 1 })
 }
 
 #[test]
