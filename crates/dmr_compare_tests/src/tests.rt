@@ -364,8 +364,8 @@ fn expect_between(
     Ok(())
 }
 
-/// Place B of the call with its CACH, and the same with the last bit of the CACH turned, bits 0 and 7 of the burst, and bit 155, the
-/// last one of its centre.
+/// Place B of the call with its CACH. In the other one the last bit of the CACH is turned, bits 0 and 7 of the burst, and bit 155,
+/// the last one of its centre.
 const PLACE_B: &str = "01800A650E71E0FD77B07670EB940BD5335130000000091F973DAAD8619B91FFC911F57CCE";
 
 const OTHER_B: &str = "01800A648F71E0FD77B07670EB940BD5335130000000090F973DAAD8619B91FFC911F57CCE";
