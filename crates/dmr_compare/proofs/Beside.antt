@@ -41,17 +41,19 @@ pub is_found : (old new : SlotReader) (found : Option ListedSlot) → IsStep old
 is_found old new None step going = absurd (grind (arith, step.none, going))
 is_found old new (Some slot) step going = tt
 
--- how much was found: at most one, and one where there is something
+-- one slot was found where there is something
 pub one_found : (found : Option ListedSlot) → IsFound found → length (found_slot found) ≡ 1
 one_found None f = absurd f
 one_found (Some slot) f = refl
 
+-- and at most one slot
 pub one_at_most : (found : Option ListedSlot) → length (found_slot found) ≤ 1
 one_at_most None = omega arith
 one_at_most (Some slot) = omega arith
 
 -- 2. What is counted of a step is at most what was found.
 
+-- a place counts for something that was found in the first
 pub few_places : (ignored : Ignored) (first second : Option ListedSlot) (counts : PlaceCounts)
     → (counted_found ignored first second counts).same + (counted_found ignored first second counts).different
     ≤ counts.same + counts.different + length (found_slot first)
@@ -64,6 +66,7 @@ few_places ignored (Some x) None counts = omega arith
 few_places ignored None (Some y) counts = omega arith
 few_places ignored None None counts = omega arith
 
+-- and so does what the first has alone
 pub few_firsts : (ignored : Ignored) (first second : Option ListedSlot) (counts : PlaceCounts)
     → (counted_found ignored first second counts).only_in_first ≤ counts.only_in_first + length (found_slot first)
 few_firsts ignored (Some x) (Some y) counts = omega arith
@@ -71,6 +74,7 @@ few_firsts ignored (Some x) None counts = omega arith
 few_firsts ignored None (Some y) counts = omega arith
 few_firsts ignored None None counts = omega arith
 
+-- what the second has alone counts for something that was found in it
 pub few_seconds : (ignored : Ignored) (first second : Option ListedSlot) (counts : PlaceCounts)
     → (counted_found ignored first second counts).only_in_second ≤ counts.only_in_second + length (found_slot second)
 few_seconds ignored (Some x) (Some y) counts = omega arith
@@ -161,6 +165,7 @@ pub none_of_first : (settings : CompareSettings) (m : ℕ) (firsts ys : List Lis
 none_of_first settings m firsts ys h short =
     subst (λ (xs : List ListedSlot). PutsPlaces settings (zip xs ys) h h) (sym (drop_all m firsts short)) refl
 
+-- nor where nothing stands behind those in front of the other
 pub none_of_second : (settings : CompareSettings) (n : ℕ) (xs seconds : List ListedSlot) (h : Option (List ℕ)) → length seconds ≤ n
     → PutsPlaces settings (zip xs (drop n seconds)) h h
 none_of_second settings n xs seconds h short =

@@ -45,10 +45,11 @@ count_push p xs x =
 
 -- 2. PlaceCounts.
 
--- how many pairs are the same, and how many differ
+-- how many pairs are the same
 abbrev pub same_of : Ignored → List (ListedSlot × ListedSlot) → ℕ
 same_of ignored pairs = count_by (λ (place : ListedSlot × ListedSlot). is_same ignored place.0 place.1) pairs
 
+-- how many pairs differ
 abbrev pub different_of : Ignored → List (ListedSlot × ListedSlot) → ℕ
 different_of ignored pairs = count_by (λ (place : ListedSlot × ListedSlot). not (is_same ignored place.0 place.1)) pairs
 

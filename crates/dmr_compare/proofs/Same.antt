@@ -140,11 +140,12 @@ slots_same recording ignored (Some x) (Some y) h h' e =
     ap (λ (c : List Bool). Some (record { cach = c; burst = compared_bits (ignored.vocoder && is_voice x.line.reading) x })) cach
     ∙ ap (λ (b : List Bool). Some (record { cach = compared_cach ignored y; burst = b })) burst
 
--- the parts of what is kept of a burst
+-- the bits of the CACH, of what is kept of a burst
 abbrev pub cach_of : Option KeptBurst → List Bool
 cach_of None = []
 cach_of (Some k) = k.cach
 
+-- the bits of the burst
 abbrev pub burst_of : Option KeptBurst → List Bool
 burst_of None = []
 burst_of (Some k) = k.burst
@@ -196,11 +197,12 @@ lists_same recording ignored (x ∷ xs) (y ∷ ys) h h' e z =
     ap (λ (k : Option KeptBurst). k ∷ map (kept ignored) xs) (slots_same recording ignored x y h.0 h'.0 none.0)
     ∙ ap (λ (l : List (Option KeptBurst)). kept ignored y ∷ l) (lists_same recording ignored xs ys h.1 h'.1 (omega arith) none.1)
 
--- the first and the rest of what lists keep
+-- the first of what a list keeps
 abbrev pub first_of : List (Option KeptBurst) → Option KeptBurst
 first_of [] = None
 first_of (k ∷ ks) = k
 
+-- and the rest of it
 abbrev pub rest_of : List (Option KeptBurst) → List (Option KeptBurst)
 rest_of [] = []
 rest_of (k ∷ ks) = ks

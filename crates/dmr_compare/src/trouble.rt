@@ -3,7 +3,7 @@ use dmr_recording::FaultLine;
 
 /// Why two files weren't compared to their ends.
 #[derive(Clone, Copy, Drop)]
-pub(crate) enum Trouble {
+pub enum Trouble {
     /// The first is at fault.
     First(FaultLine),
     /// The second is at fault.
