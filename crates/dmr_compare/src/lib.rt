@@ -3,8 +3,8 @@
 //! `compare` reads two files, uplinks or downlinks, in constant memory. It prints two lines for each place that differs and a last
 //! line with the `PlaceCounts`, and answers an exit status as `cmp` does (`SAME`, `DIFFERENT`, `TROUBLE`). `CompareSettings` say
 //! which frames are compared with one another (`Shift`), what is left out of them (`Ignored`), and whether differences are counted
-//! alone. Why files weren't compared (`Trouble`) is told by their names (`FileNames`). A `ListedBurst` is a burst with the line that
-//! a listing has of it, and `Differing` is how many bits differ of two of them. What a line shows of a burst is dmr_listing's.
+//! alone. Why files weren't compared (`Trouble`) is told by their names (`FileNames`). A `ListedBurst` is a burst with the line
+//! that a listing has of it, and `Differing` is how many bits differ of two of them. What a line shows of a burst is dmr_listing's.
 //!
 //! Contracts say what was read of two files and what was printed (`specs/Files.antt`), in these words:
 //!
