@@ -168,21 +168,33 @@ impl fmt::Display for Colour {
     }
 }
 
-impl fmt::Display for BurstLine {
-    /// Time, frame, slot, side, colour code, name, details and wrong bits, in columns; the line ends with no space.
+/// What a line shows of a burst behind its place.
+#[derive(Clone, Copy)]
+pub struct BurstText<'a>(pub &'a BurstLine);
+
+impl fmt::Display for BurstText<'_> {
+    /// Side, colour code, name, details and wrong bits, in columns; the text ends with no space.
     fn fmt<W: fmt::Write>(&self, f: &mut fmt::Formatter<W>) -> fmt::Result {
-        let side = SideAndAccessType(self.reading, self.access_type);
-        let colour = Colour(self.reading.colour_code());
+        let line = self.0;
+        let side = SideAndAccessType(line.reading, line.access_type);
+        let colour = Colour(line.reading.colour_code());
         let mut name: ArrayString<16> = ArrayString::new();
         let mut details: ArrayString<192> = ArrayString::new();
-        write!(name, "{}", BurstName(self.reading, self.voice_place))?;
-        write!(details, "{}{}", Details(self), self.wrong)?;
+        write!(name, "{}", BurstName(line.reading, line.voice_place))?;
+        write!(details, "{}{}", Details(line), line.wrong)?;
         let name = name.as_str();
-        write!(f, "{}  {side} {colour}  ", self.place)?;
+        write!(f, "{side} {colour}  ")?;
         if details.is_empty() {
             write!(f, "{name}")
         } else {
             write!(f, "{name:<13} {}", details.as_str())
         }
+    }
+}
+
+impl fmt::Display for BurstLine {
+    /// Time, frame and slot, and what it shows of the burst.
+    fn fmt<W: fmt::Write>(&self, f: &mut fmt::Formatter<W>) -> fmt::Result {
+        write!(f, "{}  {}", self.place, BurstText(self))
     }
 }

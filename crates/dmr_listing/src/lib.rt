@@ -1,12 +1,13 @@
 //! What a listing shows of a file: a line for each burst or record.
 //!
-//! `SlotView` makes the lines of one slot of a recording, frame by frame. A `BurstLine` has all that the line of a burst shows, and
-//! prints it. It shows what the burst is read as (`Reading` of `dmr_reading`), in which place of a superframe it stands
-//! (`VoicePlaces`), and what its information holds (`Contents`). It also shows the link control that four voice bursts carry, what
-//! its CACH announces (`AccessType`), and how many of its bits are wrong (`Wrong`). `read_tact` reads all fields of a CACH
-//! (`Tact`). `OutgoingLine` and `ReceivedLine` print the records of the two lists. All of it comes from the readers that a run
-//! stands on. Octets that came over the air are printed as digits, never as text. `RecordingSummary` is the last line of a listing,
-//! of what `BurstCounts` counts line by line.
+//! `SlotView` makes the lines of one slot of a recording, frame by frame, and `RecordingView` those of both, slot by slot. A
+//! `BurstLine` has all that the line of a burst shows, and prints it; `BurstText` prints it without its place. It shows what the
+//! burst is read as (`Reading` of `dmr_reading`), in which place of a superframe it stands (`VoicePlaces`), and what its
+//! information holds (`Contents`). It also shows the link control that four voice bursts carry, what its CACH announces
+//! (`AccessType`), and how many of its bits are wrong (`Wrong`). `read_tact` reads all fields of a CACH (`Tact`). `OutgoingLine`
+//! and `ReceivedLine` print the records of the two lists. All of it comes from the readers that a run stands on. Octets that came
+//! over the air are printed as digits, never as text. `RecordingSummary` is the last line of a listing, of what `BurstCounts`
+//! counts line by line.
 //!
 //! `list_recording`, `list_outgoing` and `list_received` go through a whole file behind its head, and give the lines one by one to
 //! whoever takes them (`BurstLines`, `OutgoingLines`, `ReceivedLines`), in constant memory.
@@ -55,7 +56,7 @@ mod way;
 mod wrong;
 
 pub use access_type::{AccessType, Tact, read_tact};
-pub use burst_line::{BurstLine, BurstName, DataTypeName};
+pub use burst_line::{BurstLine, BurstName, BurstText, DataTypeName};
 pub use contents::Contents;
 pub use counted::Counted;
 pub use digits::Digits;
@@ -66,6 +67,7 @@ pub use mark::Mark;
 pub use outgoing_listing::{OutgoingLines, list_outgoing};
 pub use received_listing::{ReceivedLines, list_received};
 pub use record_line::{OutgoingLine, ReceivedLine, ReceivedText};
+pub use recording_view::RecordingView;
 pub use slot_view::SlotView;
 pub use strip::{Strip, StripLine};
 pub use strips::{StripLines, strip_recording};

@@ -12,9 +12,9 @@ use std::marker::Model;
 use std::mem;
 
 /// What the lines of a recording need of the slots before: how many there were, what is kept of both slots of a frame, and what was
-/// counted.
+/// counted. Slots come in the order of the file: slot 1 and slot 2 of the first frame, and so on.
 #[derive(Drop)]
-pub(crate) struct RecordingView {
+pub struct RecordingView {
     slots: u32,
     next: SlotView,
     other: SlotView,
@@ -32,7 +32,7 @@ impl Model for RecordingView {
 
 impl RecordingView {
     /// A recording of which nothing was read.
-    pub(crate) fn new() -> RecordingView
+    pub fn new() -> RecordingView
         ensures value { result ≡ begun }
     {
         RecordingView {
@@ -44,7 +44,7 @@ impl RecordingView {
     }
 
     /// How many slots there were.
-    pub(crate) fn slots(&self) -> u32
+    pub fn slots(&self) -> u32
         ensures value { result ≡ self.now.slots }
     {
         self.slots
@@ -72,7 +72,7 @@ impl RecordingView {
     }
 
     /// The next slot is silent, and has no line.
-    pub(crate) fn pass(&mut self)
+    pub fn pass(&mut self)
         requires room { self.old.slots < 2 ^ 32 - 1 }
         ensures turn { self.new ≡ turn_passed self.old }
     {
@@ -81,7 +81,7 @@ impl RecordingView {
     }
 
     /// The line of the burst that the next slot has.
-    pub(crate) fn line(&mut self, burst: &RecordedBurst) -> BurstLine
+    pub fn line(&mut self, burst: &RecordedBurst) -> BurstLine
         requires room { self.old.slots < 2 ^ 32 - 1 }
         ensures line { IsLineAt self.old burst.now result }
         ensures turn { self.new ≡ turn_after result burst.now self.old }

@@ -1,0 +1,10 @@
+pub mod Comparing
+pub mod Counting
+pub mod Files
+pub mod Kept
+pub mod Printed
+pub mod Reading
+pub mod Shifts
+pub mod Slots
+pub mod Status
+pub mod Taking

@@ -1,0 +1,72 @@
+//! Places of two recordings, compared one by one.
+ghost use Rattle.std.specs.Prelude.{◌≡◌, ◌-◌, ◌^◌, ◌<◌, false, OnOk};
+ghost use Rattle.dmr_compare.specs.Kept.{is_same};
+ghost use Rattle.dmr_compare.specs.Printed.{PutsPlace};
+ghost use Rattle.dmr_compare.specs.Taking.{HasRoom, PutsFound, counted_found, counted_place};
+ghost use Rattle.dmr_record.specs.Devices.{failed_after};
+
+use crate::counts::PlaceCounts;
+use crate::difference::Difference;
+use crate::listed::ListedBurst;
+use crate::settings::CompareSettings;
+use dmr_record::{DeviceFault, Sink};
+use dmr_recording::Place;
+
+/// PlaceCounts a place that both recordings have, and prints its lines where it differs.
+fn take_both<K: Sink>(
+    settings: &CompareSettings,
+    place: Place,
+    first: &Option<ListedBurst>,
+    second: &Option<ListedBurst>,
+    counts: &mut PlaceCounts,
+    sink: &mut K,
+) -> Result<(), DeviceFault>
+    requires sink { K.has_failed sink.old ≡ false }
+    requires room { HasRoom counts.old }
+    ensures counted { counts.new ≡ counted_place (is_same settings.now.ignored first.now second.now) counts.old }
+    ensures lines { OnOk result (PutsPlace settings.now (first.now, second.now) (K.held sink.old) (K.held sink.new)) }
+    ensures failed { K.has_failed sink.new ≡ failed_after (K.has_failed sink.old) result }
+{
+    match Difference::between(settings.ignored, first, second) {
+        None => {
+            counts.same += 1;
+            Ok(())
+        }
+        Some(difference) => {
+            counts.different += 1;
+            if settings.is_quiet {
+                return Ok(());
+            }
+            difference.print(place, first, second, sink)
+        }
+    }
+}
+
+/// PlaceCounts what was found next in two recordings, and prints its lines where both have something and it differs.
+pub(crate) fn take_found<K: Sink>(
+    settings: &CompareSettings,
+    place: Place,
+    first: &Option<Option<ListedBurst>>,
+    second: &Option<Option<ListedBurst>>,
+    counts: &mut PlaceCounts,
+    sink: &mut K,
+) -> Result<(), DeviceFault>
+    requires sink { K.has_failed sink.old ≡ false }
+    requires room { HasRoom counts.old }
+    ensures counted { counts.new ≡ counted_found settings.now.ignored first.now second.now counts.old }
+    ensures lines { OnOk result (PutsFound settings.now first.now second.now (K.held sink.old) (K.held sink.new)) }
+    ensures failed { K.has_failed sink.new ≡ failed_after (K.has_failed sink.old) result }
+{
+    match (first, second) {
+        (Some(first), Some(second)) => take_both(settings, place, first, second, counts, sink),
+        (Some(_), None) => {
+            counts.only_in_first += 1;
+            Ok(())
+        }
+        (None, Some(_)) => {
+            counts.only_in_second += 1;
+            Ok(())
+        }
+        (None, None) => Ok(()),
+    }
+}
