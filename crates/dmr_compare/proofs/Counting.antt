@@ -43,7 +43,7 @@ count_push p xs x =
     let one : count_by p (x ∷ []) ≡ 0 + cond (p x) 1 0 = refl in
     omega (arith, split, one)
 
--- 2. PlaceCounts.
+-- 2. Counts.
 
 -- how many pairs are the same
 abbrev pub same_of : Ignored → List (ListedSlot × ListedSlot) → ℕ

@@ -12,7 +12,7 @@ use crate::settings::CompareSettings;
 use dmr_record::{DeviceFault, Sink};
 use dmr_recording::Place;
 
-/// PlaceCounts a place that both recordings have, and prints its lines where it differs.
+/// Counts a place that both recordings have, and prints its lines where it differs.
 fn take_both<K: Sink>(
     settings: &CompareSettings,
     place: Place,
@@ -42,7 +42,7 @@ fn take_both<K: Sink>(
     }
 }
 
-/// PlaceCounts what was found next in two recordings, and prints its lines where both have something and it differs.
+/// Counts what was found next in two recordings, and prints its lines where both have something and it differs.
 pub(crate) fn take_found<K: Sink>(
     settings: &CompareSettings,
     place: Place,
