@@ -354,6 +354,18 @@ def check_counts(report):
     report.expect("docs/testing.md has each part of ./check, in order", in_table == parts, in_table)
 
 
+def check_samples(report):
+    """samples/README.md has a row for each sample, and docs/testing.md tells how many frames their downlinks have."""
+    folders = sorted(it for it in (report.top / "samples").iterdir() if it.is_dir())
+    rows = [name for name, _ in tables_of((report.top / "samples/README.md").read_text(), "| Folder | Shows |")]
+    names = {it.name for it in folders}
+    report.expect("samples/README.md has a row for each sample", sorted(rows) == sorted(names), names ^ set(rows))
+    frames = sum(int((it / "summary.txt").read_text().split()[1]) for it in folders)
+    told = f"Their {len(folders)} downlinks have {frames:,} frames."
+    is_told = told in " ".join((report.top / "docs/testing.md").read_text().split())
+    report.expect("docs/testing.md tells the frames of the samples", is_told, f"it should be {told!r}")
+
+
 def crates_above(crates_txt):
     """For each crate the others that stand on it, at whatever distance, those of tests too."""
     above = {}
@@ -529,6 +541,7 @@ def check(report):
     check_picture(report)
     check_public_calls(report)
     check_counts(report)
+    check_samples(report)
     check_callers(report)
     check_width(report)
     check_sentences(report)
