@@ -355,15 +355,17 @@ def check_counts(report):
 
 
 def check_samples(report):
-    """samples/README.md has a row for each sample, and docs/testing.md tells how many frames their downlinks have."""
+    """samples/README.md has a row for each sample. docs/testing.md tells how many frames their downlinks have, and how many of them
+    the tests hold."""
     folders = sorted(it for it in (report.top / "samples").iterdir() if it.is_dir())
     rows = [name for name, _ in tables_of((report.top / "samples/README.md").read_text(), "| Folder | Shows |")]
     names = {it.name for it in folders}
     report.expect("samples/README.md has a row for each sample", sorted(rows) == sorted(names), names ^ set(rows))
     frames = sum(int((it / "summary.txt").read_text().split()[1]) for it in folders)
-    told = f"Their {len(folders)} downlinks have {frames:,} frames."
-    is_told = told in " ".join((report.top / "docs/testing.md").read_text().split())
-    report.expect("docs/testing.md tells the frames of the samples", is_told, f"it should be {told!r}")
+    tested = (report.top / "crates/dmr_repeater_tests/src/tests/samples.rt").read_text().count("\npub static ")
+    text = " ".join((report.top / "docs/testing.md").read_text().split())
+    for told in (f"Their {len(folders)} downlinks have {frames:,} frames.", f"{tested} of them are also tests of `rt ci`."):
+        report.expect(f"docs/testing.md tells: {told}", told in text)
 
 
 def crates_above(crates_txt):
