@@ -242,7 +242,8 @@ def check_types(report):
 
 
 def check_crates(report):
-    """docs/architecture.md lists each crate, lowest first, and has each in a layer; no document names any other."""
+    """docs/architecture.md lists each crate, lowest first, has each in a layer, and tells where the tests of each library stand; no
+    document names any other."""
     listed = re.findall(r"^(\w+):", (report.top / "crates.txt").read_text(), re.MULTILINE)
     there = {it.name for it in (report.top / "crates").iterdir() if (it / "src").is_dir()}
     report.expect("crates.txt lists each crate", set(listed) == there, set(listed) ^ there)
@@ -254,6 +255,9 @@ def check_crates(report):
     in_layers = [it for _, crates in layers for it in re.findall(r"\bdmr\w+", crates)]
     is_so = sorted(in_layers) == sorted(wanted)
     report.expect("docs/architecture.md has each crate in a layer", is_so, set(in_layers) ^ set(wanted))
+    libraries = {it for it in wanted if (report.top / "crates" / it / "src/lib.rt").exists()}
+    tested = {it for crates, _ in tables_of(architecture, "| Tests of | Stand in |") for it in re.findall(r"\bdmr_\w+", crates)}
+    report.expect("docs/architecture.md tells where the tests of each library stand", tested == libraries, tested ^ libraries)
     for name in documents_of(report):
         told = set(re.findall(r"\bdmr(?:_|gate_)\w+", (report.top / name).read_text()))
         report.expect(f"{name} names no crate that isn't there", told <= there, told - there)
