@@ -320,17 +320,17 @@ def check_wrong_bits(report):
 
 
 def check_few(report):
-    """A call of one place, a packet with one block, and a terminator by itself, which is a call without voice."""
-    first = slots_of_call(CALL_OF_2, "A......T......")
-    first += [data_burst(DATA_HEADER, data_header("02400000010000028100")), data_burst(BLOCKS[0], link_control("00" * 9, 0))]
-    ran = report.call("log", "-", given=recording(first, frames=23))
-    told = [line[22:] for line in ran.out.decode().splitlines()[:-1]]
+    """A terminator by itself, which is a call without voice, a packet with one block, and a call of one place."""
+    block = data_burst(BLOCKS[0], link_control("00" * 9, 0))
+    first = slots_of_call(CALL_OF_2, "T......") + [data_burst(DATA_HEADER, data_header("02400000010000028100")), block]
+    ran = report.call("log", "-", given=recording(first + slots_of_call(CALL_OF_2, "......HA")))
+    told = [line[30:] for line in ran.out.decode().splitlines()]
     wanted = [
-        "call, late, 1 place, lost",
         "group call 2 -> 1, no voice, terminator",
         "unconfirmed data 2 -> 1, SAP 4, 1 of 1 block",
+        "group call 2 -> 1, 1 place, end",
     ]
-    report.expect("log of few", told == wanted and ran.status == 0, ran)
+    report.expect("log of few", (ran.status, told[:-1]) == (0, wanted), ran)
 
 
 def check_live(report):
