@@ -5,3 +5,5 @@
 mod recordings;
 #[cfg(test)]
 mod tests;
+#[cfg(test)]
+mod page_tests;
