@@ -1,4 +1,9 @@
 //! A minute of a recording.
+ghost use Rattle.std.specs.Prelude.{◌≡◌, ◌∷◌, ◌++◌, [], IfOk, OnOk};
+ghost use Rattle.dmr_log_forms.specs.Entries.{columns_of_entry};
+ghost use Rattle.dmr_log_forms.specs.Printed.{shown_ended, shown_of, shown_record, shown_records, shown_slot};
+ghost use Rattle.dmr_log_page.specs.Minutes.{begins_minute, entries_of, everything};
+
 use crate::clock::DayAndTime;
 use crate::picture::{Picture, PictureRow, ROW_FRAMES, SlotRow};
 use crate::row::TableRow;
@@ -25,7 +30,9 @@ pub(crate) struct Minute {
 }
 
 /// Whether a frame is the first of a minute.
-pub(crate) fn begins_minute(frame: u32) -> bool {
+pub(crate) fn begins_minute(frame: u32) -> bool
+    ensures value { result ≡ begins_minute frame }
+{
     frame % 1000 == 0
 }
 
@@ -35,7 +42,9 @@ const TABLE: &str = "<table><tr><th class=\"n\">start<th class=\"n\">slot<th>wha
 
 impl Minute {
     /// The first minute, of which nothing is known.
-    pub(crate) fn new(alloc: Global) -> Result<Minute, AllocError> {
+    pub(crate) fn new(alloc: Global) -> Result<Minute, AllocError>
+        ensures none { IfOk result (λ minute. entries_of minute.rows.items ≡ []) }
+    {
         Ok(Minute {
             first: 0,
             slot_1: SlotMinute::new(alloc)?,
@@ -45,7 +54,9 @@ impl Minute {
     }
 
     /// Begins the minute of this frame.
-    pub(crate) fn begin(&mut self, first: u32) {
+    pub(crate) fn begin(&mut self, first: u32)
+        ensures none { entries_of self.new.rows.items ≡ [] }
+    {
         self.first = first;
         self.slot_1.clear();
         self.slot_2.clear();
@@ -53,18 +64,26 @@ impl Minute {
     }
 
     /// The rows of its table.
-    pub(crate) fn rows(&self) -> &[TableRow] {
+    pub(crate) fn rows(&self) -> &[TableRow]
+        ensures value { result.now ≡ self.now.rows.items }
+    {
         self.rows.as_slice()
     }
 
     /// Takes an entry.
-    fn take_entry(&mut self, entry: &LogEntry<'_>) -> Result<(), AllocError> {
+    fn take_entry(&mut self, entry: &LogEntry<'_>) -> Result<(), AllocError>
+        ensures taken { OnOk result (entries_of self.new.rows.items
+            ≡ entries_of self.old.rows.items ++ columns_of_entry entry.now ∷ []) }
+    {
         self.rows.push(TableRow::of_entry(entry))?;
         Ok(())
     }
 
     /// Takes the transmission that ended in a slot, if one did.
-    fn take_ended(&mut self, slot: u8, ended: &Option<Ended>) -> Result<(), AllocError> {
+    fn take_ended(&mut self, slot: u8, ended: &Option<Ended>) -> Result<(), AllocError>
+        ensures taken { OnOk result (entries_of self.new.rows.items
+            ≡ entries_of self.old.rows.items ++ shown_ended everything slot ended.now) }
+    {
         match ended {
             Some(ended) => self.take_entry(&LogEntry::Transmission { slot, ended }),
             None => Ok(()),
@@ -77,7 +96,10 @@ impl Minute {
         place: Place,
         address: u32,
         received: &Option<Received>,
-    ) -> Result<(), AllocError> {
+    ) -> Result<(), AllocError>
+        ensures taken { OnOk result (entries_of self.new.rows.items
+            ≡ entries_of self.old.rows.items ++ shown_record everything place.slot address place.frame received.now) }
+    {
         match received {
             Some(record) if record.slot == place.slot => self.take_entry(&LogEntry::Received {
                 place,
@@ -88,6 +110,40 @@ impl Minute {
         }
     }
 
+    /// Takes those of four records that were received in a slot of a frame.
+    fn take_four(
+        &mut self,
+        place: Place,
+        address: u32,
+        first: &Option<Received>,
+        second: &Option<Received>,
+        third: &Option<Received>,
+        fourth: &Option<Received>,
+    ) -> Result<(), AllocError>
+        ensures taken { OnOk result (entries_of self.new.rows.items
+            ≡ entries_of self.old.rows.items ++ shown_records everything place.slot address place.frame
+            (first.now ∷ second.now ∷ third.now ∷ fourth.now ∷ [])) }
+    {
+        self.take_record(place, address, first)?;
+        self.take_record(place, address, second)?;
+        self.take_record(place, address, third)?;
+        self.take_record(place, address, fourth)
+    }
+
+    /// Takes what was received in a slot of a frame.
+    fn take_records(
+        &mut self,
+        place: Place,
+        address: u32,
+        received: &FrameReceived,
+    ) -> Result<(), AllocError>
+        ensures taken { OnOk result (entries_of self.new.rows.items
+            ≡ entries_of self.old.rows.items ++ shown_records everything place.slot address place.frame received.now) }
+    {
+        let [first, second, third, fourth] = received;
+        self.take_four(place, address, first, second, third, fourth)
+    }
+
     /// Takes what ended in a slot, and what was received in it in a frame.
     fn take_slot(
         &mut self,
@@ -95,17 +151,19 @@ impl Minute {
         address: u32,
         ended: &Option<Ended>,
         received: &FrameReceived,
-    ) -> Result<(), AllocError> {
-        let [first, second, third, fourth] = received;
+    ) -> Result<(), AllocError>
+        ensures taken { OnOk result (entries_of self.new.rows.items
+            ≡ entries_of self.old.rows.items ++ shown_slot everything place.slot address place.frame ended.now received.now) }
+    {
         self.take_ended(place.slot, ended)?;
-        self.take_record(place, address, first)?;
-        self.take_record(place, address, second)?;
-        self.take_record(place, address, third)?;
-        self.take_record(place, address, fourth)
+        self.take_records(place, address, received)
     }
 
     /// Takes what ended in front of a frame, and what a gateway of this address received in the frame before.
-    pub(crate) fn take_entries(&mut self, address: u32, told: &FrameTold) -> Result<(), AllocError> {
+    pub(crate) fn take_entries(&mut self, address: u32, told: &FrameTold) -> Result<(), AllocError>
+        ensures taken { OnOk result (entries_of self.new.rows.items
+            ≡ entries_of self.old.rows.items ++ shown_of everything address told.now) }
+    {
         let frame = told.frame.saturating_sub(1);
         let (first, second) = (Place { frame, slot: 1 }, Place { frame, slot: 2 });
         self.take_slot(first, address, &told.slot_1.ended, &told.received)?;
@@ -113,7 +171,9 @@ impl Minute {
     }
 
     /// Takes what is shown of a frame of the minute.
-    pub(crate) fn take_frame(&mut self, told: &FrameTold) -> Result<(), AllocError> {
+    pub(crate) fn take_frame(&mut self, told: &FrameTold) -> Result<(), AllocError>
+        ensures same { entries_of self.new.rows.items ≡ entries_of self.old.rows.items }
+    {
         let at = told.frame.saturating_sub(self.first) as usize;
         self.slot_1.take(at, &told.slot_1)?;
         self.slot_2.take(at, &told.slot_2)
