@@ -33,6 +33,21 @@ error with the octet at which its record begins; 2: the command line.\n\n\
 Example:\n  dmrgate log uplink.dmru --llid 1 --start 2026-01-31T12:00:00Z --csv\n\n\
 The lines and the columns are described in docs/protocol.md.";
 
+/// What help says behind the options of `compare`.
+pub(crate) const ABOUT_COMPARISONS: &str =
+    "Two files of one kind are compared, slot by slot or record by record. Each place\n\
+where they differ has two lines, which say what `dmrgate show` shows there, or\n\
+`silence`. Brackets behind the second have how many bits of CACH and burst\n\
+differ, or how many octets of a record. The last line counts places: those that\n\
+are the same, those that differ, and those that one of the two has alone.\n\n\
+A shift may be negative. Frames in front of those that are compared aren't\n\
+counted. Lists have no shift. `--ignore` may be given twice: other repeaters\n\
+announce calls otherwise, and some correct vocoder bits.\n\n\
+Status 0: the files are the same, of what isn't ignored; 1: they differ; 2: the\n\
+command line, or a file is at fault, which is told on standard error.\n\n\
+Example:\n  dmrgate compare expected.dmrd got.dmrd --ignore cach\n\n\
+The lines are described in docs/protocol.md.";
+
 /// What help says behind the files of `export text`.
 pub(crate) const ABOUT_EXPORTED_TEXTS: &str =
     "A file is one of the four of a run, told by its first octets. Its text has a\n\

@@ -8,6 +8,7 @@ ghost use Rattle.dmr_tools.specs.Filters.{IsFilterOf, is_backwards};
 ghost use Rattle.dmr_tools.specs.Request.{IsAskedOfTools, IsFormOf, form_by};
 ghost use Rattle.dmr_tools.specs.Request.{ArePairPlaces, IsCarriedBetween, NamesFormat};
 
+use crate::comparison::Comparison;
 use clap::{ArgMatches, Error};
 use dmr_files::Place;
 use dmr_log_forms::{LogForm, LogSettings, StartTime};
@@ -58,6 +59,10 @@ pub enum Request<'a> {
     },
     /// To print a log with settings that are refused.
     LogRefused(LogRefusal),
+    /// To compare two files.
+    Compare(Comparison<'a>),
+    /// To compare standard input with itself.
+    SharedInput,
     /// To make a file of what is in a format.
     Import {
         format: Format,
@@ -192,7 +197,7 @@ fn log_request<'a>(log: &ArgMatches<'a>) -> Request<'a>
 }
 
 /// The place that a word of a command line names.
-fn place_of<'a>(matches: &ArgMatches<'a>, word: &str) -> Place<'a>
+pub(crate) fn place_of<'a>(matches: &ArgMatches<'a>, word: &str) -> Place<'a>
     ensures place { IsNamed (text_of (found_of matches.now) word.now) result }
 {
     Place::named(text_of(matches, word))
@@ -218,6 +223,17 @@ fn carried_by<'a>(given: &ArgMatches<'a>) -> Option<(Format, PairPlaces<'a>)>
         // Not reached, since a format is required, and there is no other.
         _ => None,
     }
+}
+
+/// What a command line of `compare` asks for.
+fn compare_request<'a>(compare: &ArgMatches<'a>) -> Request<'a>
+    ensures asked { IsAskedOfTools (Some (record { 0 = codes "compare"; 1 = compare.now })) result }
+{
+    let comparison = Comparison::of(compare);
+    if comparison.shares_input() {
+        return Request::SharedInput;
+    }
+    Request::Compare(comparison)
 }
 
 /// What a command line of `import` asks for.
@@ -255,6 +271,7 @@ pub(crate) fn request_by<'a>(command: Option<(&'a str, &ArgMatches<'a>)>) -> Req
     match listed {
         Listed::Show => show_request(given),
         Listed::Log => log_request(given),
+        Listed::Compare => compare_request(given),
         Listed::Import => import_request(given),
         Listed::Export => export_request(given),
         Listed::Run | Listed::Slot => Request::Elsewhere(name),
