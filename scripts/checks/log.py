@@ -1,11 +1,11 @@
-"""The log: of each sample beside what a reader of its downlink finds there, which another program has written; faults; pipes."""
+"""The log: of each sample beside what a reader of its downlink finds there, which another program has written; faults; its page."""
 
 import csv
 import io
 import itertools
 import re
 
-from checks import talks
+from checks import page, talks
 from checks.program import Room
 
 # Behind `talks`, which tells where this is.
@@ -224,3 +224,4 @@ def check(report):
     check_cut(report)
     for folder in sorted(it for it in (report.top / "samples").iterdir() if it.is_dir()):
         check_beside_downlink(report, folder)
+    page.check(report)

@@ -66,8 +66,8 @@ fn new_gateway(alloc: Global, colour: u8, address: Option<u32>) -> Result<Option
     }
 }
 
-/// A log of a repeater with this colour code and a gateway at this address, if one is to listen, of which no frame came. An error is
-/// that one of the two is out of its range, or that there is no memory.
+/// A log of a repeater with this colour code and a gateway at this address, if one is to listen, of which no frame came. An error
+/// is that one of the two is out of its range, or that there is no memory.
 pub fn new_log(alloc: Global, colour: u8, address: Option<u32>) -> Result<Log, LogFault>
     ensures log { IfOk result (λ log. log ≡ spec.log_of colour address) }
     ensures fault { IfErr result (λ e. part.IsLogNotBegun e colour address) }

@@ -1,10 +1,10 @@
 -- The cells of a row, as they are written.
 use Rattle.dmr_log_page.specs.Rows.{PageCells}
-use Rattle.dmr_log_page.specs.declared.row.RowCells.{RowCells}
+use Rattle.dmr_log_page.specs.declared.row.TableCells.{TableCells}
 
 -- the texts of the cells of a row
-abbrev pub cells_of : RowCells → PageCells
-cells_of cells = record {
+abbrev pub page_cells_of : TableCells → PageCells
+page_cells_of cells = record {
   start = cells.start.bytes;
   slot = cells.slot.bytes;
   what = cells.what.bytes;

@@ -11,8 +11,8 @@ use Rattle.dmr_record.specs.Head.{head_octets, magic_of}
 use Rattle.dmr_record.specs.declared.head.FileFormat.TheVariants.{Uplink}
 
 -- a page of which no minute is put
-abbrev pub begun : Option (List ℕ) → PageState
-begun held = record { held = held; entries = [] }
+abbrev pub begun_page : Option (List ℕ) → PageState
+begun_page held = record { held = held; entries = [] }
 
 -- An uplink was read behind its head, to its end. All that a log tells of its frames was taken, and what it tells at the end. Then
 -- the last minute was put.
@@ -22,7 +22,7 @@ pub record AreMinutesPut (address : ℕ) (log_old log_new : LogState) (left_old 
   pub read : LogState
   pub between : PageState
   pub all : PageState
-  pub taken : AreFramesTaken (TakesTold address) log_old frames [] [] read left_old left_new (begun held_old) between
+  pub taken : AreFramesTaken (TakesTold address) log_old frames [] [] read left_old left_new (begun_page held_old) between
   pub rest : IsRestTold (TakesTold address) read log_new between all
   pub last : PutsMinute all.entries all.held held_new
 

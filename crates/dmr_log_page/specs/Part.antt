@@ -10,7 +10,7 @@ use Rattle.dmr_log_forms.specs.Whole.{log_of}
 use Rattle.dmr_log_forms.specs.declared.fault.LogFault.{LogFault}
 use Rattle.dmr_log_forms.specs.declared.fault.LogFault.TheVariants as why
 use Rattle.dmr_log_page.specs.Minutes.{PageState, PutsMinute, PutsText, TakesTold}
-use Rattle.dmr_log_page.specs.Pages.{AreMinutesPut, IsPagePut, begun}
+use Rattle.dmr_log_page.specs.Pages.{AreMinutesPut, IsPagePut, begun_page}
 use Rattle.dmr_log_page.specs.declared.settings.PageSettings.{PageSettings}
 use Rattle.dmr_record.specs.Head.{head_octets, magic_of}
 use Rattle.dmr_record.specs.declared.head.FileFormat.TheVariants.{Uplink}
@@ -36,7 +36,7 @@ pub record AreMinutesPutUpToFault (address : ℕ) (fault : FaultLine) (log_old l
   pub read : LogState
   pub between : PageState
   pub all : PageState
-  pub taken : IsLoggedUpToFault (TakesTold address) fault log_old read left_old left_new (begun held_old) between
+  pub taken : IsLoggedUpToFault (TakesTold address) fault log_old read left_old left_new (begun_page held_old) between
   pub rest : IsRestTold (TakesTold address) read log_new between all
   pub last : PutsMinute all.entries all.held held_new
 

@@ -59,7 +59,7 @@ pub record PageCells : Type 0 where
   pub end : List ℕ
 
 -- Cells show these columns. When an entry begins, what it is and how long it takes is left open.
-pub record Shows (columns : EntryColumns) (cells : PageCells) : Type 0 where
+pub record ShowsEntry (columns : EntryColumns) (cells : PageCells) : Type 0 where
   pub slot : cells.slot ≡ decimal columns.place.slot
   pub from : cells.from ≡ from_cell columns.way
   pub to : cells.to ≡ to_cell columns.is_late columns.way
@@ -68,22 +68,22 @@ pub record Shows (columns : EntryColumns) (cells : PageCells) : Type 0 where
   pub end : cells.end ≡ end_cell columns.end
 
 -- a cell with a number, and one with a text
-abbrev pub number_cell : List ℕ → List ℕ
-number_cell text = codes "<td class=\"n\">" ++ text
+abbrev pub number_octets : List ℕ → List ℕ
+number_octets text = codes "<td class=\"n\">" ++ text
 
-abbrev pub text_cell : List ℕ → List ℕ
-text_cell text = codes "<td>" ++ text
+abbrev pub text_octets : List ℕ → List ℕ
+text_octets text = codes "<td>" ++ text
 
 -- a row with these cells
 abbrev pub row_text : PageCells → List ℕ
 row_text c =
-    codes "<tr>" ++ number_cell c.start ++ number_cell c.slot ++ text_cell c.what ++ number_cell c.from ++ number_cell c.to
-    ++ number_cell c.seconds ++ number_cell c.there ++ number_cell c.wrong ++ text_cell c.end ++ codes "</tr>\n"
+    codes "<tr>" ++ number_octets c.start ++ number_octets c.slot ++ text_octets c.what ++ number_octets c.from
+    ++ number_octets c.to ++ number_octets c.seconds ++ number_octets c.there ++ number_octets c.wrong ++ text_octets c.end ++ codes "</tr>\n"
 
 -- A text is a row that shows these columns.
 pub record IsRowOf (columns : EntryColumns) (text : List ℕ) : Type 0 where
   pub cells : PageCells
-  pub shown : Shows columns cells
+  pub shown : ShowsEntry columns cells
   pub written : text ≡ row_text cells
 
 -- 3. What is put of rows.

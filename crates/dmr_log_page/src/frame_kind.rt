@@ -43,7 +43,8 @@ impl FrameKind {
             Repeated::Nothing => of_silence(told.came),
             Repeated::CallHeader(_) | Repeated::Terminator(_) => Some(FrameKind::Header),
             Repeated::Place {
-                is_filled: true, ..
+                is_filled: true,
+                ..
             } => Some(FrameKind::Filled),
             Repeated::Place { .. } => Some(FrameKind::Voice),
             _ if is_of_packet => Some(FrameKind::Packet),

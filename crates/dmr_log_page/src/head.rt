@@ -71,7 +71,10 @@ impl fmt::Display for Legend {
             let colour = kind.colour();
             let name = kind.name();
             let behind = left.saturating_add(14);
-            write!(f, "\n<rect x=\"{left}\" y=\"2\" width=\"10\" height=\"10\" ")?;
+            write!(
+                f,
+                "\n<rect x=\"{left}\" y=\"2\" width=\"10\" height=\"10\" "
+            )?;
             write!(f, "fill=\"{colour}\"/><text class=\"t\" ")?;
             write!(f, "x=\"{behind}\" y=\"11\">{name}</text>")?;
         }
@@ -95,7 +98,10 @@ impl fmt::Display for PageHead<'_> {
             start: self.settings.start,
             milliseconds: 0,
         };
-        write!(f, "<!DOCTYPE html><html lang=\"en\"><meta charset=\"utf-8\">")?;
+        write!(
+            f,
+            "<!DOCTYPE html><html lang=\"en\"><meta charset=\"utf-8\">"
+        )?;
         write!(f, "<meta name=\"viewport\" content=\"width=device-width\">")?;
         write!(f, "<title>{name}</title>{STYLE}<h1>{name}</h1>")?;
         let when = DayAndTime(begin);

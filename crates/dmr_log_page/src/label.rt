@@ -67,7 +67,7 @@ pub(crate) struct Label<'a> {
     pub(crate) goes_on: bool,
     /// Where it begins.
     pub(crate) left: u64,
-    /// Where the next call of the row begins, or the row ends.
+    /// Where it has to end.
     pub(crate) right: u64,
 }
 
@@ -86,8 +86,8 @@ impl Label<'_> {
         text
     }
 
-    /// The text as the picture has it, if it has it, where the labels in front reach so far. That of a call is cut where there is no
-    /// room for it, and left out where there is next to none. Any other is there whole or not at all.
+    /// The text as the picture has it, if it has it, where the labels in front reach so far. That of a call is cut where there is
+    /// no room for it, and left out where there is next to none. Any other is there whole or not at all.
     pub(crate) fn shown(&self, taken: u64) -> Option<ArrayString<160>> {
         let text = self.text();
         let letters = text.as_str().chars().count() as u64;

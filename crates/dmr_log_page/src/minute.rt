@@ -5,7 +5,7 @@ ghost use Rattle.dmr_log_forms.specs.Printed.{shown_ended, shown_of, shown_recor
 ghost use Rattle.dmr_log_page.specs.Minutes.{begins_minute, entries_of, everything};
 
 use crate::clock::DayAndTime;
-use crate::picture::{Picture, PictureRow, ROW_FRAMES, SlotRow};
+use crate::picture::{MinutePicture, PictureRow, ROW_FRAMES, SlotRow};
 use crate::row::TableRow;
 use crate::slot_minute::{FRAMES, SlotMinute};
 use dmr_gateway::Received;
@@ -37,7 +37,8 @@ pub(crate) fn begins_minute(frame: u32) -> bool
 }
 
 /// The head of a table.
-const TABLE: &str = "<table><tr><th class=\"n\">start<th class=\"n\">slot<th>what<th class=\"n\">from<th class=\"n\">to\
+const TABLE: &str =
+    "<table><tr><th class=\"n\">start<th class=\"n\">slot<th>what<th class=\"n\">from<th class=\"n\">to\
     <th class=\"n\">seconds<th class=\"n\">there<th class=\"n\">wrong bits<th>end</tr>\n";
 
 impl Minute {
@@ -180,7 +181,7 @@ impl Minute {
     }
 
     /// Its picture, of a recording that began then.
-    fn picture(&self, start: Option<StartTime>) -> Picture<'_> {
+    fn picture(&self, start: Option<StartTime>) -> MinutePicture<'_> {
         let first = PictureRow {
             start,
             slot_1: self.slot_row(1, 0),
@@ -191,7 +192,7 @@ impl Minute {
             slot_1: self.slot_row(1, ROW_FRAMES),
             slot_2: self.slot_row(2, ROW_FRAMES),
         };
-        Picture {
+        MinutePicture {
             rows: [first, second],
         }
     }

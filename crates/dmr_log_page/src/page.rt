@@ -13,7 +13,7 @@ ghost use Rattle.dmr_show.specs.Showing.{IsUntouched, TellsFault};
 use crate::end::PageEnd;
 use crate::head::PageHead;
 use crate::minute::Minute;
-use crate::printer::{PagePrinter, Printing, print};
+use crate::printer::{PagePrinter, PagePrinting, print};
 use crate::settings::PageSettings;
 use dmr_lines::{FAILURE, SUCCESS};
 use dmr_log::{Log, LogSummary, log_recording};
@@ -27,7 +27,7 @@ const TEXT: usize = 65536;
 
 /// Prints what a log tells of an uplink, whose head was read: all minutes.
 fn print_minutes<S: Source, K: Sink>(
-    printing: Printing,
+    printing: PagePrinting,
     minute: Minute,
     log: &mut Log,
     source: &mut S,
@@ -93,7 +93,7 @@ fn print_to<S: Source, K: Sink>(
     };
     read_uplink_head(source)?;
     print(&PageHead { name, settings }, &mut text, sink)?;
-    let printing = Printing {
+    let printing = PagePrinting {
         start: settings.start,
         address: settings.address.unwrap_or(0),
     };
@@ -105,9 +105,9 @@ fn print_to<S: Source, K: Sink>(
     print(&end, &mut text, sink)
 }
 
-/// Prints the page of a file of this name to the first sink, as far as the file can be read, and answers the exit status. The source
-/// stands before the head. Each minute is printed as soon as it is over. A fault of the file is told on the second sink, by the name
-/// of the file, and so is that it is no uplink.
+/// Prints the page of a file of this name to the first sink, as far as the file can be read, and answers the exit status. The
+/// source stands before the head. Each minute is printed as soon as it is over. A fault of the file is told on the second sink, by
+/// the name of the file, and so is that it is no uplink.
 pub fn print_page<S: Source, K: Sink, E: Sink>(
     alloc: Global,
     name: &str,

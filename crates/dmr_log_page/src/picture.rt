@@ -134,10 +134,12 @@ impl<'a> SlotRow<'a> {
         behind > self.first && self.left_of(span.first) < LENGTH
     }
 
-    /// Where the first call among these begins, or the row ends.
-    fn next_call(&self, others: &[Transmission]) -> u64 {
-        match others.iter().find(|other| is_call(other)) {
-            Some(call) => self.left_of(call.span.first).min(LENGTH),
+    /// Where a label of a transmission in front of these has to end: where the next call begins, and where the next transmission of
+    /// any kind does if it isn't of a call. At last the row ends.
+    fn right_of(&self, transmission: &Transmission, others: &[Transmission]) -> u64 {
+        let of_call = is_call(transmission);
+        match others.iter().find(|other| is_call(other) || !of_call) {
+            Some(next) => self.left_of(next.span.first).min(LENGTH),
             None => LENGTH,
         }
     }
@@ -148,7 +150,7 @@ impl<'a> SlotRow<'a> {
             transmission,
             goes_on: transmission.span.first < self.first,
             left: self.left_of(transmission.span.first),
-            right: self.next_call(others),
+            right: self.right_of(transmission, others),
         }
     }
 
@@ -166,7 +168,10 @@ impl<'a> SlotRow<'a> {
             if let Some(text) = label.shown(taken) {
                 let left = Tenths(MARGIN.saturating_add(label.left));
                 let shown = text.as_str();
-                write!(f, "<text class=\"l\" x=\"{left}\" y=\"{top}\">{shown}</text>\n")?;
+                write!(
+                    f,
+                    "<text class=\"l\" x=\"{left}\" y=\"{top}\">{shown}</text>\n"
+                )?;
                 taken = label.end(&text);
             }
         }
@@ -188,7 +193,10 @@ impl fmt::Display for SlotRow<'_> {
         let top = self.bars_top();
         let middle = top.saturating_add(8);
         let bottom = top.saturating_add(16);
-        write!(f, "<text class=\"t\" x=\"8\" y=\"{middle}\">slot {slot}</text>\n")?;
+        write!(
+            f,
+            "<text class=\"t\" x=\"8\" y=\"{middle}\">slot {slot}</text>\n"
+        )?;
         write!(f, "<path d=\"M64 {bottom}H1024.0\" stroke=\"#d5d5d5\"/>\n")?;
         self.write_bars(f)?;
         self.write_labels(f)
@@ -260,11 +268,11 @@ impl fmt::Display for PictureRow<'_> {
 
 /// The picture of a minute: its rows in which something is shown.
 #[derive(Clone, Copy, Drop)]
-pub(crate) struct Picture<'a> {
+pub(crate) struct MinutePicture<'a> {
     pub(crate) rows: [PictureRow<'a>; 2],
 }
 
-impl Picture<'_> {
+impl MinutePicture<'_> {
     /// Whether something is shown.
     pub(crate) fn is_shown(&self) -> bool {
         self.shown() > 0
@@ -277,7 +285,7 @@ impl Picture<'_> {
     }
 }
 
-impl fmt::Display for Picture<'_> {
+impl fmt::Display for MinutePicture<'_> {
     fn fmt<W: fmt::Write>(&self, f: &mut fmt::Formatter<W>) -> fmt::Result {
         let height = 106 * self.shown();
         if height == 0 {

@@ -99,14 +99,14 @@ fn print_minute<K: Sink>(
 
 /// How a page is printed.
 #[derive(Clone, Copy, Drop)]
-pub(crate) struct Printing {
+pub(crate) struct PagePrinting {
     /// When the recording began, if that is known.
     pub(crate) start: Option<StartTime>,
     /// The address of the gateway. It means nothing where there is none, since then nothing is received.
     pub(crate) address: u32,
 }
 
-impl Printing {
+impl PagePrinting {
     /// Takes what is told of a frame, and prints the minute in front of it where that is over.
     fn take<K: Sink>(
         &self,
@@ -140,7 +140,7 @@ impl Printing {
 #[derive(Drop)]
 pub(crate) struct PagePrinter<'a, K> {
     pub(crate) sink: &'a mut K,
-    pub(crate) printing: Printing,
+    pub(crate) printing: PagePrinting,
     /// The minute that isn't over yet.
     pub(crate) minute: Minute,
     /// Memory was refused, and nothing more is printed.

@@ -3,7 +3,7 @@ ghost use Rattle.std.specs.Prelude.{◌≡◌, ◌+◌, ◌++◌, ◌<◌, ◌�
 ghost use Rattle.dmr_log_forms.specs.Entries.{columns_of_entry};
 ghost use Rattle.dmr_log_forms.specs.Rows.{end_cell};
 ghost use Rattle.dmr_log_page.specs.Rows as spec;
-ghost use Rattle.dmr_log_page.specs.Cells.{cells_of};
+ghost use Rattle.dmr_log_page.specs.Cells.{page_cells_of};
 
 use crate::clock::ToTheHundredth;
 use crate::what::What;
@@ -151,7 +151,7 @@ fn end(value: Option<CallEnd>) -> Cell
 
 /// The cells of a row.
 #[derive(Drop)]
-pub(crate) struct RowCells {
+pub(crate) struct TableCells {
     start: Cell,
     slot: Cell,
     what: Cell,
@@ -165,7 +165,7 @@ pub(crate) struct RowCells {
 
 /// Writes a cell with a number.
 fn write_number(cell: &Cell, text: &mut String) -> Result<(), AllocError>
-    ensures written { OnOk result (string_bytes text.new ≡ string_bytes text.old ++ spec.number_cell cell.now.bytes) }
+    ensures written { OnOk result (string_bytes text.new ≡ string_bytes text.old ++ spec.number_octets cell.now.bytes) }
 {
     text.push_str("<td class=\"n\">")?;
     text.push_str(cell.as_str())
@@ -173,23 +173,23 @@ fn write_number(cell: &Cell, text: &mut String) -> Result<(), AllocError>
 
 /// Writes a cell with a text.
 fn write_text(cell: &Cell, text: &mut String) -> Result<(), AllocError>
-    ensures written { OnOk result (string_bytes text.new ≡ string_bytes text.old ++ spec.text_cell cell.now.bytes) }
+    ensures written { OnOk result (string_bytes text.new ≡ string_bytes text.old ++ spec.text_octets cell.now.bytes) }
 {
     text.push_str("<td>")?;
     text.push_str(cell.as_str())
 }
 
-impl RowCells {
+impl TableCells {
     /// Those of a row of the table, of a recording that began then.
-    fn of_row(start: Option<StartTime>, row: &TableRow) -> RowCells
-        ensures shows { spec.Shows row.now.columns (cells_of result) }
+    fn of_row(start: Option<StartTime>, row: &TableRow) -> TableCells
+        ensures shows { spec.ShowsEntry row.now.columns (page_cells_of result) }
     {
         let columns = &row.columns;
         let begin = Begin {
             start,
             milliseconds: columns.place.milliseconds(),
         };
-        RowCells {
+        TableCells {
             start: text_of(&ToTheHundredth(begin)),
             slot: both(number(columns.place.slot).as_str(), ""),
             what: text_of(&row.what),
@@ -204,7 +204,7 @@ impl RowCells {
 
     /// Writes them in place of a text.
     fn write(&self, text: &mut String) -> Result<(), AllocError>
-        ensures written { OnOk result (string_bytes text.new ≡ spec.row_text (cells_of self.now)) }
+        ensures written { OnOk result (string_bytes text.new ≡ spec.row_text (page_cells_of self.now)) }
     {
         text.clear();
         text.push_str("<tr>")?;
@@ -229,5 +229,5 @@ pub(crate) fn write_row(
 ) -> Result<(), AllocError>
     ensures row { OnOk result (spec.IsRowOf row.now.columns (string_bytes text.new)) }
 {
-    RowCells::of_row(start, row).write(text)
+    TableCells::of_row(start, row).write(text)
 }

@@ -3,8 +3,7 @@ use dmr_log::{ControlKind, Subject};
 use dmr_log_forms::{EntryKind, LogEntry};
 use std::fmt;
 
-/// What an entry is, in words: its name, of a control signalling block its opcode and feature set too, and of a late call that it is
-/// one.
+/// What an entry is, in words: its name, of a control signalling block its opcode and feature set too, and whether a call is late.
 #[derive(Clone, Copy, Drop)]
 pub(crate) struct What {
     kind: EntryKind,
@@ -19,10 +18,12 @@ fn block_of(entry: &LogEntry<'_>) -> Option<(u8, u8)> {
         return None;
     };
     match ended.transmission.subject {
-        Subject::Controls(ControlKind::Csbk {
-            opcode,
-            feature_set,
-        }) => Some((opcode, feature_set)),
+        Subject::Controls(
+            ControlKind::Csbk {
+                opcode,
+                feature_set,
+            },
+        ) => Some((opcode, feature_set)),
         _ => None,
     }
 }

@@ -224,7 +224,8 @@ fn a_call_that_goes_on(rt: HostRuntime) -> Result<(), Fail> {
         printed.as_str(),
         &[
             &[
-                "width=\"5.8\" height=\"16\" fill=\"#2f6fb2\"/>\n<text class=\"l\" x=\"976.0\" y=\"31\">2 → …</text>\n<text class=\"t\"",
+                "width=\"5.8\" height=\"16\" fill=\"#2f6fb2\"/>\n\
+                <text class=\"l\" x=\"976.0\" y=\"31\">2 → …</text>\n<text class=\"t\"",
                 "<td>terminator</tr>\n</table>\n",
             ],
             &[
@@ -250,8 +251,8 @@ fn packets_and_control_blocks(rt: HostRuntime) -> Result<(), Fail> {
             "<td>preamble<td class=\"n\">2<td class=\"n\">TG 9<td class=\"n\">0.12<td class=\"n\"><td class=\"n\">",
             "<td>CSBK opcode 4, fid 16<td class=\"n\"><td class=\"n\"><td class=\"n\">0.06<td class=\"n\"><td class=\"n\">",
             "<td>confirmed data<td class=\"n\">2<td class=\"n\">1<td class=\"n\">0.30<td class=\"n\">1 of 2<td class=\"n\">",
-            // The first label reaches past the begins of all others.
-            "/>\n<text class=\"l\" x=\"64.0\" y=\"31\">preamble 2 → TG 9</text>\n<text class=\"t\" x=\"8\" y=\"86\">slot 2</text>\n",
+            // There is room for the last label alone.
+            "/>\n<text class=\"l\" x=\"129.3\" y=\"31\">data 7 → 5</text>\n<text class=\"t\" x=\"8\" y=\"86\">slot 2</text>\n",
         ]],
     );
     Ok(())
@@ -267,7 +268,12 @@ fn times_of_day(rt: HostRuntime) -> Result<(), Fail> {
     let printed = page(&rt, later(&rt, 0, SCENE)?.as_slice(), settings)?;
     let head = "<p>uplink recording, 2026-01-31 23:59:59 UTC; colour code 1; gateway 1</p>\n";
     assert!(rt; printed.as_str().contains(head), "{printed}");
-    assert!(rt; printed.as_str().contains("; 23 bursts repeated; 1 record received</p>\n"), "{printed}");
+    assert!(rt;
+        printed
+            .as_str()
+            .contains("; 23 bursts repeated; 1 record received</p>\n"),
+        "{printed}"
+    );
     expect_minutes(
         &rt,
         printed.as_str(),
@@ -289,10 +295,20 @@ fn faults(rt: HostRuntime) -> Result<(), Fail> {
     let cut = whole.as_slice().get(..151).unwrap_or_default();
     let fault = "error: up.dmru: half frame at octet 151, frame 5, slot 2\n";
     let printed = page_that_ends(&rt, "up.dmru", cut, PLAIN, 1, fault)?;
-    assert!(rt; printed.as_str().contains("<td>end</tr>\n</table>\n"), "{printed}");
+    assert!(rt;
+        printed.as_str().contains("<td>end</tr>\n</table>\n"),
+        "{printed}"
+    );
     assert!(rt; !printed.as_str().contains("5 frames"), "{printed}");
     let other = b"DMRD\x01\0\0\0";
-    let printed = page_that_ends(&rt, "up.dmru", other, PLAIN, 1, "error: up.dmru: not an uplink\n")?;
+    let printed = page_that_ends(
+        &rt,
+        "up.dmru",
+        other,
+        PLAIN,
+        1,
+        "error: up.dmru: not an uplink\n",
+    )?;
     assert_eq!(rt; printed.as_str(), "");
     let settings = PageSettings {
         colour: 16,

@@ -1,5 +1,5 @@
--- What is printed of a file that is listed, or of which a log is printed, perhaps as a page. Which file the system opens under a name, and what it
--- holds, is the system's.
+-- What is printed of a file that is listed, or of which a log is printed, perhaps as a page. Which file the system opens under a
+-- name, and what it holds, is the system's.
 use Rattle.std.specs.Prelude.{◌≡◌, ◌⊎◌, ℕ, List, Option}
 use Rattle.dmr_log_forms.specs.Part.{IsLogPutUpTo}
 use Rattle.dmr_log_forms.specs.Whole.{IsLogPut}
@@ -45,7 +45,8 @@ IsSomePagePut settings held_old held_new =
 abbrev pub IsSomePagePutInPart : PageSettings → Option (List ℕ) → Option (List ℕ) → Type 0
 IsSomePagePutInPart settings held_old held_new =
     (held_new ≡ held_old)
-    ⊎ ((fault : LogFault) × (left_old left_new : Option (List ℕ)) × IsPagePutUpTo fault settings left_old left_new held_old held_new)
+    ⊎ ((fault : LogFault) × (left_old left_new : Option (List ℕ))
+    × IsPagePutUpTo fault settings left_old left_new held_old held_new)
 
 -- What a request for a listing or a log prints that succeeds. Of others nothing is said here.
 abbrev pub IsListingPrinted : Request → Option (List ℕ) → Option (List ℕ) → Type 0

@@ -22,7 +22,8 @@ pub record IsLogFormOf (found : Found) (form : LogForm) : Type 0 where
   pub json_flag : IsFlagOf found (codes "json") json
   pub value : form ≡ log_form_by csv json
 
--- The settings of a page are those of the options of their names, and it is asked for. How the text of `start` is read is left open.
+-- The settings of a page are those of the options of their names, and it is asked for. How the text of `start` is read is left
+-- open.
 pub record ArePageSettings (found : Found) (settings : PageSettings) : Type 0 where
   pub html : IsFlagOf found (codes "html") true
   pub colour : IsNumberOf 8 found (codes "colour") settings.colour

@@ -60,8 +60,8 @@ abbrev pub NamesFormat : ArgMatches → Type 0
 NamesFormat given = (format : Format) × (subcommand_name_of given ≡ Some (format_name format))
 
 -- What a command with these options asks for: `show` for a listing, which is refused where it begins beyond its end; `log` for a
--- log, for its page, or for one that is refused; `compare` for a comparison, which is refused where both files would be standard input; `import`
--- for a file from another format, and `export` for one in it; and any other what isn't done here.
+-- log, for its page, or for one that is refused; `compare` for a comparison, which is refused where both files would be standard
+-- input; `import` for a file from another format, and `export` for one in it; and any other what isn't done here.
 abbrev pub IsAskedOfTools : Option (Text × ArgMatches) → Request → Type 0
 IsAskedOfTools None (Show name form filter) = ⊥
 IsAskedOfTools None Backwards = ⊥
