@@ -26,6 +26,7 @@ GREATEST = ["--colour", 15, "--llid", 16_777_215, "--call-hang", 65_535, "--chan
 # Words that are answered with no run: listings, logs and faults, texts, one burst, help and the version, and mistakes.
 ANSWERED = [
     ["show", "one.dmru"], ["show", "one.dmru", "--json"], ["show", "one.dmru", "--strip"], ["show", "cut.dmru"],
+    ["log", "one.dmru", "--html"],
     ["show", "nowhere"], ["show", "long.dmri"], ["show", "long.dmri", "--json"], ["show", "long.dmri", "--strip"],
     ["log", "one.dmru"], ["log", "one.dmru", "--csv"], ["log", "one.dmru", "--json", "--llid", 1], ["log", "cut.dmru"],
     ["log", "nowhere"], ["log", "long.dmri"], ["log", "one.dmru", "--start", "now"], ["log", "--help"],

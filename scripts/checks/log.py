@@ -1,5 +1,5 @@
 """The log: of each sample beside what a reader of its downlink finds there, which another program has written; recordings that are
-encoded here, in each form; faults; pipes; little memory."""
+encoded here, in each form; faults; pipes; little memory; its page."""
 
 import csv
 import io
@@ -8,7 +8,7 @@ import json
 import re
 
 from checks import recordings as it
-from checks import talks
+from checks import page, talks
 from checks.bursts import TERMINATOR as TERMINATOR_MASK
 from checks.bursts import VOICE_HEADER as VOICE_HEADER_MASK
 from checks.bursts import data_burst, embedded_fields, voice_burst, voice_sync_burst
@@ -387,3 +387,4 @@ def check(report):
     check_longest(report)
     for folder in sorted(it for it in (report.top / "samples").iterdir() if it.is_dir()):
         check_beside_downlink(report, folder)
+    page.check(report)
