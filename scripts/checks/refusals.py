@@ -208,6 +208,8 @@ def check_reasons(report):
             report.expect(f"{file} is a full device", told == wanted, told)
             told = told_more(room, **{file: room.uplink})
             report.expect(f"{file} is the uplink", told == f"error: {room.uplink}: cannot open\n", told)
+        told = told_more(room, uplink="up\x1b[31m\nlink")
+        report.expect("a name with control characters", told == f"error: up?[31m?link: cannot open: {missing}\n", told)
         report.expect("a hang that is refused", told_more(room, "--call-hang", 6) == "")
 
 

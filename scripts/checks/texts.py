@@ -139,6 +139,7 @@ Options:
       --start <TIME>  When it began, as 2026-01-31T12:00:00Z
       --csv           A table: a row of CSV for each
       --json          An object a line, for programs
+      --html          A page: a picture of each minute, and a table
       --slot <N>      The slot alone, 1 or 2
       --from <FRAME>  The first frame that has lines
       --to <FRAME>    The last frame that has lines
@@ -156,8 +157,10 @@ burst is; or with the end of the recording. It is late where it begins with a
 place. A packet has how many of its blocks came. [wrong: 21 of 263 bits] tells
 how many bits were wrong, of those that codes cover.
 
---csv has a row for each line, behind one that names the columns. Where the
-recording is a pipe, each line is printed as soon as it is known.
+--csv has a row for each line, behind one that names the columns. --html has a
+page for a browser or for paper: a picture of both slots for each minute, and a
+table of what ended in it. Where the recording is a pipe, each line is printed
+as soon as it is known, and each minute as soon as it is over.
 
 Status 0: the recording is whole; 1: it is at fault, which is told on standard
 error with the octet at which its record begins; 2: the command line.
@@ -165,7 +168,7 @@ error with the octet at which its record begins; 2: the command line.
 Example:
   dmrgate log uplink.dmru --llid 1 --start 2026-01-31T12:00:00Z --csv
 
-The lines and the columns are described in docs/protocol.md.
+The lines, the columns and the page are described in docs/protocol.md.
 """,
     "compare": """Tells where two files differ
 

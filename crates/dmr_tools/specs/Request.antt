@@ -12,14 +12,14 @@ use Rattle.dmr_show.specs.declared.form.Form.{Form}
 use Rattle.dmr_show.specs.declared.form.Form.TheVariants as form_variant
 use Rattle.dmr_tools.specs.Comparison.{IsComparisonOf, shares_input}
 use Rattle.dmr_tools.specs.Filters.{IsFilterOf, is_backwards}
-use Rattle.dmr_tools.specs.LogRequest.{AreLogSettings}
+use Rattle.dmr_tools.specs.LogRequest.{AreLogSettings, ArePageSettings}
 use Rattle.dmr_tools.specs.declared.comparison.Comparison.{Comparison}
 use Rattle.dmr_tools.specs.declared.request.Format.{Format}
 use Rattle.dmr_tools.specs.declared.request.Format.TheVariants as format_variant
 use Rattle.dmr_tools.specs.declared.request.PairPlaces.{PairPlaces}
 use Rattle.dmr_tools.specs.declared.request.Request.{Request}
-use Rattle.dmr_tools.specs.declared.request.Request.TheVariants.{Show, Backwards, Log, LogRefused, Import, Export, Elsewhere}
-use Rattle.dmr_tools.specs.declared.request.Request.TheVariants.{Compare, SharedInput}
+use Rattle.dmr_tools.specs.declared.request.Request.TheVariants.{Show, Backwards, Log, LogPage, LogRefused, Import, Export}
+use Rattle.dmr_tools.specs.declared.request.Request.TheVariants.{Compare, SharedInput, Elsewhere}
 
 -- a strip where it is asked for, JSON where that alone is, and else a listing
 abbrev pub form_by : Bool → Bool → Form
@@ -60,12 +60,13 @@ abbrev pub NamesFormat : ArgMatches → Type 0
 NamesFormat given = (format : Format) × (subcommand_name_of given ≡ Some (format_name format))
 
 -- What a command with these options asks for: `show` for a listing, which is refused where it begins beyond its end; `log` for a
--- log, or for one that is refused; `compare` for a comparison, which is refused where both files would be standard input; `import`
--- for a file from another format, and `export` for one in it; and any other what isn't done here.
+-- log, for its page, or for one that is refused; `compare` for a comparison, which is refused where both files would be standard
+-- input; `import` for a file from another format, and `export` for one in it; and any other what isn't done here.
 abbrev pub IsAskedOfTools : Option (Text × ArgMatches) → Request → Type 0
 IsAskedOfTools None (Show name form filter) = ⊥
 IsAskedOfTools None Backwards = ⊥
 IsAskedOfTools None (Log name settings) = ⊥
+IsAskedOfTools None (LogPage name settings) = ⊥
 IsAskedOfTools None (LogRefused refusal) = ⊥
 IsAskedOfTools None (Compare comparison) = ⊥
 IsAskedOfTools None SharedInput = ⊥
@@ -80,6 +81,10 @@ IsAskedOfTools (Some command) Backwards =
 IsAskedOfTools (Some command) (Log name settings) =
     (command.0 ≡ codes "log") × (name.now ≡ text_of (found_of command.1) (codes "uplink"))
     × AreLogSettings (found_of command.1) settings × (is_backwards settings.filter ≡ false)
+    × IsFlagOf (found_of command.1) (codes "html") false
+IsAskedOfTools (Some command) (LogPage name settings) =
+    (command.0 ≡ codes "log") × (name.now ≡ text_of (found_of command.1) (codes "uplink"))
+    × ArePageSettings (found_of command.1) settings
 IsAskedOfTools (Some command) (LogRefused refusal) = command.0 ≡ codes "log"
 IsAskedOfTools (Some command) (Compare comparison) =
     (command.0 ≡ codes "compare") × IsComparisonOf (found_of command.1) comparison × (shares_input comparison ≡ false)
@@ -99,6 +104,7 @@ IsAskedOfTools (Some command) (Elsewhere name) =
 abbrev pub IsShow : Request → Type 0
 IsShow (Show name form filter) = Unit {0}
 IsShow (Log name settings) = Unit {0}
+IsShow (LogPage name settings) = Unit {0}
 IsShow request = ⊥
 
 -- A file is to be carried from another format, or to it.
@@ -116,6 +122,7 @@ IsComparison request = ⊥
 abbrev pub IsTool : Request → Type 0
 IsTool (Show name form filter) = Unit {0}
 IsTool (Log name settings) = Unit {0}
+IsTool (LogPage name settings) = Unit {0}
 IsTool (Compare comparison) = Unit {0}
 IsTool (Import format places) = Unit {0}
 IsTool (Export format places) = Unit {0}

@@ -6,8 +6,8 @@
 //! sinks (`dmr_record`): what was asked for to the first, errors to the second. `program` is that on the system that it runs on.
 //! `specs/Request.antt` says from which option each part of a request comes, with `Filters`, `LogRequest` and `Comparison`, and
 //! where a line goes that tells how much was written. `specs/Listed.antt` says what a listing or a log prints, and
-//! `specs/Comparing.antt` what a comparison does. What a file shows is `dmr_show`'s, its log is `dmr_log_forms`'s, its text is
-//! `dmr_text`'s, and where it differs from another is `dmr_compare`'s.
+//! `specs/Comparing.antt` what a comparison does. What a file shows is `dmr_show`'s, its log is `dmr_log_forms`'s and as a page
+//! `dmr_log_page`'s, its text is `dmr_text`'s, and where it differs from another is `dmr_compare`'s.
 #![tactic(auto)]
 
 mod carrying;

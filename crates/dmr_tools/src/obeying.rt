@@ -16,6 +16,7 @@ use crate::request::{LogRefusal, Request, request_of};
 use dmr_files::{Open, Place, System, open_source};
 use dmr_lines::{FAILURE, USAGE, line_of, print_error};
 use dmr_log_forms::{LogSettings, print_log};
+use dmr_log_page::{PageSettings, print_page};
 use dmr_options::{print_answer, print_elsewhere};
 use dmr_record::Sink;
 use dmr_show::{Filter, Form, show};
@@ -96,6 +97,38 @@ fn log_file<S: System, K: Sink, E: Sink>(
     }
 }
 
+/// Prints the page of the recording of this name, as far as it can be read.
+fn page_file<S: System, K: Sink, E: Sink>(
+    alloc: Global,
+    system: &S,
+    name: &str,
+    settings: PageSettings,
+    out: &mut K,
+    err: &mut E,
+) -> u8
+    requires out { K.has_failed out.old ≡ false }
+    requires err { E.has_failed err.old ≡ false }
+    ensures whole { result ≡ success → listed.IsSomePagePut settings (K.held out.old) (K.held out.new) }
+    ensures fault { result ≡ failure → K.has_failed out.new ≡ false
+        → TellsFault result (K.has_failed out.new) (E.has_failed err.new) (E.held err.old) (E.held err.new) }
+    ensures part { result ≡ failure → K.has_failed out.new ≡ false
+        → listed.IsSomePagePutInPart settings (K.held out.old) (K.held out.new) }
+    ensures alone { (err.new ≡ err.old)
+        ⊎ TellsFault result (K.has_failed out.new) (E.has_failed err.new) (E.held err.old) (E.held err.new) }
+    ensures success { result ≡ success → err.new ≡ err.old }
+    ensures status { result ≤ 1 }
+    ensures out_failed { K.has_failed out.new ≡ true → result ≡ failure }
+    ensures err_failed { E.has_failed err.new ≡ true → result ≡ failure }
+{
+    match open_source(system, alloc, Place::named(name)) {
+        Ok(Open { mut file, .. }) => print_page(alloc, name, &settings, &mut file, out, err),
+        Err(fault) => {
+            print_unopened(alloc, name, fault, err);
+            FAILURE
+        }
+    }
+}
+
 /// What is told of settings of a log that are refused.
 fn refusal_text(refusal: LogRefusal) -> &'static str {
     match refusal {
@@ -164,6 +197,7 @@ fn fulfil<S: System, K: Sink, E: Sink>(
         }
         Request::Backwards => print_error(err, BACKWARDS, USAGE),
         Request::Log { name, settings } => log_file(alloc, system, name, settings, out, err),
+        Request::LogPage { name, settings } => page_file(alloc, system, name, settings, out, err),
         Request::LogRefused(refusal) => print_error(err, line_of(refusal_text(refusal)), USAGE),
         Request::Compare(comparison) => compare_files(alloc, system, &comparison, out, err),
         Request::SharedInput => print_error(err, SHARED_INPUT, USAGE),

@@ -1,5 +1,5 @@
 //! What the words of a command line ask for.
-ghost use Rattle.std.specs.Prelude.{◌≡◌, Some, IfSome, IfNone, codes, option_map};
+ghost use Rattle.std.specs.Prelude.{◌≡◌, false, Some, IfSome, IfNone, codes, option_map};
 ghost use Rattle.clap.specs.Words.{found_of};
 ghost use Rattle.dmr_files.specs.Place.{IsNamed};
 ghost use Rattle.dmr_options.specs.Found.{IsNumberOf, text_of};
@@ -12,6 +12,7 @@ use crate::comparison::Comparison;
 use clap::{ArgMatches, Error};
 use dmr_files::Place;
 use dmr_log_forms::{LogForm, LogSettings, StartTime};
+use dmr_log_page::PageSettings;
 use dmr_options::{Listed, flag_of, given_text_of, text_of};
 use dmr_show::{Filter, Form};
 use dmr_tool_options::tool_commands;
@@ -56,6 +57,11 @@ pub enum Request<'a> {
     Log {
         name: &'a str,
         settings: LogSettings,
+    },
+    /// To print the log of the recording of this name as a page.
+    LogPage {
+        name: &'a str,
+        settings: PageSettings,
     },
     /// To print a log with settings that are refused.
     LogRefused(LogRefusal),
@@ -172,6 +178,27 @@ fn log_settings_of(log: &ArgMatches<'_>) -> LogSettings
     }
 }
 
+/// What a command line of `log` asks for, with these settings: a page where it asks for one, which has no other form and leaves
+/// nothing out.
+fn log_of<'a>(log: &ArgMatches<'a>, settings: LogSettings) -> Request<'a>
+    requires settings { AreLogSettings (found_of log.now) settings }
+    requires forwards { is_backwards settings.filter ≡ false }
+    ensures asked { IsAskedOfTools (Some (record { 0 = codes "log"; 1 = log.now })) result }
+{
+    let name = text_of(log, "uplink");
+    if flag_of(log, "html") {
+        return Request::LogPage {
+            name,
+            settings: PageSettings {
+                colour: settings.colour,
+                address: settings.address,
+                start: settings.start,
+            },
+        };
+    }
+    Request::Log { name, settings }
+}
+
 /// What a command line of `log` asks for.
 fn log_request<'a>(log: &ArgMatches<'a>) -> Request<'a>
     ensures asked { IsAskedOfTools (Some (record { 0 = codes "log"; 1 = log.now })) result }
@@ -180,18 +207,17 @@ fn log_request<'a>(log: &ArgMatches<'a>) -> Request<'a>
     if is_backwards(&settings.filter) {
         return Request::LogRefused(LogRefusal::Backwards);
     }
-    let name = text_of(log, "uplink");
     let Some(text) = given_text_of(log, "start") else {
-        return Request::Log { name, settings };
+        return log_of(log, settings);
     };
     match StartTime::read(text) {
-        Some(start) => Request::Log {
-            name,
-            settings: LogSettings {
+        Some(start) => log_of(
+            log,
+            LogSettings {
                 start: Some(start),
                 ..settings
             },
-        },
+        ),
         None => Request::LogRefused(LogRefusal::Time),
     }
 }

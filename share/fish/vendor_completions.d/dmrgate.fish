@@ -33,6 +33,7 @@ complete -c dmrgate -n '__fish_seen_subcommand_from log' -l llid -x -d 'Also wha
 complete -c dmrgate -n '__fish_seen_subcommand_from log' -l start -x -d 'When it began, as 2026-01-31T12:00:00Z'
 complete -c dmrgate -n '__fish_seen_subcommand_from log' -l csv -d 'A table, a row of CSV for each'
 complete -c dmrgate -n '__fish_seen_subcommand_from log' -l json -d 'An object a line, for programs'
+complete -c dmrgate -n '__fish_seen_subcommand_from log' -l html -d 'A page, a picture of each minute and a table'
 complete -c dmrgate -n '__fish_seen_subcommand_from log' -l slot -x -a '1 2' -d 'The slot alone'
 complete -c dmrgate -n '__fish_seen_subcommand_from log' -l from -x -d 'The first frame that has lines'
 complete -c dmrgate -n '__fish_seen_subcommand_from log' -l to -x -d 'The last frame that has lines'
