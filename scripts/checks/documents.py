@@ -5,6 +5,8 @@ In a docstring a colon ends a sentence too."""
 import re
 import subprocess
 
+from checks.failures import ANSWERED
+
 WIDTH = 132
 # Words that a sentence may have.
 LONGEST = 40
@@ -354,6 +356,8 @@ def check_counts(report):
         together = sum(int(count) for _, count in tables_of(text, head))
         report.expect(f"the {what} of docs/testing.md, together", together == counts[what], f"{together} and {counts[what]}")
     parts = re.findall(r'^    "(\w+)": \w+\.check', (report.top / "check").read_text(), re.MULTILINE)
+    told = f"for {len(ANSWERED)} other command lines"
+    report.expect(f"docs/testing.md tells of memory: {told}", told in " ".join(text.split()))
     in_table = [NAME.match(part)[1] for part, *_ in tables_of(text, "| Part | Tries | For what |")]
     report.expect("docs/testing.md has each part of ./check, in order", in_table == parts, in_table)
 
