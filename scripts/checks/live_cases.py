@@ -727,8 +727,8 @@ def check_mixed(report):
         numbers = [[numbers_of(line)[name] for name in names] for line in (lines[0], sample.line.decode())]
         report.expect("mixed traffic: the run", numbers == 2 * [[1506, 1563, 7]], lines)
         counts = numbers_of(last)
-        names = "to-radios", "to-hosts", "not-of-the-radio", "not-datagrams", "not-taken", "not-for-hosts", "late"
-        report.expect("mixed traffic: the gateway", [counts[name] for name in names] == [31, 1, 2, 4, 0, 0, 0], last)
+        names = "to-radios", "refused", "to-hosts", "not-of-the-radio", "not-datagrams", "not-taken", "not-for-hosts", "late"
+        report.expect("mixed traffic: the gateway", [counts[name] for name in names] == [31, 0, 1, 2, 4, 0, 0, 0], last)
         ticks = [packet for *_, packet in outgoing_in(live.file("dmro"))].count(b"")
         is_so = counts["refused"] == numbers_of(lines[0])["refused"] - ticks
         report.expect("mixed traffic: what the run refused but for ticks", is_so, (lines[0], ticks, last))
