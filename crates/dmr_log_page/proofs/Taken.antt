@@ -64,8 +64,8 @@ all_put page set {log_old = log_old} {log_new = log_new} {left_old = left_old} {
       read = read;
       between = page between;
       all = page new;
-      taken = subst (λ (s : PageState). AreFramesTaken (takes (set old)) log_old frames [] [] read left_old left_new s (page between))
-          begin first.1;
+      taken = subst (λ (s : PageState). AreFramesTaken (takes (set old)) log_old frames [] [] read left_old left_new s
+          (page between)) begin first.1;
       rest = subst (λ (p : PagePrinting). IsRestTold (takes p) read log_new (page between) (page new)) first.0
           (rest_taken page set rest);
       last = last;

@@ -78,7 +78,8 @@ text_octets text = codes "<td>" ++ text
 abbrev pub row_text : PageCells → List ℕ
 row_text c =
     codes "<tr>" ++ number_octets c.start ++ number_octets c.slot ++ text_octets c.what ++ number_octets c.from
-    ++ number_octets c.to ++ number_octets c.seconds ++ number_octets c.there ++ number_octets c.wrong ++ text_octets c.end ++ codes "</tr>\n"
+    ++ number_octets c.to ++ number_octets c.seconds ++ number_octets c.there ++ number_octets c.wrong
+    ++ text_octets c.end ++ codes "</tr>\n"
 
 -- A text is a row that shows these columns.
 pub record IsRowOf (columns : EntryColumns) (text : List ℕ) : Type 0 where
