@@ -96,7 +96,7 @@ pub beside_next : {X : Type 0} (is_same : X → X → Bool) (Puts : X × X → (
     → IsStep one one' first → IsStep other other' second → PutsFound Puts first second i i'
     → StandBeside is_same Puts m n one' other' (counted_found is_same first second counts) (firsts ++ found_next first)
     (seconds ++ found_next second) h i'
-beside_next is_same Puts m n one one' other other' counts firsts seconds first second h i i' stood step step' put =
+beside_next {X = X} is_same Puts m n one one' other other' counts firsts seconds first second h i i' stood step step' put =
     let e : drop m (firsts ++ found_next first) ≡ drop m firsts ++ found_next first =
     dropped_found m firsts first (λ f. stood.first_front (was_going one one' first step f)) in
     let e' : drop n (seconds ++ found_next second) ≡ drop n seconds ++ found_next second =
@@ -167,13 +167,13 @@ has_room is_same Puts m n one other counts firsts seconds h i stood few few' =
 -- where nothing stands behind what is in front of one list, there are no places, and no lines
 pub none_of_first : {X : Type 0} (Puts : X × X → (old new : Option (List ℕ)) → Type 0) (m : ℕ) (firsts ys : List X)
     (h : Option (List ℕ)) → length firsts ≤ m → PutsPlaces Puts (zip (drop m firsts) ys) h h
-none_of_first Puts m firsts ys h short =
+none_of_first {X = X} Puts m firsts ys h short =
     subst (λ (xs : List X). PutsPlaces Puts (zip xs ys) h h) (sym (drop_all m firsts short)) refl
 
 -- nor where nothing stands behind what is in front of the other
 pub none_of_second : {X : Type 0} (Puts : X × X → (old new : Option (List ℕ)) → Type 0) (n : ℕ) (xs seconds : List X)
     (h : Option (List ℕ)) → length seconds ≤ n → PutsPlaces Puts (zip xs (drop n seconds)) h h
-none_of_second Puts n xs seconds h short =
+none_of_second {X = X} Puts n xs seconds h short =
     subst (λ (ys : List X). PutsPlaces Puts (zip xs ys) h h) (sym (drop_all n seconds short)) (no_places xs)
   where
     no_places : (l : List X) → PutsPlaces Puts (zip l []) h h
@@ -190,7 +190,7 @@ none_as_far m xs others short =
 pub counted_none : {X : Type 0} (is_same : X → X → Bool) (xs ys : List X) (counts : PlaceCounts) → xs ≡ [] → ys ≡ []
     → counts.same ≡ 0 → counts.different ≡ 0 → counts.only_in_first ≡ 0 → counts.only_in_second ≡ 0
     → AreCountsOf is_same xs ys counts
-counted_none is_same xs ys counts e e' same different first second =
+counted_none {X = X} is_same xs ys counts e e' same different first second =
     subst (λ (l : List X). AreCountsOf is_same l ys counts) (sym e)
     (subst (λ (l : List X). AreCountsOf is_same [] l counts) (sym e')
     (record { same = same; different = different; only_in_first = first; only_in_second = second }))
@@ -238,7 +238,7 @@ pub put_alone : {X : Type 0} (is_same : X → X → Bool) (Puts : X × X → (ol
     (one one' other : Bool) (counts : PlaceCounts) (firsts seconds : List X) (found : Option X) (h i : Option (List ℕ))
     → StandBeside is_same Puts m n one other counts firsts seconds h i → IsStep one one' found
     → PutsPlaces Puts (zip (drop m (firsts ++ found_next found)) (drop n seconds)) h i
-put_alone is_same Puts m n one one' other counts firsts seconds found h i stood step =
+put_alone {X = X} is_same Puts m n one one' other counts firsts seconds found h i stood step =
     subst (λ (l : List (X × X)). PutsPlaces Puts l h i)
     (sym (alone_no_place m firsts (drop n seconds) found (λ f. stood.first_front (was_going one one' found step f))
     (λ f. stood.first_beside (was_going one one' found step f))))

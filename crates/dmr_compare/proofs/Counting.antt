@@ -53,7 +53,7 @@ different_of is_same pairs = count_by (λ place. not (is_same place.0 place.1)) 
 pub counted_both : {X : Type 0} (is_same : X → X → Bool) (xs ys : List X) (x y : X) (counts : PlaceCounts) → length xs ≡ length ys
     → AreCountsOf is_same xs ys counts
     → AreCountsOf is_same (xs ++ x ∷ []) (ys ++ y ∷ []) (counted_place (is_same x y) counts)
-counted_both is_same xs ys x y counts e h =
+counted_both {X = X} is_same xs ys x y counts e h =
     let pairs = zip_both xs ys x y e in
     let same = count_push (λ (place : X × X). is_same place.0 place.1) (zip xs ys) (x, y) in
     let different = count_push (λ (place : X × X). not (is_same place.0 place.1)) (zip xs ys) (x, y) in
@@ -127,14 +127,14 @@ pub counted_next : {X : Type 0} (is_same : X → X → Bool) (xs ys : List X) (f
     → (IsFound first → length ys ≤ length xs) → (IsFound second → length xs ≤ length ys)
     → AreCountsOf is_same xs ys counts
     → AreCountsOf is_same (xs ++ found_next first) (ys ++ found_next second) (counted_found is_same first second counts)
-counted_next is_same xs ys (Some x) (Some y) counts a b h =
+counted_next {X = X} is_same xs ys (Some x) (Some y) counts a b h =
     counted_both is_same xs ys x y counts (omega (arith, a tt, b tt)) h
-counted_next is_same xs ys (Some x) None counts a b h =
+counted_next {X = X} is_same xs ys (Some x) None counts a b h =
     subst (λ (l : List X). AreCountsOf is_same (xs ++ x ∷ []) l (counted_first counts)) (sym (append-nil ys))
     (counted_one is_same xs ys x counts (a tt) h)
-counted_next is_same xs ys None (Some y) counts a b h =
+counted_next {X = X} is_same xs ys None (Some y) counts a b h =
     subst (λ (l : List X). AreCountsOf is_same l (ys ++ y ∷ []) (counted_second counts)) (sym (append-nil xs))
     (counted_other is_same xs ys y counts (b tt) h)
-counted_next is_same xs ys None None counts a b h =
+counted_next {X = X} is_same xs ys None None counts a b h =
     subst (λ (l : List X). AreCountsOf is_same l (ys ++ []) counts) (sym (append-nil xs))
     (subst (λ (l : List X). AreCountsOf is_same xs l counts) (sym (append-nil ys)) h)

@@ -9,7 +9,7 @@ use Rattle.dmr_compare.specs.Counting.{different_places}
 -- how many places differ, with one pair in front
 pub pairs_cons : {X : Type 0} (is_same : X → X → Bool) (x y : X) (xs ys : List X)
     → different_places is_same (x ∷ xs) (y ∷ ys) ≡ cond (not (is_same x y)) 1 0 + different_places is_same xs ys
-pairs_cons is_same x y xs ys =
+pairs_cons {X = X} is_same x y xs ys =
     sum_by-cons (λ (place : X × X). cond (not (is_same place.0 place.1)) 1 0) (x, y) (zip xs ys)
 
 -- where nothing is counted, these are the same, and nothing is counted of the rest

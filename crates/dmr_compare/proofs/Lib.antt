@@ -4,6 +4,7 @@ pub mod Distances
 pub mod Equal
 pub mod ListReading
 pub mod ListRecords
+pub mod Octets
 pub mod Printed
 pub mod Reading
 pub mod RecordsBeside

@@ -1,16 +1,17 @@
 -- What is read of a list goes on, record by record.
 use Rattle.std.proofs.Common.{◌≡◌, ℕ, ◌+◌, ◌*◌, ◌-◌, ◌<◌, ◌≤◌, Bool, true, false, List, [], ◌∷◌, ◌++◌, length, Option, None, Some, map}
-use Rattle.std.proofs.Common.{refl, sym, ap, ◌∙◌, subst, arith, append-nil, take}
+use Rattle.std.proofs.Common.{IfNone, IfSome, refl, sym, ap, ◌∙◌, subst, arith, append-nil, take}
 use Rattle.std.proofs.ByRecursion.{All-push}
 use Rattle.std.proofs.KnownBytes.{Consumes-nil, Consumes-trans}
 use Rattle.std.proofs.lemmas.List.{length-append, length-map, length_push, map-append}
 use Rattle.std.proofs.lemmas.List.Concat.{flat_map-append}
 use Rattle.std.specs.Io.KnownBytes.{Consumes}
 use Rattle.std.specs.List.{flat_map}
+use Rattle.dmr_compare.proofs.Beside.{IsStep}
 use Rattle.dmr_compare.proofs.ListRecords.{octets_of_receipts, octets_of_sendings}
-use Rattle.dmr_compare.specs.ListReading.{AreRecordsRead, AreRecordsReadTo, AreRecordsReadUpToFault, HasReadRecords, ShowsFaultBehind}
-use Rattle.dmr_compare.specs.ListReading.{StandsBehind, kind_behind, last_of, length_of, no_record, record_with}
-use Rattle.dmr_compare.specs.ListRecords.{ListRecord, OfOutgoing, OfReceived, limit_of, record_octets, records_octets}
+use Rattle.dmr_compare.specs.ListReading.{AreRecordsRead, AreRecordsReadTo, AreRecordsReadUpToFault, HasReadRecords, ShowsListFault}
+use Rattle.dmr_compare.specs.ListReading.{StandsBehind, kind_behind, last_of, length_of, no_record, record_found, record_with}
+use Rattle.dmr_compare.specs.ListRecords.{ListRecord, OfOutgoing, OfReceived, list_limit, record_octets, list_octets}
 use Rattle.dmr_compare.specs.declared.list_reader.LastRecord.{LastRecord}
 use Rattle.dmr_compare.specs.declared.list_reader.LastRecord.TheVariants as last
 use Rattle.dmr_compare.specs.declared.list_reader.ListReader.{ListReader}
@@ -150,7 +151,7 @@ kind_more (last.Received received) before (head.Outgoing r) octets behind = absu
 
 -- and had room for it
 pub below_limit : (last : LastRecord) (before : ℕ) (head : RecordHead) (octets : List ℕ) → StandsBehind last before head octets
-    → before < limit_of (kind_behind last)
+    → before < list_limit (kind_behind last)
 below_limit (last.Outgoing frame) before (head.Outgoing r) octets behind = behind.0
 below_limit (last.Received received) before (head.Received r) octets behind = behind.0
 below_limit (last.Outgoing frame) before (head.Received r) octets behind = absurd behind
@@ -165,9 +166,9 @@ as_long (last.Outgoing frame) before (head.Received r) octets behind = absurd be
 as_long (last.Received received) before (head.Outgoing r) octets behind = absurd behind
 
 -- what a reader has read up to its last record is what was read of its list
-pub read_of : (last : LastRecord) (list : ListKind) (records : List ListRecord) (a b : Option (List ℕ)) → kind_behind last ≡ list
-    → AreRecordsReadTo last records a b → AreRecordsRead list records a b
-read_of last list records a b e read = subst (λ (k : ListKind). AreRecordsRead k records a b) e (by_last last read)
+pub read_of : (before : LastRecord) (list : ListKind) (records : List ListRecord) (a b : Option (List ℕ)) → kind_behind before ≡ list
+    → AreRecordsReadTo before records a b → AreRecordsRead list records a b
+read_of before list records a b e read = subst (λ (k : ListKind). AreRecordsRead k records a b) e (by_last before read)
   where
     by_last : (l : LastRecord) → AreRecordsReadTo l records a b → AreRecordsRead (kind_behind l) records a b
     by_last (last.Outgoing frame) (ss, are, framed, read) = (ss, are, read)
@@ -176,7 +177,7 @@ read_of last list records a b e read = subst (λ (k : ListKind). AreRecordsRead 
 -- the record behind them shows a fault
 pub fault_behind : (last : LastRecord) (before : ℕ) (fault : FaultLine) (taken : List ℕ) (records : List ListRecord)
     (a b c : Option (List ℕ)) → AreRecordsReadTo last records a b → before ≡ length records → Consumes b c taken
-    → ShowsFaultBehind last before fault.fault taken → fault.octet ≡ octet_behind record_octets records → fault.place ≡ None
+    → ShowsListFault last before fault.fault taken → fault.octet ≡ octet_behind record_octets records → fault.place ≡ None
     → AreRecordsReadUpToFault (kind_behind last) records fault a c
 fault_behind (last.Outgoing frame) before fault taken records a b c (ss, are, framed, read) count took shown octet place =
     let many : length records ≡ length ss = ap length are ∙ length-map ss OfOutgoing in (
@@ -218,8 +219,8 @@ pub reader_on : (last next : LastRecord) (count octet octet' : ℕ) (is_over : B
 reader_on last next count octet octet' is_over head octets records a b c h going behind took e long short =
     let more = length_push records (record_with head octets) in
     let below = below_limit last count head octets behind in
-    let kinds : limit_of (kind_behind next) ≡ limit_of (kind_behind last) =
-    ap (λ (l : LastRecord). limit_of (kind_behind l)) e ∙ ap limit_of (kind_more last count head octets behind) in
+    let kinds : list_limit (kind_behind next) ≡ list_limit (kind_behind last) =
+    ap (λ (l : LastRecord). list_limit (kind_behind l)) e ∙ ap list_limit (kind_more last count head octets behind) in
     let old_count : count ≡ length records = h.count in
     let old_room : octet ≤ 8 + 65547 * count = h.room in
     record {
@@ -231,3 +232,14 @@ reader_on last next count octet octet' is_over head octets records a b c h going
       room = omega (arith, short, old_room);
       over = λ over. absurd (grind (arith, going, over));
     }
+
+-- what a reader of a list found is a step of it
+pub step_of : (was_over is_over : Bool) (found : Option RecordHead) (room : List ℕ)
+    → IfSome found (λ head. (was_over ≡ false) × (is_over ≡ false)) → IfNone found (is_over ≡ true)
+    → IsStep was_over is_over (record_found found room)
+step_of was_over is_over None room some none = record { some = tt; none = none }
+step_of was_over is_over (Some head) room some none = record { some = some; none = tt }
+
+-- nothing was found where no head was
+pub found_of : (found : Option RecordHead) (room : List ℕ) → found ≡ None → record_found found room ≡ None
+found_of found room e = ap (λ (f : Option RecordHead). record_found f room) e

@@ -7,7 +7,7 @@ use Rattle.std.proofs.lemmas.List.Concat.{flat_map-cons}
 use Rattle.dmr_compare.proofs.Equal.{both_true, equal_numbers, lists_equal, none_different, same_number}
 use Rattle.dmr_compare.specs.Counting.{different_places}
 use Rattle.dmr_compare.specs.ListRecords.{ListRecord, OfOutgoing, OfReceived, carried, differing_octets, has_same_fields}
-use Rattle.dmr_compare.specs.ListRecords.{is_same_record, record_octets, records_octets}
+use Rattle.dmr_compare.specs.ListRecords.{is_same_record, record_octets, list_octets}
 use Rattle.dmr_record.specs.Outgoing.{Sending, mode_of, sending_octets, sendings_octets}
 use Rattle.dmr_record.specs.Received.{Receipt, kind_octet, receipt_octets, receipts_octets}
 use Rattle.dmr_record.specs.declared.received.ReceivedKind.{ReceivedKind}
@@ -139,14 +139,14 @@ same_as_itself (OfReceived x) =
 -- 4. Lists of one kind.
 
 -- outgoing records have the octets that their list has
-pub octets_of_sendings : (sendings : List Sending) → records_octets (map OfOutgoing sendings) ≡ sendings_octets sendings
+pub octets_of_sendings : (sendings : List Sending) → list_octets (map OfOutgoing sendings) ≡ sendings_octets sendings
 octets_of_sendings [] = refl
 octets_of_sendings (s ∷ ss) =
     flat_map-cons record_octets (OfOutgoing s) (map OfOutgoing ss) ∙ ap (λ l. sending_octets s ++ l) (octets_of_sendings ss)
     ∙ sym (flat_map-cons sending_octets s ss)
 
 -- and so have received ones
-pub octets_of_receipts : (receipts : List Receipt) → records_octets (map OfReceived receipts) ≡ receipts_octets receipts
+pub octets_of_receipts : (receipts : List Receipt) → list_octets (map OfReceived receipts) ≡ receipts_octets receipts
 octets_of_receipts [] = refl
 octets_of_receipts (r ∷ rs) =
     flat_map-cons record_octets (OfReceived r) (map OfReceived rs) ∙ ap (λ l. receipt_octets r ++ l) (octets_of_receipts rs)

@@ -1,6 +1,6 @@
 -- Lines of places, one behind the other.
 use Rattle.std.proofs.Common.{◌≡◌, ℕ, ◌≤◌, List, [], ◌∷◌, ◌++◌, length, Option, Some, None, refl, sym, ap, ◌∙◌, subst, arith}
-use Rattle.std.proofs.Common.{append-nil, take, zero, suc, ◌||◌, Bool, true, false, Result, Ok, Err, OnOk}
+use Rattle.std.proofs.Common.{append-nil, take, zero, suc, ◌||◌, Bool, true, false, Result, Ok, Err, IfOk, OnOk}
 use Rattle.std.specs.List.{zip}
 use Rattle.dmr_compare.proofs.Counting.{IsFound, zip_both, zip_first, zip_second}
 use Rattle.dmr_compare.specs.Printed.{PutsDifference, PutsPlaces, PutsUnless}
@@ -31,6 +31,11 @@ pub on_ok : {X E : Type 0} {P Q : Type 0} (r : Result X E) → (P → Q) → OnO
 on_ok (Ok x) f p = f p
 on_ok (Err e) f p = tt
 
+-- the same of what holds of its value
+pub if_ok : {X E : Type 0} {P Q : X → Type 0} (r : Result X E) → IfOk r P → ((x : X) → P x → Q x) → IfOk r Q
+if_ok (Ok x) p f = f x p
+if_ok (Err e) p f = tt
+
 -- the lines of some places were put, and then those of one more
 pub put_one_more : {X : Type 0} (Puts : X × X → (old new : Option (List ℕ)) → Type 0) (places : List (X × X)) (place : X × X)
     (a b c : Option (List ℕ)) → PutsPlaces Puts places a b → Puts place b c
@@ -46,19 +51,19 @@ pub put_next : {X : Type 0} (Puts : X × X → (old new : Option (List ℕ)) →
     → (IsFound first → length ys ≤ length xs) → (IsFound second → length xs ≤ length ys)
     → PutsPlaces Puts (zip xs ys) a b → PutsFound Puts first second b c
     → PutsPlaces Puts (zip (xs ++ found_next first) (ys ++ found_next second)) a c
-put_next Puts xs ys (Some x) (Some y) a b c h h' put one =
+put_next {X = X} Puts xs ys (Some x) (Some y) a b c h h' put one =
     subst (λ (l : List (X × X)). PutsPlaces Puts l a c)
     (sym (zip_both xs ys x y (omega (arith, h tt, h' tt))))
     (put_one_more Puts (zip xs ys) (x, y) a b c put one)
-put_next Puts xs ys (Some x) None a b c h h' put one =
+put_next {X = X} Puts xs ys (Some x) None a b c h h' put one =
     subst (λ (l : List (X × X)). PutsPlaces Puts l a c)
     (sym (ap (λ (l : List X). zip (xs ++ x ∷ []) l) (append-nil ys) ∙ zip_first xs ys x (h tt)))
     (subst (λ (o : Option (List ℕ)). PutsPlaces Puts (zip xs ys) a o) (sym one) put)
-put_next Puts xs ys None (Some y) a b c h h' put one =
+put_next {X = X} Puts xs ys None (Some y) a b c h h' put one =
     subst (λ (l : List (X × X)). PutsPlaces Puts l a c)
     (sym (ap (λ (l : List X). zip l (ys ++ y ∷ [])) (append-nil xs) ∙ zip_second xs ys y (h' tt)))
     (subst (λ (o : Option (List ℕ)). PutsPlaces Puts (zip xs ys) a o) (sym one) put)
-put_next Puts xs ys None None a b c h h' put one =
+put_next {X = X} Puts xs ys None None a b c h h' put one =
     subst (λ (l : List (X × X)). PutsPlaces Puts l a c)
     (sym (ap (λ (l : List X). zip l (ys ++ [])) (append-nil xs) ∙ ap (λ (l : List X). zip xs l) (append-nil ys)))
     (subst (λ (o : Option (List ℕ)). PutsPlaces Puts (zip xs ys) a o) (sym one) put)

@@ -6,7 +6,7 @@ use Rattle.dmr_compare.proofs.Beside.{put_alone}
 use Rattle.dmr_compare.proofs.ListReading.{read_of}
 use Rattle.dmr_compare.specs.ListComparing.{AreListsCompared, IsFirstListAtFault, IsSecondListAtFault}
 use Rattle.dmr_compare.specs.ListReading.{AreRecordsRead, AreRecordsReadUpToFault, HasReadRecords, kind_behind}
-use Rattle.dmr_compare.specs.ListRecords.{ListRecord, PutsRecords, is_same_record, limit_of}
+use Rattle.dmr_compare.specs.ListRecords.{ListRecord, PutsRecords, is_same_record, list_limit}
 use Rattle.dmr_compare.specs.Taking.{HasRoom, PutsFound, counted_found, found_next}
 use Rattle.dmr_compare.specs.declared.counts.PlaceCounts.{PlaceCounts}
 use Rattle.dmr_compare.specs.declared.list_reader.ListReader.{ListReader}
@@ -126,7 +126,7 @@ lists_compared settings one one' other other' list counts firsts seconds None (S
     step' none none' = absurd (grind (arith, none'))
 
 -- a list has fewer records than can be counted
-few_records : (list : ListKind) → limit_of list < 4294967295
+few_records : (list : ListKind) → list_limit list < 4294967295
 few_records kind.Outgoing = omega arith
 few_records kind.Received = omega arith
 

@@ -10,7 +10,7 @@ use Rattle.dmr_compare.proofs.ListRecords.{one_of_receipts, one_of_sendings, rec
 use Rattle.dmr_compare.proofs.Same.{IsSeen, all_seen, lists_back, lists_same, seen_behind}
 use Rattle.dmr_compare.specs.Comparing.{AreRestsCompared, compared_of_first, compared_of_second}
 use Rattle.dmr_compare.specs.Counting.{AreCountsOf, different_places}
-use Rattle.dmr_compare.specs.Files.{AreComparedWhole, AreOctetsToldApart, AreSame, AreToldApart, Contents, Records, Slots}
+use Rattle.dmr_compare.specs.Files.{AreComparedWhole, AreOctetsToldApart, AreSame, AreToldApart, BothContents, Records, Slots}
 use Rattle.dmr_compare.specs.Kept.{is_same}
 use Rattle.dmr_compare.specs.ListReading.{AreRecordsRead}
 use Rattle.dmr_compare.specs.ListRecords.{ListRecord, OfOutgoing, OfReceived, is_same_record}
@@ -184,7 +184,7 @@ of_counts : {P : Type 0} (counts : PlaceCounts) (status : ℕ) → status ≡ co
 of_counts counts status e exact = (λ zero. exact.0 (sym e ∙ zero), λ p. e ∙ exact.1 p)
 
 -- so two files that were compared whole are told apart
-pub told_apart : (settings : CompareSettings) (format : FileFormat) (contents : Contents) (counts : PlaceCounts) (status : ℕ)
+pub told_apart : (settings : CompareSettings) (format : FileFormat) (contents : BothContents) (counts : PlaceCounts) (status : ℕ)
     (a b c d h i : Option (List ℕ)) → AreComparedWhole settings format contents counts a b c d h i
     → status ≡ counted_status counts → AreToldApart settings status a b c d h i
 told_apart settings Uplink (Slots firsts seconds) counts status a b c d h i whole e = record {

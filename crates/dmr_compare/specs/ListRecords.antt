@@ -25,13 +25,13 @@ record_octets (OfOutgoing sending) = sending_octets sending
 record_octets (OfReceived receipt) = receipt_octets receipt
 
 -- the octets that records have in their file, one behind the other
-abbrev pub records_octets : List ListRecord → List ℕ
-records_octets records = flat_map record_octets records
+abbrev pub list_octets : List ListRecord → List ℕ
+list_octets records = flat_map record_octets records
 
 -- the most records that a list has
-abbrev pub limit_of : ListKind → ℕ
-limit_of kind.Outgoing = record_limit
-limit_of kind.Received = received_limit
+abbrev pub list_limit : ListKind → ℕ
+list_limit kind.Outgoing = record_limit
+list_limit kind.Received = received_limit
 
 -- 2. What differs.
 

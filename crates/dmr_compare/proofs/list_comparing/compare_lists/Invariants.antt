@@ -5,8 +5,8 @@ use Rattle.dmr_compare.specs.ListReading.{kind_behind, records_to_come}
 use Rattle.dmr_compare.specs.ListRecords.{ListRecord}
 use Rattle.dmr_compare.proofs.list_comparing.compare_lists.Given as goal
 
-abbrev pub invariant-loop-taken : goal.invariant-loop-taken
-invariant-loop-taken g l = record {
+abbrev pub invariant-loop-found : goal.invariant-loop-found
+invariant-loop-found g l = record {
   first : g.S.Source.has_failed l.first ≡ false;
   second : g.T.Source.has_failed l.second ≡ false;
   sink : g.K.Sink.has_failed l.sink ≡ false;
@@ -19,5 +19,5 @@ invariant-loop-taken g l = record {
       (g.K.Sink.held l.fn.sink) (g.K.Sink.held l.sink);
 }
 
-abbrev pub decreases-loop-taken : goal.decreases-loop-taken
-decreases-loop-taken g l = records_to_come l.one + records_to_come l.other
+abbrev pub decreases-loop-found : goal.decreases-loop-found
+decreases-loop-found g l = records_to_come l.one + records_to_come l.other
