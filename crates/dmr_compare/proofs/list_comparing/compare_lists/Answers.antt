@@ -74,8 +74,8 @@ returns-then-is_none-2-clause-whole g c =
     (found_of c.in-Ok.found c.next.new.room none) (found_of c.in-Ok-next.found c.next-in-loop-found.new.room none') in
     (firsts, seconds, compared)
 
-pub take_records-requires-clause-room : goal.take_records-requires-clause-room
-take_records-requires-clause-room g c =
+pub take_records-taken-requires-clause-room : goal.take_records-taken-requires-clause-room
+take_records-taken-requires-clause-room g c =
     let (firsts, seconds, stood) = c.loop-found.invariant.beside in
     records_room c.args.settings.now c.loop-found.one c.loop-found.other c.loop-found.counts firsts seconds _ _ _ _ _ _ stood
 
