@@ -6,7 +6,6 @@ use Rattle.std.proofs.lemmas.List.{drop_all}
 use Rattle.std.specs.List.{zip}
 use Rattle.dmr_compare.proofs.Counting.{IsFound, counted_next, dropped_found, zip_first}
 use Rattle.dmr_compare.proofs.Printed.{put_next}
-use Rattle.dmr_compare.specs.Comparing.{IsReadAsFar}
 use Rattle.dmr_compare.specs.Counting.{AreCountsOf}
 use Rattle.dmr_compare.specs.Printed.{PutsPlaces}
 use Rattle.dmr_compare.specs.Taking.{HasRoom, PutsFound, counted_found, found_next}

@@ -1,6 +1,6 @@
 -- What is read of a list goes on, record by record.
-use Rattle.std.proofs.Common.{◌≡◌, ℕ, ◌+◌, ◌*◌, ◌-◌, ◌<◌, ◌≤◌, Bool, true, false, List, [], ◌∷◌, ◌++◌, length, Option, None, Some, map}
-use Rattle.std.proofs.Common.{IfNone, IfSome, refl, sym, ap, ◌∙◌, subst, arith, append-nil, take}
+use Rattle.std.proofs.Common.{◌≡◌, ℕ, ◌+◌, ◌*◌, ◌<◌, ◌≤◌, Bool, true, false, List, [], ◌∷◌, ◌++◌, length, Option, None, Some}
+use Rattle.std.proofs.Common.{IfNone, IfSome, refl, sym, ap, ◌∙◌, subst, arith, append-nil}
 use Rattle.std.proofs.ByRecursion.{All-push}
 use Rattle.std.proofs.KnownBytes.{Consumes-nil, Consumes-trans}
 use Rattle.std.proofs.lemmas.List.{length-append, length-map, length_push, map-append}
@@ -11,10 +11,9 @@ use Rattle.dmr_compare.proofs.Beside.{IsStep}
 use Rattle.dmr_compare.proofs.ListRecords.{octets_of_receipts, octets_of_sendings}
 use Rattle.dmr_compare.specs.ListReading.{AreRecordsRead, AreRecordsReadTo, AreRecordsReadUpToFault, HasReadRecords, ShowsListFault}
 use Rattle.dmr_compare.specs.ListReading.{StandsBehind, kind_behind, last_of, length_of, no_record, record_found, record_with}
-use Rattle.dmr_compare.specs.ListRecords.{ListRecord, OfOutgoing, OfReceived, list_limit, record_octets, list_octets}
+use Rattle.dmr_compare.specs.ListRecords.{ListRecord, OfOutgoing, OfReceived, list_limit, record_octets}
 use Rattle.dmr_compare.specs.declared.list_reader.LastRecord.{LastRecord}
 use Rattle.dmr_compare.specs.declared.list_reader.LastRecord.TheVariants as last
-use Rattle.dmr_compare.specs.declared.list_reader.ListReader.{ListReader}
 use Rattle.dmr_compare.specs.declared.list_record.ListKind.{ListKind}
 use Rattle.dmr_compare.specs.declared.list_record.ListKind.TheVariants as kind
 use Rattle.dmr_compare.specs.declared.list_record.RecordHead.{RecordHead}
@@ -25,9 +24,10 @@ use Rattle.dmr_listing.specs.OutgoingListings.{AreSendingsRead}
 use Rattle.dmr_listing.specs.ReceivedListings.{AreReceiptsRead}
 use Rattle.dmr_record.specs.Head.{record_limit}
 use Rattle.dmr_record.specs.Outgoing.{AreInFrameOrder, IsSending, Sending, ShowsOutgoingFault, last_frame, sending_octets}
-use Rattle.dmr_record.specs.Outgoing.{sendings_octets, whole_sending}
-use Rattle.dmr_record.specs.Received.{FollowEachOther, Follows, IsReadable, Receipt, ReceivedFields, ShowsReceivedFault, fields_read}
-use Rattle.dmr_record.specs.Received.{kind_octet, last_fields, last_read, receipt_octets, receipt_of, receipts_octets, received_fields}
+use Rattle.dmr_record.specs.Outgoing.{whole_sending}
+use Rattle.dmr_record.specs.Received.{FollowEachOther, Follows, IsReadable, Receipt, ReceivedFields, ShowsReceivedFault}
+use Rattle.dmr_record.specs.Received.{fields_read}
+use Rattle.dmr_record.specs.Received.{kind_octet, last_fields, last_read, receipt_octets, receipt_of, received_fields}
 use Rattle.dmr_record.specs.Received.{received_limit}
 use Rattle.dmr_record.specs.declared.received.Received.{Received}
 use Rattle.dmr_recording.specs.Places.{octet_behind}
@@ -166,8 +166,8 @@ as_long (last.Outgoing frame) before (head.Received r) octets behind = absurd be
 as_long (last.Received received) before (head.Outgoing r) octets behind = absurd behind
 
 -- what a reader has read up to its last record is what was read of its list
-pub read_of : (before : LastRecord) (list : ListKind) (records : List ListRecord) (a b : Option (List ℕ)) → kind_behind before ≡ list
-    → AreRecordsReadTo before records a b → AreRecordsRead list records a b
+pub read_of : (before : LastRecord) (list : ListKind) (records : List ListRecord) (a b : Option (List ℕ))
+    → kind_behind before ≡ list → AreRecordsReadTo before records a b → AreRecordsRead list records a b
 read_of before list records a b e read = subst (λ (k : ListKind). AreRecordsRead k records a b) e (by_last before read)
   where
     by_last : (l : LastRecord) → AreRecordsReadTo l records a b → AreRecordsRead (kind_behind l) records a b
@@ -200,7 +200,8 @@ fault_behind (last.Received received) before fault taken records a b c (rs, are,
         part = taken;
         before = received_part rs taken a b c read took;
         shown = subst (λ n. ShowsReceivedFault received_limit n (last_fields None rs) fault.fault taken) (count ∙ many)
-            (subst (λ (l : Option ReceivedFields). ShowsReceivedFault received_limit before l fault.fault taken) (sym lasting) shown);
+            (subst (λ (l : Option ReceivedFields). ShowsReceivedFault received_limit before l fault.fault taken) (sym lasting)
+            shown);
         octet = octet ∙ ap (λ l. octet_behind record_octets l) are ∙ ap (λ l. 8 + length l) (octets_of_receipts rs);
         place = place;
       },

@@ -1,12 +1,11 @@
 -- Records are the same exactly where they are equal.
-use Rattle.std.proofs.Common.{◌≡◌, ℕ, ◌+◌, ◌-◌, ◌==◌, ◌&&◌, Bool, true, false, not, List, [], ◌∷◌, length, map, refl, sym, ap, ◌∙◌}
+use Rattle.std.proofs.Common.{◌≡◌, ℕ, ◌+◌, ◌-◌, ◌==◌, ◌&&◌, Bool, true, false, List, [], ◌∷◌, length, map, refl, sym, ap, ◌∙◌}
 use Rattle.std.proofs.Common.{arith, ◌++◌}
-use Rattle.std.specs.List.{count_by, zip}
 use Rattle.std.proofs.lemmas.Bool.{and_parts, false≢true}
 use Rattle.std.proofs.lemmas.List.Concat.{flat_map-cons}
 use Rattle.dmr_compare.proofs.Equal.{both_true, equal_numbers, lists_equal, none_different, same_number}
 use Rattle.dmr_compare.specs.Counting.{different_places}
-use Rattle.dmr_compare.specs.ListRecords.{ListRecord, OfOutgoing, OfReceived, carried, differing_octets, has_same_fields}
+use Rattle.dmr_compare.specs.ListRecords.{ListRecord, OfOutgoing, OfReceived, differing_octets, has_same_fields}
 use Rattle.dmr_compare.specs.ListRecords.{is_same_record, record_octets, list_octets}
 use Rattle.dmr_record.specs.Outgoing.{Sending, mode_of, sending_octets, sendings_octets}
 use Rattle.dmr_record.specs.Received.{Receipt, kind_octet, receipt_octets, receipts_octets}
@@ -105,8 +104,8 @@ records_equal (OfOutgoing x) (OfOutgoing y) e =
     whole.0 in
     let places = and_parts (x.frame == y.frame) (x.slot == y.slot) modes.0 in
     let mode = one_mode x.confirmed x.full y.confirmed y.full modes.1 in
-    ap OfOutgoing (sendings_by_parts x y (equal_numbers x.frame y.frame places.0) (equal_numbers x.slot y.slot places.1) mode.0 mode.1
-    (octets_equal x.datagram y.datagram (equal_numbers _ _ whole.1)))
+    ap OfOutgoing (sendings_by_parts x y (equal_numbers x.frame y.frame places.0) (equal_numbers x.slot y.slot places.1) mode.0
+    mode.1 (octets_equal x.datagram y.datagram (equal_numbers _ _ whole.1)))
 records_equal (OfOutgoing x) (OfReceived y) e = absurd (false≢true e)
 records_equal (OfReceived x) (OfOutgoing y) e = absurd (false≢true e)
 records_equal (OfReceived x) (OfReceived y) e =

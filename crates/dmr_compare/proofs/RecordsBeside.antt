@@ -1,5 +1,5 @@
 -- Two readers of lists stand beside each other, record by record.
-use Rattle.std.proofs.Common.{◌≡◌, ℕ, ◌≤◌, ◌<◌, true, false, List, [], ◌++◌, length, Option, Some, None, refl, ap, subst, arith}
+use Rattle.std.proofs.Common.{◌≡◌, ℕ, ◌<◌, List, [], ◌++◌, Option, Some, None, refl, subst, arith}
 use Rattle.std.proofs.Common.{append-nil}
 use Rattle.dmr_compare.proofs.Beside.{IsStep, StandBeside, beside_begun, beside_by, beside_next, by_end, found_as_far, has_room}
 use Rattle.dmr_compare.proofs.Beside.{put_alone}
@@ -43,8 +43,8 @@ pub records_begun : (settings : CompareSettings) (one other : ListReader) (count
 records_begun settings one other counts a c h read read' same different first second = record {
   first_read = read;
   second_read = read';
-  beside = beside_begun is_same_record (PutsRecords settings) 0 0 one.is_over other.is_over counts [] [] h (omega arith) (omega arith)
-      (λ going. refl) (λ going. refl) same different first second;
+  beside = beside_begun is_same_record (PutsRecords settings) 0 0 one.is_over other.is_over counts [] [] h (omega arith)
+      (omega arith) (λ going. refl) (λ going. refl) same different first second;
 }
 
 -- and do so behind a step of both, by whatever counts these are
@@ -60,8 +60,8 @@ records_next settings one one' other other' counts counts' firsts seconds first 
       first_read = read;
       second_read = read';
       beside = beside_by is_same_record (PutsRecords settings) 0 0 one'.is_over other'.is_over
-          (counted_found is_same_record first second counts) counts' (firsts ++ found_next first) (seconds ++ found_next second) h i'
-          counted
+          (counted_found is_same_record first second counts) counts' (firsts ++ found_next first) (seconds ++ found_next second) h
+          i' counted
           (beside_next is_same_record (PutsRecords settings) 0 0 one.is_over one'.is_over other.is_over other'.is_over counts firsts
           seconds first second h i i' stood.beside step step' put);
     }
@@ -109,8 +109,8 @@ pub lists_compared : (settings : CompareSettings) (one one' other other' : ListR
     → HasReadRecords other' (seconds ++ found_next second) c d' → IsStep one.is_over one'.is_over first
     → IsStep other.is_over other'.is_over second → first ≡ None → second ≡ None
     → AreListsCompared settings list firsts seconds counts a b' c d' h i
-lists_compared settings one one' other other' list counts firsts seconds None None a b b' c d d' h i stood e e' read read' step step'
-    none none' = record {
+lists_compared settings one one' other other' list counts firsts seconds None None a b b' c d d' h i stood e e' read read' step
+    step' none none' = record {
       first_read = subst (λ (l : List ListRecord). AreRecordsRead list l a b') (append-nil firsts)
           (read_by one' list (firsts ++ []) a b' e read);
       second_read = subst (λ (l : List ListRecord). AreRecordsRead list l c d') (append-nil seconds)
@@ -120,8 +120,8 @@ lists_compared settings one one' other other' list counts firsts seconds None No
       counted = stood.beside.counted;
       put = stood.beside.put;
     }
-lists_compared settings one one' other other' list counts firsts seconds (Some x) second a b b' c d d' h i stood e e' read read' step
-    step' none none' = absurd (grind (arith, none))
+lists_compared settings one one' other other' list counts firsts seconds (Some x) second a b b' c d d' h i stood e e' read read'
+    step step' none none' = absurd (grind (arith, none))
 lists_compared settings one one' other other' list counts firsts seconds None (Some y) a b b' c d d' h i stood e e' read read' step
     step' none none' = absurd (grind (arith, none'))
 

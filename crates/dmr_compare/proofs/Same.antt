@@ -182,7 +182,8 @@ lists_same recording ignored [] [] h h' e z = refl
 lists_same recording ignored [] (y ∷ ys) h h' e z = absurd (omega arith)
 lists_same recording ignored (x ∷ xs) [] h h' e z = absurd (omega arith)
 lists_same recording ignored (x ∷ xs) (y ∷ ys) h h' e z =
-    let none = none_counted (is_same ignored x y) (different_places (is_same ignored) xs ys) (sym (pairs_cons (is_same ignored) x y xs ys) ∙ z) in
+    let none = none_counted (is_same ignored x y) (different_places (is_same ignored) xs ys)
+    (sym (pairs_cons (is_same ignored) x y xs ys) ∙ z) in
     ap (λ (k : Option KeptBurst). k ∷ map (kept ignored) xs) (slots_same recording ignored x y h.0 h'.0 none.0)
     ∙ ap (λ (l : List (Option KeptBurst)). kept ignored y ∷ l) (lists_same recording ignored xs ys h.1 h'.1 (omega arith) none.1)
 

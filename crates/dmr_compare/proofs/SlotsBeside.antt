@@ -1,5 +1,5 @@
 -- Two readers of recordings stand beside each other, slot by slot.
-use Rattle.std.proofs.Common.{◌≡◌, ℕ, ◌≤◌, ◌<◌, true, false, List, [], ◌++◌, length, Option, Some, None, subst, arith, append-nil}
+use Rattle.std.proofs.Common.{◌≡◌, ℕ, ◌≤◌, false, List, [], ◌++◌, length, Option, Some, None, subst, arith, append-nil}
 use Rattle.std.proofs.Common.{inl}
 use Rattle.dmr_listing.proofs.Listings.{most_few}
 use Rattle.dmr_listing.specs.ListingRules.{IsReadUpToFault}
@@ -99,8 +99,8 @@ pub slots_next : (settings : CompareSettings) (one one' other other' : SlotReade
     → IsStep one.is_over one'.is_over first → IsStep other.is_over other'.is_over second
     → PutsFound (PutsPlace settings) first second i i' → counts' ≡ counted_found (is_same settings.ignored) first second counts
     → SlotsBeside settings one' other' counts' (firsts ++ found_next first) (seconds ++ found_next second) a b' c d' h i'
-slots_next settings one one' other other' counts counts' firsts seconds first second a b b' c d d' h i i' stood read read' step step'
-    put counted = record {
+slots_next settings one one' other other' counts counts' firsts seconds first second a b b' c d d' h i i' stood read read' step
+    step' put counted = record {
       first_read = read;
       second_read = read';
       beside = beside_by (is_same settings.ignored) (PutsPlace settings) (slots_in_front_of_first settings.shift)
@@ -108,8 +108,8 @@ slots_next settings one one' other other' counts counts' firsts seconds first se
           (counted_found (is_same settings.ignored) first second counts) counts' (firsts ++ found_next first)
           (seconds ++ found_next second) h i' counted
           (beside_next (is_same settings.ignored) (PutsPlace settings) (slots_in_front_of_first settings.shift)
-          (slots_in_front_of_second settings.shift) one.is_over one'.is_over other.is_over other'.is_over counts firsts seconds first
-          second h i i' stood.beside step step' put);
+          (slots_in_front_of_second settings.shift) one.is_over one'.is_over other.is_over other'.is_over counts firsts seconds
+          first second h i i' stood.beside step step' put);
     }
 
 -- the first is at fault behind slots that were compared

@@ -1,5 +1,6 @@
 -- The status tells two files apart.
-use Rattle.std.proofs.Common.{◌≡◌, ◌↔◌, ℕ, ◌-◌, ◌==◌, ◌&&◌, Bool, true, false, List, [], ◌∷◌, ◌++◌, Option, if◌then◌else◌, length, drop, map}
+use Rattle.std.proofs.Common.{◌≡◌, ◌↔◌, ℕ, ◌-◌, ◌==◌, ◌&&◌, Bool, true, false, List, [], ◌∷◌, ◌++◌, Option, length, drop, map}
+use Rattle.std.proofs.Common.{if◌then◌else◌}
 use Rattle.std.proofs.Common.{refl, sym, ap, ◌∙◌, subst, arith, append-nil}
 use Rattle.std.proofs.KnownBytes.{Consumes-trans}
 use Rattle.std.proofs.lemmas.Bool.{eqb-true}
@@ -8,7 +9,7 @@ use Rattle.std.specs.List.{AllByRecursion}
 use Rattle.dmr_compare.proofs.Equal.{lists_equal, none_different}
 use Rattle.dmr_compare.proofs.ListRecords.{one_of_receipts, one_of_sendings, records_equal, same_as_itself}
 use Rattle.dmr_compare.proofs.Same.{IsSeen, all_seen, lists_back, lists_same, seen_behind}
-use Rattle.dmr_compare.specs.Comparing.{AreRestsCompared, compared_of_first, compared_of_second}
+use Rattle.dmr_compare.specs.Comparing.{AreRestsCompared}
 use Rattle.dmr_compare.specs.Counting.{AreCountsOf, different_places}
 use Rattle.dmr_compare.specs.Files.{AreComparedWhole, AreOctetsToldApart, AreSame, AreToldApart, BothContents, Records, Slots}
 use Rattle.dmr_compare.specs.Kept.{is_same}
@@ -123,8 +124,7 @@ status_of_records firsts seconds counts counted = (forth, back)
 
     back : firsts ≡ seconds → counted_status counts ≡ 0
     back e =
-        (status_none is_same_record firsts seconds counts counted).1
-        (
+        (status_none is_same_record firsts seconds counts counted).1 (
           ap length e,
           ap (λ (l : List ListRecord). different_places is_same_record firsts l) (sym e)
               ∙ none_different is_same_record same_as_itself firsts,

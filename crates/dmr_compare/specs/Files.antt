@@ -43,8 +43,8 @@ AreRefused shift Memory first second = (first ≡ second) × IsList first × (sh
 AreRefused shift trouble first second = ⊥
 
 -- The heads of two files were read, and files of their formats are refused.
-pub record AreFormatsRefused (shift : Option Shift) (trouble : Trouble) (first_old first_new second_old second_new : Option (List ℕ))
-    : Type 0 where
+pub record AreFormatsRefused (shift : Option Shift) (trouble : Trouble)
+    (first_old first_new second_old second_new : Option (List ℕ)) : Type 0 where
   pub first : FileFormat
   pub second : FileFormat
   pub first_head : Consumes first_old first_new (head_octets (magic_of first))

@@ -101,8 +101,8 @@ AreRecordsReadTo (last.Received received) records left_old left_new =
     (receipts : List Receipt) × (records ≡ map OfReceived receipts) × (last_fields None receipts ≡ last_read received)
     × AreReceiptsRead receipts [] left_old left_new
 
--- A reader has read these records, and stands behind them: it knows how many there are, where the next one begins, and whether there
--- is one.
+-- A reader has read these records, and stands behind them: it knows how many there are, where the next one begins, and whether
+-- there is one.
 pub record HasReadRecords (reader : ListReader) (records : List ListRecord) (left_old left_new : Option (List ℕ)) : Type 0 where
   pub read : AreRecordsReadTo reader.last records left_old left_new
   pub count : reader.count ≡ length records

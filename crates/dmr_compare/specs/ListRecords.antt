@@ -1,5 +1,5 @@
 -- The records of a list, what differs of two of them, and what is printed of that.
-use Rattle.std.specs.Prelude.{◌≡◌, ◌==◌, ◌&&◌, ◌||◌, ◌+◌, ◌-◌, ℕ, Bool, false, List, [], ◌++◌, Option, not, length}
+use Rattle.std.specs.Prelude.{◌==◌, ◌&&◌, ◌||◌, ◌+◌, ◌-◌, ℕ, Bool, false, List, [], ◌++◌, Option, not, length}
 use Rattle.std.specs.Prelude.{if◌then◌else◌, codes, decimal}
 use Rattle.std.specs.List.{count_by, flat_map, zip}
 use Rattle.dmr_compare.specs.Printed.{PutsUnless}
@@ -40,8 +40,8 @@ abbrev pub carried : ListRecord → List ℕ
 carried (OfOutgoing sending) = sending.datagram
 carried (OfReceived receipt) = receipt.octets
 
--- Whether all but that is the same of two records: of outgoing ones the frame, the slot, and how they are sent, of received ones the
--- frame, the slot, the kind and the source.
+-- Whether all but that is the same of two records. Of outgoing ones that is the frame, the slot, and how they are sent; of received
+-- ones the frame, the slot, the kind and the source.
 abbrev pub has_same_fields : ListRecord → ListRecord → Bool
 has_same_fields (OfOutgoing x) (OfOutgoing y) =
     (x.frame == y.frame) && (x.slot == y.slot) && (mode_of x.confirmed x.full == mode_of y.confirmed y.full)

@@ -119,8 +119,8 @@ fn compare_to<S: Source, T: Source, K: Sink>(
 
 /// Compares two files of one format, as far as both can be read, and answers the exit status: recordings slot by slot, lists record
 /// by record. The sources stand before the heads. Of each place that differs two lines go to the first sink, and behind them goes
-/// one line with the counts. A fault of a file is told on the second sink, by the name of that file. So is that the files are of two
-/// formats, or lists for which a shift is given, and that there is no memory for the records of lists.
+/// one line with the counts. A fault of a file is told on the second sink, by the name of that file. So is that the files are of
+/// two formats, or lists for which a shift is given, and that there is no memory for the records of lists.
 pub fn compare<S: Source, T: Source, K: Sink, E: Sink>(
     alloc: Global,
     settings: &CompareSettings,

@@ -182,7 +182,10 @@ fn octets_that_no_line_shows(rt: HostRuntime) -> Result<(), Fail> {
     let mut second = first.clone()?;
     first.push(1)?;
     second.push(2)?;
-    let shown = format!(in alloc; "     0.30       5 1  unconfirmed, rate 1/2, 65535 octets: {:02800}", 0)?;
+    let shown = format!(in alloc;
+        "     0.30       5 1  unconfirmed, rate 1/2, 65535 octets: {:02800}",
+        0
+    )?;
     let lines = format!(in alloc; "A  {shown}\nB  {shown}  [differ: 1 octets]\n{ONE_DIFFERS}")?;
     let wanted = Wanted {
         status: 1,

@@ -111,7 +111,7 @@ loop-found-preserved g c =
         seconds ++ found_next c.in-Ok-next.found,
         slots_next c.args.settings.now c.loop-found.one c.next.new.self c.loop-found.other c.next-in-loop-found.new.self
             c.loop-found.counts c.take_found.new.counts firsts seconds c.in-Ok.found c.in-Ok-next.found _ _ _ _ _ _ _ _ _ stood
-            (c.in-Ok.ensures.read firsts _ stood.first_read) (c.in-Ok-next.ensures.read seconds _ stood.second_read) step step' lines
-            c.take_found.ensures.counted,
+            (c.in-Ok.ensures.read firsts _ stood.first_read) (c.in-Ok-next.ensures.read seconds _ stood.second_read) step step'
+            lines c.take_found.ensures.counted,
       );
     }

@@ -1,4 +1,4 @@
-use Rattle.std.proofs.Common.{rules, ◌≡◌, ◌++◌, [], None, ◌∙◌, arith}
+use Rattle.std.proofs.Common.{rules, ◌≡◌, ◌++◌, [], None, ◌∙◌}
 use Rattle.dmr_compare.proofs.Beside.{IsStep}
 use Rattle.dmr_compare.proofs.ListReading.{found_of, step_of}
 use Rattle.dmr_compare.proofs.RecordsBeside.{first_list_at_fault, lists_compared, records_begun, records_next, records_room}
@@ -105,7 +105,7 @@ loop-found-preserved g c =
         seconds ++ found_next second,
         records_next c.args.settings.now c.loop-found.one c.next.new.self c.loop-found.other c.next-in-loop-found.new.self
             c.loop-found.counts c.take_records-taken.new.counts firsts seconds first second _ _ _ _ _ _ _ _ _ stood
-            (c.in-Ok.ensures.read firsts _ stood.first_read) (c.in-Ok-next.ensures.read seconds _ stood.second_read) step step' lines
-            c.take_records-taken.ensures.counted,
+            (c.in-Ok.ensures.read firsts _ stood.first_read) (c.in-Ok-next.ensures.read seconds _ stood.second_read) step step'
+            lines c.take_records-taken.ensures.counted,
       );
     }

@@ -1,4 +1,4 @@
-use Rattle.std.proofs.Common.{rules, ◌≡◌, ◌+◌, ◌∷◌, [], ◌++◌, length, take, sym, ap, ◌∙◌, subst, arith}
+use Rattle.std.proofs.Common.{rules, length, take, sym, ap, ◌∙◌, arith}
 use Rattle.std.proofs.lemmas.List.{length_push}
 use Rattle.std.proofs.lemmas.Slice.Zip.{zip_end, zip_turn}
 use Rattle.std.specs.List.{count_by, zip}
@@ -11,8 +11,8 @@ loop-one-preserved-then-one-other c =
     let ys = c.args.second.now in
     let before = length c.loop-one.yielded in
     let (below, below', one, other) = zip_turn xs ys c.loop-one.yielded c.into_iter-one-iterator.result c.loop-one.one-iterator
-    c.next.new.self c.next.result (search rules) (search rules) c.loop-one.yielded_by (c.in-Some.one, c.in-Some.other) (search rules)
-    c.next.ensures.steps in
+    c.next.new.self c.next.result (search rules) (search rules) c.loop-one.yielded_by (c.in-Some.one, c.in-Some.other)
+    (search rules) c.next.ensures.steps in
     let push = length_push c.loop-one.yielded (c.in-Some.one, c.in-Some.other) in
     record {
       counted = counted_different xs ys before c.in-Some.one.now c.in-Some.other.now c.loop-one.count below below' (one 0) (other 0)
@@ -26,8 +26,8 @@ loop-one-preserved c =
     let ys = c.args.second.now in
     let before = length c.loop-one.yielded in
     let (below, below', one, other) = zip_turn xs ys c.loop-one.yielded c.into_iter-one-iterator.result c.loop-one.one-iterator
-    c.next.new.self c.next.result (search rules) (search rules) c.loop-one.yielded_by (c.in-Some.one, c.in-Some.other) (search rules)
-    c.next.ensures.steps in
+    c.next.new.self c.next.result (search rules) (search rules) c.loop-one.yielded_by (c.in-Some.one, c.in-Some.other)
+    (search rules) c.next.ensures.steps in
     let push = length_push c.loop-one.yielded (c.in-Some.one, c.in-Some.other) in
     record {
       counted = counted_same xs ys before c.in-Some.one.now c.in-Some.other.now c.loop-one.count below below' (one 0) (other 0)

@@ -1,4 +1,4 @@
-use Rattle.std.proofs.Common.{◌≡◌, ◌+◌, ◌≤◌, length, take, sym, ap, ◌∙◌, subst, arith}
+use Rattle.std.proofs.Common.{◌+◌, take, sym, ap, ◌∙◌, subst, arith}
 use Rattle.dmr_compare.proofs.ListReading.{as_long, fault_behind, reader_on}
 use Rattle.dmr_compare.specs.ListReading.{ShowsListFault, length_of}
 use Rattle.dmr_record.specs.declared.fault.RecordFault.{RecordFault}
@@ -13,8 +13,8 @@ returns-in-Ok-Some-clause-read g c = λ records start h.
     let behind = rw c.in-Ok-Some.field-0-is at c.in-Ok-Some.ensures.behind in
     let took = rw c.in-Ok-Some.field-0-is at c.in-Ok-Some.ensures.octets in
     let long = c.octets.ensures.value octets (as_long self.last self.count head octets behind) in
-    reader_on self.last c.last-self.result self.count self.octet (self.octet + c.octets.result) self.is_over head octets records start
-    (g.S.Source.left c.args.source.now) (g.S.Source.left c.read_next.new.source) h c.if-self.false behind took
+    reader_on self.last c.last-self.result self.count self.octet (self.octet + c.octets.result) self.is_over head octets records
+    start (g.S.Source.left c.args.source.now) (g.S.Source.left c.read_next.new.source) h c.if-self.false behind took
     c.last-self.ensures.value (ap (λ n. self.octet + n) long) (omega (arith, c.octets.ensures.few))
 
 -- the record behind those before it shows a fault
