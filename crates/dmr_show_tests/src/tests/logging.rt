@@ -1,6 +1,7 @@
 //! The command line of `log`, over a system of one file.
 use super::command_line::expect_printed;
 use dmr_log_forms::{LogForm, LogSettings, StartTime};
+use dmr_log_page::PageSettings;
 use dmr_show::Filter;
 use dmr_tools::{LogRefusal, Request, request_of};
 use std::test::Fail;
@@ -95,4 +96,48 @@ fn what_is_printed_of_a_log(rt: HostRuntime) {
     expect_printed(&rt, &time, 2, "", refusal);
     let backwards = ["dmrgate", "log", "up", "--from", "9", "--to", "3"];
     expect_printed(&rt, &backwards, 2, "", "error: --from is beyond --to\n");
+}
+
+/// What these words ask the page of a log for, and the name of its recording.
+fn asked_for_a_page<'a>(
+    rt: &impl AllocGlobal,
+    words: &'a [&'a str],
+) -> Result<(&'a str, PageSettings), Fail> {
+    match request_of(rt.alloc(), words)? {
+        Request::LogPage { name, settings } => Ok((name, settings)),
+        _ => Err(Fail::new("no page")),
+    }
+}
+
+#[test]
+fn pages_of_logs(rt: HostRuntime) -> Result<(), Fail> {
+    let words = ["dmrgate", "log", "up", "--html"];
+    let (name, settings) = asked_for_a_page(&rt, &words)?;
+    assert!(rt; name == "up" && settings.colour == 1 && settings.address.is_none());
+    assert!(rt; settings.start.is_none());
+    let words = [
+        "dmrgate",
+        "log",
+        "--html",
+        "--colour",
+        "15",
+        "--llid",
+        "9",
+        "-",
+        "--start",
+        "2026-01-31T12:00:00Z",
+    ];
+    let (name, settings) = asked_for_a_page(&rt, &words)?;
+    assert!(rt; name == "-" && settings.colour == 15);
+    assert_eq!(rt; settings.address, Some(9));
+    assert!(rt; settings.start == StartTime::read("2026-01-31T12:00:00Z"));
+    for form in ["--csv", "--json"] {
+        let both = ["dmrgate", "log", "up", "--html", form];
+        assert!(rt; request_of(rt.alloc(), &both).is_err());
+    }
+    for some in ["--slot", "--from", "--to"] {
+        let both = ["dmrgate", "log", "up", some, "1", "--html"];
+        assert!(rt; request_of(rt.alloc(), &both).is_err());
+    }
+    Ok(())
 }

@@ -1,0 +1,6 @@
+-- With each transmission fewer follow.
+use Rattle.std.proofs.Common.{length}
+use Rattle.dmr_log_page.proofs.picture.SlotRow.write_labels.Given as goal
+
+abbrev pub decreases-loop-others : goal.decreases-loop-others
+decreases-loop-others g l = length l.others
