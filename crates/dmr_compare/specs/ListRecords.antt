@@ -62,18 +62,18 @@ is_same_record first second = has_same_fields first second && (differing_octets 
 -- 3. What is printed.
 
 -- what tells how many octets differ of two records
-abbrev pub octets_text : ℕ → List ℕ
-octets_text count = codes "  [differ: " ++ decimal count ++ codes " octets]"
+abbrev pub differing_octets_text : ℕ → List ℕ
+differing_octets_text count = codes "  [differ: " ++ decimal count ++ codes " octets]"
 
 -- what tells how many octets differ of two records, where only octets differ
 abbrev pub told_of_records : ListRecord → ListRecord → List ℕ
 told_of_records first second =
-    if has_same_fields first second then octets_text (differing_octets (carried first) (carried second)) else []
+    if has_same_fields first second then differing_octets_text (differing_octets (carried first) (carried second)) else []
 
 -- what the second line of a difference ends with
 abbrev pub ending_of_records : RecordDifference → List ℕ
 ending_of_records Fields = []
-ending_of_records (Octets count) = octets_text count
+ending_of_records (Octets count) = differing_octets_text count
 
 -- What is put of two records with one number: nothing where they are the same or differences are counted alone, and else two lines.
 -- The second ends with how many octets differ, where only octets do.
