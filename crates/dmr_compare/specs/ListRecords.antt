@@ -35,13 +35,13 @@ list_limit kind.Received = received_limit
 
 -- 2. What differs.
 
--- what is to be sent, or what came
+-- what a record carries: what is to be sent, or what came
 abbrev pub carried : ListRecord → List ℕ
 carried (OfOutgoing sending) = sending.datagram
 carried (OfReceived receipt) = receipt.octets
 
--- Whether all but that is the same of two records. Of outgoing ones that is the frame, the slot, and how they are sent; of received
--- ones the frame, the slot, the kind and the source.
+-- Whether two records are the same but for what they carry. Compared are the frame, the slot and how it is sent of outgoing ones,
+-- and the frame, the slot, the kind and the source of received ones.
 abbrev pub has_same_fields : ListRecord → ListRecord → Bool
 has_same_fields (OfOutgoing x) (OfOutgoing y) =
     (x.frame == y.frame) && (x.slot == y.slot) && (mode_of x.confirmed x.full == mode_of y.confirmed y.full)
