@@ -1,8 +1,14 @@
 pub mod Beside
 pub mod Counting
 pub mod Distances
+pub mod Equal
+pub mod ListReading
+pub mod ListRecords
+pub mod Octets
 pub mod Printed
 pub mod Reading
+pub mod RecordsBeside
 pub mod Same
+pub mod SlotsBeside
 pub mod Told
 pub mod Voice

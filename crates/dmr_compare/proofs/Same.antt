@@ -1,14 +1,14 @@
 -- Slots are the same exactly where what isn't ignored of them is.
 use Rattle.std.proofs.Common.{◌≡◌, ℕ, ◌+◌, ◌*◌, ◌==◌, ◌&&◌, Bool, true, false, not, cond, List, [], ◌∷◌, Option, Some, None}
 use Rattle.std.proofs.Common.{if◌then◌else◌, length, map, drop, zero, suc, refl, sym, ap, ◌∙◌, subst, arith}
-use Rattle.std.specs.List.{AllByRecursion, zip}
+use Rattle.std.specs.List.{AllByRecursion}
 use Rattle.std.proofs.lemmas.Bool.{and_parts, eqb-true}
-use Rattle.std.proofs.lemmas.List.Sums.{sum_by-cons}
 use Rattle.dmr_bits.proofs.Lists.{distance_zero}
 use Rattle.dmr_bits.proofs.OctetFronts.{length-bits_of_octets}
 use Rattle.dmr_bits.proofs.Parts.{length-part}
 use Rattle.dmr_bits.specs.Bits.{bits_of_octets, distance, part}
 use Rattle.dmr_compare.proofs.Distances.{of_equals}
+use Rattle.dmr_compare.proofs.Equal.{none_counted, pairs_cons}
 use Rattle.dmr_compare.proofs.Voice.{clash}
 use Rattle.dmr_compare.specs.Counting.{different_places}
 use Rattle.dmr_compare.specs.Kept.{KeptBurst, cach_bits, compared_bits, compared_cach, differing_in_burst, differing_in_cach}
@@ -174,26 +174,16 @@ slots_back recording ignored (Some x) (Some y) h h' e =
 
 -- 4. Lists.
 
--- how many places differ, with one pair in front
-pairs_cons : (ignored : Ignored) (x y : ListedSlot) (xs ys : List ListedSlot)
-    → different_places ignored (x ∷ xs) (y ∷ ys) ≡ cond (not (is_same ignored x y)) 1 0 + different_places ignored xs ys
-pairs_cons ignored x y xs ys =
-    sum_by-cons (λ (place : ListedSlot × ListedSlot). cond (not (is_same ignored place.0 place.1)) 1 0) (x, y) (zip xs ys)
-
--- where nothing is counted, the slots are the same
-none_counted : (b : Bool) (n : ℕ) → cond (not b) 1 0 + n ≡ 0 → (b ≡ true) × (n ≡ 0)
-none_counted true n e = (refl, omega arith)
-none_counted false n e = absurd (omega arith)
-
 -- two lists of one length without a difference keep the same
 pub lists_same : (recording : Recording) (ignored : Ignored) (xs ys : List ListedSlot) → AllByRecursion (IsSeen recording) xs
-    → AllByRecursion (IsSeen recording) ys → length xs ≡ length ys → different_places ignored xs ys ≡ 0
+    → AllByRecursion (IsSeen recording) ys → length xs ≡ length ys → different_places (is_same ignored) xs ys ≡ 0
     → map (kept ignored) xs ≡ map (kept ignored) ys
 lists_same recording ignored [] [] h h' e z = refl
 lists_same recording ignored [] (y ∷ ys) h h' e z = absurd (omega arith)
 lists_same recording ignored (x ∷ xs) [] h h' e z = absurd (omega arith)
 lists_same recording ignored (x ∷ xs) (y ∷ ys) h h' e z =
-    let none = none_counted (is_same ignored x y) (different_places ignored xs ys) (sym (pairs_cons ignored x y xs ys) ∙ z) in
+    let none = none_counted (is_same ignored x y) (different_places (is_same ignored) xs ys)
+    (sym (pairs_cons (is_same ignored) x y xs ys) ∙ z) in
     ap (λ (k : Option KeptBurst). k ∷ map (kept ignored) xs) (slots_same recording ignored x y h.0 h'.0 none.0)
     ∙ ap (λ (l : List (Option KeptBurst)). kept ignored y ∷ l) (lists_same recording ignored xs ys h.1 h'.1 (omega arith) none.1)
 
@@ -210,7 +200,7 @@ rest_of (k ∷ ks) = ks
 -- two lists that keep the same have one length, and no difference
 pub lists_back : (recording : Recording) (ignored : Ignored) (xs ys : List ListedSlot) → AllByRecursion (IsSeen recording) xs
     → AllByRecursion (IsSeen recording) ys → map (kept ignored) xs ≡ map (kept ignored) ys
-    → (length xs ≡ length ys) × (different_places ignored xs ys ≡ 0)
+    → (length xs ≡ length ys) × (different_places (is_same ignored) xs ys ≡ 0)
 lists_back recording ignored [] [] h h' e = (refl, refl)
 lists_back recording ignored [] (y ∷ ys) h h' e = absurd (omega (arith, ap length e))
 lists_back recording ignored (x ∷ xs) [] h h' e = absurd (omega (arith, ap length e))
@@ -218,6 +208,6 @@ lists_back recording ignored (x ∷ xs) (y ∷ ys) h h' e =
     let (long, none) = lists_back recording ignored xs ys h.1 h'.1 (ap rest_of e) in
     let same = slots_back recording ignored x y h.0 h'.0 (ap first_of e) in (
       ap suc long,
-      pairs_cons ignored x y xs ys ∙ ap (λ (b : Bool). cond (not b) 1 0 + different_places ignored xs ys) same
-          ∙ (let e' : 0 + different_places ignored xs ys ≡ 0 = omega (arith, none) in e'),
+      pairs_cons (is_same ignored) x y xs ys ∙ ap (λ (b : Bool). cond (not b) 1 0 + different_places (is_same ignored) xs ys) same
+          ∙ (let e' : 0 + different_places (is_same ignored) xs ys ≡ 0 = omega (arith, none) in e'),
     )

@@ -16,7 +16,7 @@ use Rattle.dmr_compare.specs.declared.counts.PlaceCounts.{PlaceCounts}
 use Rattle.dmr_compare.specs.declared.settings.CompareSettings.{CompareSettings}
 use Rattle.dmr_compare.specs.declared.settings.Shift.{Shift}
 use Rattle.dmr_compare.specs.declared.trouble.Trouble.{Trouble}
-use Rattle.dmr_compare.specs.declared.trouble.Trouble.TheVariants.{First, Second, OtherKind, ShiftOfLists, Memory, Output}
+use Rattle.dmr_compare.specs.declared.trouble.Trouble.TheVariants.{First, Second, Output}
 
 -- the slots of the first recording that are compared: those behind the ones in front
 abbrev pub compared_of_first : Option Shift → List ListedSlot → List ListedSlot

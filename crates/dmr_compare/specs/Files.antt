@@ -43,8 +43,8 @@ AreRefused shift Memory first second = (first ≡ second) × IsList first × (sh
 AreRefused shift trouble first second = ⊥
 
 -- The heads of two files were read, and files of their formats are refused.
-pub record AreFormatsRefused (shift : Option Shift) (trouble : Trouble) (first_old first_new second_old second_new : Option (List ℕ))
-    : Type 0 where
+pub record AreFormatsRefused (shift : Option Shift) (trouble : Trouble)
+    (first_old first_new second_old second_new : Option (List ℕ)) : Type 0 where
   pub first : FileFormat
   pub second : FileFormat
   pub first_head : Consumes first_old first_new (head_octets (magic_of first))
@@ -71,13 +71,13 @@ AreHeadsRefused shift trouble first_old first_new second_old second_new =
 -- 2. What stands behind them.
 
 -- What two files of one format have behind their heads: slots of recordings, or records of lists.
-pub data Contents : Type 0 where
-  Slots : (firsts seconds : List ListedSlot) → Contents
-  Records : (firsts seconds : List ListRecord) → Contents
+pub data BothContents : Type 0 where
+  Slots : (firsts seconds : List ListedSlot) → BothContents
+  Records : (firsts seconds : List ListRecord) → BothContents
 
 -- What stands behind the heads of two files of this format was read and compared: it is this, and is counted so. Lists are compared
 -- where no shift is given.
-abbrev pub AreContentsCompared : CompareSettings → FileFormat → Contents → PlaceCounts
+abbrev pub AreContentsCompared : CompareSettings → FileFormat → BothContents → PlaceCounts
     → (first_old first_new second_old second_new held_old held_new : Option (List ℕ)) → Type 0
 AreContentsCompared settings Uplink (Slots firsts seconds) counts first_old first_new second_old second_new held_old held_new =
     AreRestsCompared settings recording.Uplink firsts seconds counts
@@ -137,7 +137,7 @@ AreContentsComparedUpTo settings format trouble first_old first_new second_old s
 
 -- What is compared of two files is the same: what isn't ignored of the slots of two recordings is one list, behind the slots in
 -- front; the records of two lists are one list.
-abbrev pub AreSame : CompareSettings → Contents → Type 0
+abbrev pub AreSame : CompareSettings → BothContents → Type 0
 AreSame settings (Slots firsts seconds) =
     map (kept settings.ignored) (compared_of_first settings.shift firsts)
     ≡ map (kept settings.ignored) (compared_of_second settings.shift seconds)
@@ -145,7 +145,7 @@ AreSame settings (Records firsts seconds) = firsts ≡ seconds
 
 -- Two files were read whole, which are of one format. Each difference has its two lines, and behind them stands the line of the
 -- counts.
-pub record AreComparedWhole (settings : CompareSettings) (format : FileFormat) (contents : Contents) (counts : PlaceCounts)
+pub record AreComparedWhole (settings : CompareSettings) (format : FileFormat) (contents : BothContents) (counts : PlaceCounts)
     (first_old first_new second_old second_new held_old held_new : Option (List ℕ)) : Type 0 where
   pub first_left : Option (List ℕ)
   pub second_left : Option (List ℕ)
@@ -156,7 +156,7 @@ pub record AreComparedWhole (settings : CompareSettings) (format : FileFormat) (
   pub counts_put : Appends held held_new (counts_line counts)
 
 -- Of two lists the status says whether they are alike, octet for octet, head and all.
-abbrev pub AreOctetsToldApart : Contents → (status : ℕ) → (first_old first_new second_old second_new : Option (List ℕ)) → Type 0
+abbrev pub AreOctetsToldApart : BothContents → (status : ℕ) → (first_old first_new second_old second_new : Option (List ℕ)) → Type 0
 AreOctetsToldApart (Slots firsts seconds) status first_old first_new second_old second_new = Unit {0}
 AreOctetsToldApart (Records firsts seconds) status first_old first_new second_old second_new =
     (first_octets : List ℕ) × (second_octets : List ℕ) × Consumes first_old first_new first_octets
@@ -166,7 +166,7 @@ AreOctetsToldApart (Records firsts seconds) status first_old first_new second_ol
 pub record AreToldApart (settings : CompareSettings) (status : ℕ)
     (first_old first_new second_old second_new held_old held_new : Option (List ℕ)) : Type 0 where
   pub format : FileFormat
-  pub contents : Contents
+  pub contents : BothContents
   pub counts : PlaceCounts
   pub whole : AreComparedWhole settings format contents counts first_old first_new second_old second_new held_old held_new
   pub status_same : (status ≡ same) ↔ AreSame settings contents

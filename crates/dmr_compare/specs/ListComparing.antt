@@ -11,7 +11,7 @@ use Rattle.dmr_compare.specs.declared.counts.PlaceCounts.{PlaceCounts}
 use Rattle.dmr_compare.specs.declared.list_record.ListKind.{ListKind}
 use Rattle.dmr_compare.specs.declared.settings.CompareSettings.{CompareSettings}
 use Rattle.dmr_compare.specs.declared.trouble.Trouble.{Trouble}
-use Rattle.dmr_compare.specs.declared.trouble.Trouble.TheVariants.{First, Second, OtherKind, ShiftOfLists, Memory, Output}
+use Rattle.dmr_compare.specs.declared.trouble.Trouble.TheVariants.{First, Second, Memory, Output}
 use Rattle.dmr_recording.specs.declared.fault_line.FaultLine.{FaultLine}
 
 -- The lines of the records that two lists both have were put: two for each difference, in their order.

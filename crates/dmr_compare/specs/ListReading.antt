@@ -1,7 +1,7 @@
 -- What was read of a list behind its head.
 use Rattle.std.specs.Prelude.{◌≡◌, ℕ, ◌+◌, ◌-◌, ◌*◌, ◌<◌, ◌≤◌, true, List, [], Option, Some, None, if◌then◌else◌, length, map, take}
 use Rattle.std.specs.Io.KnownBytes.{IsAtEnd}
-use Rattle.dmr_compare.specs.ListRecords.{ListRecord, OfOutgoing, OfReceived, limit_of, record_octets}
+use Rattle.dmr_compare.specs.ListRecords.{ListRecord, OfOutgoing, OfReceived, list_limit, record_octets}
 use Rattle.dmr_compare.specs.declared.list_reader.LastRecord.{LastRecord}
 use Rattle.dmr_compare.specs.declared.list_reader.LastRecord.TheVariants as last
 use Rattle.dmr_compare.specs.declared.list_reader.ListReader.{ListReader}
@@ -80,9 +80,9 @@ StandsBehind (last.Received received) before (head.Received r) octets =
 StandsBehind last before head octets = ⊥
 
 -- These octets show this fault of a record behind the last one, with so many before it.
-abbrev pub ShowsFaultBehind : LastRecord → (before : ℕ) → RecordFault → (taken : List ℕ) → Type 0
-ShowsFaultBehind (last.Outgoing frame) before fault taken = ShowsOutgoingFault record_limit before frame fault taken
-ShowsFaultBehind (last.Received received) before fault taken =
+abbrev pub ShowsListFault : LastRecord → (before : ℕ) → RecordFault → (taken : List ℕ) → Type 0
+ShowsListFault (last.Outgoing frame) before fault taken = ShowsOutgoingFault record_limit before frame fault taken
+ShowsListFault (last.Received received) before fault taken =
     ShowsReceivedFault received_limit before (last_read received) fault taken
 
 -- the last record, where it is this one
@@ -101,16 +101,16 @@ AreRecordsReadTo (last.Received received) records left_old left_new =
     (receipts : List Receipt) × (records ≡ map OfReceived receipts) × (last_fields None receipts ≡ last_read received)
     × AreReceiptsRead receipts [] left_old left_new
 
--- A reader has read these records, and stands behind them: it knows how many there are, where the next one begins, and whether there
--- is one.
+-- A reader has read these records, and stands behind them: it knows how many there are, where the next one begins, and whether
+-- there is one.
 pub record HasReadRecords (reader : ListReader) (records : List ListRecord) (left_old left_new : Option (List ℕ)) : Type 0 where
   pub read : AreRecordsReadTo reader.last records left_old left_new
   pub count : reader.count ≡ length records
-  pub few : reader.count ≤ limit_of (kind_behind reader.last)
+  pub few : reader.count ≤ list_limit (kind_behind reader.last)
   pub octet : reader.octet ≡ octet_behind record_octets records
   pub room : reader.octet ≤ 8 + 65547 * reader.count
   pub over : reader.is_over ≡ true → IsAtEnd left_new
 
 -- the most records that may still come, and the end
 abbrev pub records_to_come : ListReader → ℕ
-records_to_come reader = if reader.is_over then 0 else 1 + (limit_of (kind_behind reader.last) - reader.count)
+records_to_come reader = if reader.is_over then 0 else 1 + (list_limit (kind_behind reader.last) - reader.count)

@@ -1,5 +1,5 @@
 -- The records of a list, what differs of two of them, and what is printed of that.
-use Rattle.std.specs.Prelude.{◌≡◌, ◌==◌, ◌&&◌, ◌||◌, ◌+◌, ◌-◌, ℕ, Bool, false, List, [], ◌++◌, Option, not, length}
+use Rattle.std.specs.Prelude.{◌==◌, ◌&&◌, ◌||◌, ◌+◌, ◌-◌, ℕ, Bool, false, List, [], ◌++◌, Option, not, length}
 use Rattle.std.specs.Prelude.{if◌then◌else◌, codes, decimal}
 use Rattle.std.specs.List.{count_by, flat_map, zip}
 use Rattle.dmr_compare.specs.Printed.{PutsUnless}
@@ -25,23 +25,23 @@ record_octets (OfOutgoing sending) = sending_octets sending
 record_octets (OfReceived receipt) = receipt_octets receipt
 
 -- the octets that records have in their file, one behind the other
-abbrev pub records_octets : List ListRecord → List ℕ
-records_octets records = flat_map record_octets records
+abbrev pub list_octets : List ListRecord → List ℕ
+list_octets records = flat_map record_octets records
 
 -- the most records that a list has
-abbrev pub limit_of : ListKind → ℕ
-limit_of kind.Outgoing = record_limit
-limit_of kind.Received = received_limit
+abbrev pub list_limit : ListKind → ℕ
+list_limit kind.Outgoing = record_limit
+list_limit kind.Received = received_limit
 
 -- 2. What differs.
 
--- what is to be sent, or what came
+-- what a record carries: what is to be sent, or what came
 abbrev pub carried : ListRecord → List ℕ
 carried (OfOutgoing sending) = sending.datagram
 carried (OfReceived receipt) = receipt.octets
 
--- Whether all but that is the same of two records: of outgoing ones the frame, the slot, and how they are sent, of received ones the
--- frame, the slot, the kind and the source.
+-- Whether two records are the same but for what they carry. Compared are the frame, the slot and how it is sent of outgoing ones,
+-- and the frame, the slot, the kind and the source of received ones.
 abbrev pub has_same_fields : ListRecord → ListRecord → Bool
 has_same_fields (OfOutgoing x) (OfOutgoing y) =
     (x.frame == y.frame) && (x.slot == y.slot) && (mode_of x.confirmed x.full == mode_of y.confirmed y.full)
@@ -62,18 +62,18 @@ is_same_record first second = has_same_fields first second && (differing_octets 
 -- 3. What is printed.
 
 -- what tells how many octets differ of two records
-abbrev pub octets_text : ℕ → List ℕ
-octets_text count = codes "  [differ: " ++ decimal count ++ codes " octets]"
+abbrev pub differing_octets_text : ℕ → List ℕ
+differing_octets_text count = codes "  [differ: " ++ decimal count ++ codes " octets]"
 
 -- what tells how many octets differ of two records, where only octets differ
 abbrev pub told_of_records : ListRecord → ListRecord → List ℕ
 told_of_records first second =
-    if has_same_fields first second then octets_text (differing_octets (carried first) (carried second)) else []
+    if has_same_fields first second then differing_octets_text (differing_octets (carried first) (carried second)) else []
 
 -- what the second line of a difference ends with
 abbrev pub ending_of_records : RecordDifference → List ℕ
 ending_of_records Fields = []
-ending_of_records (Octets count) = octets_text count
+ending_of_records (Octets count) = differing_octets_text count
 
 -- What is put of two records with one number: nothing where they are the same or differences are counted alone, and else two lines.
 -- The second ends with how many octets differ, where only octets do.

@@ -1,4 +1,4 @@
-//! What is counted of two recordings.
+//! What is counted of two files.
 ghost use Rattle.std.specs.Prelude.{◌≡◌};
 ghost use Rattle.dmr_compare.specs.Counting.{counts_line, places_in};
 ghost use Rattle.dmr_compare.specs.Status.{counted_status};
@@ -6,7 +6,7 @@ ghost use Rattle.dmr_compare.specs.Status.{counted_status};
 use crate::line::Line;
 use crate::status::{DIFFERENT, SAME};
 
-/// How many slots of two recordings are the same, and how many aren't.
+/// How many slots of two recordings, or records of two lists, are the same, and how many aren't.
 #[derive(Clone, Copy, Debug, Default, Drop, PartialEq, Eq)]
 pub struct PlaceCounts {
     /// That both have, and that are the same.
@@ -20,7 +20,7 @@ pub struct PlaceCounts {
 }
 
 impl PlaceCounts {
-    /// How many slots were compared, or stand in one of the two alone.
+    /// How many slots or records were compared, or stand in one of the two alone.
     pub fn places(&self) -> u64
         ensures value { result ≡ places_in self.now }
     {

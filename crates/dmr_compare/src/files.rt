@@ -2,7 +2,7 @@
 ghost use Rattle.std.specs.Prelude.{◌≡◌, ◌≤◌, List, None, false, true, IfOk, IfErr};
 ghost use Rattle.dmr_compare.specs.Comparing.{DevicesFail, DevicesFailAt};
 ghost use Rattle.dmr_compare.specs.Files.{AreComparedInPart, AreComparedWhole, AreContentsCompared, AreContentsComparedUpTo};
-ghost use Rattle.dmr_compare.specs.Files.{AreToldApart, Contents, IsList};
+ghost use Rattle.dmr_compare.specs.Files.{AreToldApart, BothContents, IsList};
 ghost use Rattle.dmr_compare.specs.ListComparing.{AreListsCompared, AreListsComparedUpTo};
 ghost use Rattle.dmr_compare.specs.ListRecords.{ListRecord};
 ghost use Rattle.dmr_compare.specs.Status.{different, same, trouble};
@@ -69,7 +69,7 @@ fn compare_behind<S: Source, T: Source, K: Sink>(
     requires second { T.has_failed second.old ≡ false }
     requires out { K.has_failed out.old ≡ false }
     requires unshifted { IsList format → settings.now.shift ≡ None }
-    ensures whole { IfOk result (λ counts. (contents : Contents) × AreContentsCompared settings.now format contents counts
+    ensures whole { IfOk result (λ counts. (contents : BothContents) × AreContentsCompared settings.now format contents counts
         (S.left first.old) (S.left first.new) (T.left second.old) (T.left second.new) (K.held out.old) (K.held out.new)) }
     ensures part { IfErr result (λ reason. AreContentsComparedUpTo settings.now format reason
         (S.left first.old) (S.left first.new) (T.left second.old) (T.left second.new) (K.held out.old) (K.held out.new)) }
@@ -102,7 +102,7 @@ fn compare_to<S: Source, T: Source, K: Sink>(
     requires first { S.has_failed first.old ≡ false }
     requires second { T.has_failed second.old ≡ false }
     requires out { K.has_failed out.old ≡ false }
-    ensures whole { IfOk result (λ counts. (format : FileFormat) × (contents : Contents)
+    ensures whole { IfOk result (λ counts. (format : FileFormat) × (contents : BothContents)
         × AreComparedWhole settings.now format contents counts
         (S.left first.old) (S.left first.new) (T.left second.old) (T.left second.new) (K.held out.old) (K.held out.new)) }
     ensures part { IfErr result (λ reason. AreComparedInPart settings.now reason
@@ -119,8 +119,8 @@ fn compare_to<S: Source, T: Source, K: Sink>(
 
 /// Compares two files of one format, as far as both can be read, and answers the exit status: recordings slot by slot, lists record
 /// by record. The sources stand before the heads. Of each place that differs two lines go to the first sink, and behind them goes
-/// one line with the counts. A fault of a file is told on the second sink, by the name of that file. So is that the files are of two
-/// formats, or lists for which a shift is given, and that there is no memory for the records of lists.
+/// one line with the counts. A fault of a file is told on the second sink, by the name of that file. So is that the files are of
+/// two formats, or lists for which a shift is given, and that there is no memory for the records of lists.
 pub fn compare<S: Source, T: Source, K: Sink, E: Sink>(
     alloc: Global,
     settings: &CompareSettings,

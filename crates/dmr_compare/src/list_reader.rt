@@ -3,7 +3,7 @@ ghost use Rattle.std.specs.Prelude.{◌≡◌, ◌+◌, ◌≤◌, ◌++◌, ℕ
 ghost use Rattle.std.specs.Prelude.{IfOk, IfErr, IfSome, IfNone, OnOk};
 ghost use Rattle.std.specs.Io.KnownBytes.{Consumes, IsAtEnd};
 ghost use Rattle.dmr_record.specs.Faults.{is_device_fault, is_of_end};
-ghost use Rattle.dmr_compare.specs.ListReading.{AreRecordsReadUpToFault, HasReadRecords, ShowsFaultBehind, StandsBehind};
+ghost use Rattle.dmr_compare.specs.ListReading.{AreRecordsReadUpToFault, HasReadRecords, ShowsListFault, StandsBehind};
 ghost use Rattle.dmr_compare.specs.ListReading.{kind_behind, last_of, length_of, no_record, record_found, record_in};
 ghost use Rattle.dmr_compare.specs.ListReading.{record_with, records_to_come};
 ghost use Rattle.dmr_compare.specs.ListRecords.{ListRecord, record_octets};
@@ -93,7 +93,7 @@ impl LastRecord {
             × IsAtEnd (S.left source.new))) }
         ensures well { OnOk result (S.has_failed source.new ≡ false) }
         ensures fault { IfErr result (λ fault. (taken : List ℕ) × Consumes (S.left source.old) (S.left source.new) taken
-            × ShowsFaultBehind self before fault taken) }
+            × ShowsListFault self before fault taken) }
         ensures cut { IfErr result (λ fault. is_of_end fault ≡ true → IsAtEnd (S.left source.new)) }
         ensures device { IfErr result (λ fault. S.has_failed source.new ≡ is_device_fault fault) }
     {

@@ -1,6 +1,8 @@
-//! Tests of `dmr_compare`: what is printed of two recordings.
+//! Tests of `dmr_compare`: what is printed of two recordings, and of two lists.
 #![tactic(auto)]
 
+#[cfg(test)]
+mod list_tests;
 #[cfg(test)]
 mod recordings;
 #[cfg(test)]

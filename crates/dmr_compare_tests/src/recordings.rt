@@ -13,9 +13,6 @@ pub(crate) const REPEATED: &str =
 pub(crate) const DOWNLINK_BEHIND: &str =
     "0108882053C25EABA8671DC7383BD936065DFF57D75DF5D92BF6E465171B48CA6D4FC610B4";
 
-/// Its received list, which is a head.
-pub(crate) const RECEIVED: &str = "444D524901000000";
-
 /// A call, repeated: the downlink of the sample `call`. There are 26 frames.
 pub(crate) const CALL: &str = "\
     444D52440100000000000000000000000000000001800A650010015E028812380E304440046DFF57D75DF5DE322C0328019007A005410D0055011B9C\

@@ -1,5 +1,5 @@
 //! What is printed of two recordings. The lines are worked out from docs/protocol.md, and so are the counts.
-use crate::recordings::{CALL, DOWNLINK_BEFORE, DOWNLINK_BEHIND, RECEIVED, REPEATED, UPLINK};
+use crate::recordings::{CALL, DOWNLINK_BEFORE, DOWNLINK_BEHIND, REPEATED, UPLINK};
 use dmr_compare::{
     CompareSettings, DIFFERENT, Differing, FileNames, Ignored, ListedBurst, PlaceCounts, SAME,
     Shift, TROUBLE, compare,
@@ -12,7 +12,7 @@ use std::process::Abort;
 use std::test::Fail;
 
 /// Everything is compared, with no shift.
-const ALL: CompareSettings = CompareSettings {
+pub(crate) const ALL: CompareSettings = CompareSettings {
     shift: None,
     ignored: Ignored {
         cach: false,
@@ -22,21 +22,21 @@ const ALL: CompareSettings = CompareSettings {
 };
 
 /// The names of the files.
-const NAMES: FileNames<'static> = FileNames {
+pub(crate) const NAMES: FileNames<'static> = FileNames {
     first: "one.dmrd",
     second: "two\n.dmrd",
 };
 
 /// What a comparison ends with: its status, what it prints, and what it tells.
 #[derive(Drop)]
-struct Wanted<'a> {
-    status: u8,
-    out: &'a str,
-    err: &'a str,
+pub(crate) struct Wanted<'a> {
+    pub(crate) status: u8,
+    pub(crate) out: &'a str,
+    pub(crate) err: &'a str,
 }
 
 /// Two files are compared so.
-fn expect_octets(
+pub(crate) fn expect_octets(
     rt: &(impl Abort + AllocGlobal),
     settings: CompareSettings,
     first: &[u8],
@@ -66,7 +66,7 @@ fn expect_octets(
 }
 
 /// Two files, in digits, are compared so.
-fn expect(
+pub(crate) fn expect(
     rt: &(impl Abort + AllocGlobal),
     settings: CompareSettings,
     first: &str,
@@ -465,17 +465,6 @@ fn kinds(rt: HostRuntime) -> Result<(), Fail> {
             status: 2,
             out: "",
             err: "error: two?.dmrd: another kind of file than one.dmrd\n",
-        },
-    )?;
-    expect(
-        &rt,
-        ALL,
-        RECEIVED,
-        RECEIVED,
-        &Wanted {
-            status: 2,
-            out: "",
-            err: "error: one.dmrd: not a recording\n",
         },
     )?;
     expect(

@@ -1,8 +1,9 @@
 use Rattle.std.proofs.Common.{rules, ◌≡◌, ◌++◌, None, ◌∙◌, arith}
-use Rattle.dmr_compare.proofs.Beside.{IsStep, beside_begun, beside_by, beside_next, fault_before_first, fault_before_second}
-use Rattle.dmr_compare.proofs.Beside.{fault_of_first, fault_of_second, has_room, whole_compared}
-use Rattle.dmr_compare.specs.Reading.{found_slot}
-use Rattle.dmr_compare.specs.Taking.{PutsFound}
+use Rattle.dmr_compare.proofs.Beside.{IsStep}
+use Rattle.dmr_compare.proofs.SlotsBeside.{fault_before_first, fault_before_second, fault_of_first, fault_of_second}
+use Rattle.dmr_compare.proofs.SlotsBeside.{slots_begun, slots_next, slots_room, whole_compared}
+use Rattle.dmr_compare.specs.Printed.{PutsPlace}
+use Rattle.dmr_compare.specs.Taking.{PutsFound, found_next}
 use Rattle.dmr_compare.proofs.comparing.compare_recordings.Goals as goal
 
 pub pass-requires-clause-none : goal.pass-requires-clause-none
@@ -30,7 +31,7 @@ loop-found-init g c =
     let m = c.slots_in_front_of_first.ensures.value in
     let n = c.slots_in_front_of_second.ensures.value in
     let (same, (different, (first, second))) = c.default-counts.ensures in
-    let stood = beside_begun c.args.settings.now c.pass.new.self c.pass-2.new.self c.default-counts.result firsts seconds _ _ _ _
+    let stood = slots_begun c.args.settings.now c.pass.new.self c.pass-2.new.self c.default-counts.result firsts seconds _ _ _ _
     (g.K.Sink.held c.args.sink.now) read read' (omega (arith, short, m)) (omega (arith, short', n)) (λ going. whole going ∙ m)
     (λ going. whole' going ∙ n) same different first second in
     record {
@@ -62,7 +63,7 @@ next-requires-in-loop-found-clause-stands g c =
 pub returns-in-Err-next-2-clause-part : goal.returns-in-Err-next-2-clause-part
 returns-in-Err-next-2-clause-part g c =
     let (firsts, seconds, stood) = c.loop-found.invariant.beside in
-    let step : IsStep c.loop-found.one c.next.new.self c.in-Ok.found =
+    let step : IsStep c.loop-found.one.is_over c.next.new.self.is_over c.in-Ok.found =
     record { some = c.in-Ok.ensures.some; none = c.in-Ok.ensures.none } in
     fault_of_second c.args.settings.now c.loop-found.one c.next.new.self c.loop-found.other c.args.recording c.loop-found.counts
     firsts seconds c.in-Ok.found c.in-Err-next-2.fault _ _ _ _ _ _ _ _ stood
@@ -72,9 +73,9 @@ returns-in-Err-next-2-clause-part g c =
 pub returns-then-is_none-2-clause-whole : goal.returns-then-is_none-2-clause-whole
 returns-then-is_none-2-clause-whole g c =
     let (firsts, seconds, stood) = c.loop-found.invariant.beside in
-    let step : IsStep c.loop-found.one c.next.new.self c.in-Ok.found =
+    let step : IsStep c.loop-found.one.is_over c.next.new.self.is_over c.in-Ok.found =
     record { some = c.in-Ok.ensures.some; none = c.in-Ok.ensures.none } in
-    let step' : IsStep c.loop-found.other c.next-in-loop-found.new.self c.in-Ok-next.found =
+    let step' : IsStep c.loop-found.other.is_over c.next-in-loop-found.new.self.is_over c.in-Ok-next.found =
     record { some = c.in-Ok-next.ensures.some; none = c.in-Ok-next.ensures.none } in
     let none : c.in-Ok.found ≡ None = search rules in
     let none' : c.in-Ok-next.found ≡ None = search rules in
@@ -88,20 +89,17 @@ returns-then-is_none-2-clause-whole g c =
 pub take_found-requires-clause-room : goal.take_found-requires-clause-room
 take_found-requires-clause-room g c =
     let (firsts, seconds, stood) = c.loop-found.invariant.beside in
-    has_room c.args.settings.now c.loop-found.one c.loop-found.other c.loop-found.counts firsts seconds _ _ _ _ _ _ stood
+    slots_room c.args.settings.now c.loop-found.one c.loop-found.other c.loop-found.counts firsts seconds _ _ _ _ _ _ stood
 
 pub loop-found-preserved : goal.loop-found-preserved
 loop-found-preserved g c =
     let (firsts, seconds, stood) = c.loop-found.invariant.beside in
-    let step : IsStep c.loop-found.one c.next.new.self c.in-Ok.found =
+    let step : IsStep c.loop-found.one.is_over c.next.new.self.is_over c.in-Ok.found =
     record { some = c.in-Ok.ensures.some; none = c.in-Ok.ensures.none } in
-    let step' : IsStep c.loop-found.other c.next-in-loop-found.new.self c.in-Ok-next.found =
+    let step' : IsStep c.loop-found.other.is_over c.next-in-loop-found.new.self.is_over c.in-Ok-next.found =
     record { some = c.in-Ok-next.ensures.some; none = c.in-Ok-next.ensures.none } in
-    let lines : PutsFound c.args.settings.now c.in-Ok.found c.in-Ok-next.found (g.K.Sink.held c.loop-found.sink)
+    let lines : PutsFound (PutsPlace c.args.settings.now) c.in-Ok.found c.in-Ok-next.found (g.K.Sink.held c.loop-found.sink)
     (g.K.Sink.held c.take_found.new.sink) = search rules in
-    let next = beside_next c.args.settings.now c.loop-found.one c.next.new.self c.loop-found.other c.next-in-loop-found.new.self
-    c.loop-found.counts firsts seconds c.in-Ok.found c.in-Ok-next.found _ _ _ _ _ _ _ _ _ stood
-    (c.in-Ok.ensures.read firsts _ stood.first_read) (c.in-Ok-next.ensures.read seconds _ stood.second_read) step step' lines in
     record {
       first = search rules;
       second = search rules;
@@ -109,10 +107,11 @@ loop-found-preserved g c =
       one = search rules;
       other = search rules;
       beside = (
-        firsts ++ found_slot c.in-Ok.found,
-        seconds ++ found_slot c.in-Ok-next.found,
-        beside_by c.args.settings.now c.next.new.self c.next-in-loop-found.new.self _ c.take_found.new.counts
-            (firsts ++ found_slot c.in-Ok.found) (seconds ++ found_slot c.in-Ok-next.found) _ _ _ _ _ _
-            c.take_found.ensures.counted next,
+        firsts ++ found_next c.in-Ok.found,
+        seconds ++ found_next c.in-Ok-next.found,
+        slots_next c.args.settings.now c.loop-found.one c.next.new.self c.loop-found.other c.next-in-loop-found.new.self
+            c.loop-found.counts c.take_found.new.counts firsts seconds c.in-Ok.found c.in-Ok-next.found _ _ _ _ _ _ _ _ _ stood
+            (c.in-Ok.ensures.read firsts _ stood.first_read) (c.in-Ok-next.ensures.read seconds _ stood.second_read) step step'
+            lines c.take_found.ensures.counted,
       );
     }

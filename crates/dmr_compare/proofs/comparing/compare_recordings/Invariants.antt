@@ -1,6 +1,6 @@
 -- What was read of the two recordings was compared.
 use Rattle.std.proofs.Common.{◌≡◌, ◌+◌, List, false}
-use Rattle.dmr_compare.specs.Comparing.{StandBeside}
+use Rattle.dmr_compare.proofs.SlotsBeside.{SlotsBeside}
 use Rattle.dmr_compare.specs.Reading.{slots_to_come}
 use Rattle.dmr_compare.specs.Slots.{ListedSlot}
 use Rattle.dmr_compare.proofs.comparing.compare_recordings.Given as goal
@@ -12,7 +12,7 @@ invariant-loop-found g l = record {
   sink : g.K.Sink.has_failed l.sink ≡ false;
   one : l.one.recording ≡ l.fn.recording;
   other : l.other.recording ≡ l.fn.recording;
-  beside : (firsts : List ListedSlot) × (seconds : List ListedSlot) × StandBeside l.settings l.one l.other l.counts firsts seconds
+  beside : (firsts : List ListedSlot) × (seconds : List ListedSlot) × SlotsBeside l.settings l.one l.other l.counts firsts seconds
       (g.S.Source.left l.fn.first) (g.S.Source.left l.first) (g.T.Source.left l.fn.second) (g.T.Source.left l.second)
       (g.K.Sink.held l.fn.sink) (g.K.Sink.held l.sink);
 }
