@@ -1,0 +1,13 @@
+pub mod Agreeing
+pub mod CallShapes
+pub mod Calls
+pub mod CallsTold
+pub mod Decided
+pub mod Followed
+pub mod Growing
+pub mod Pushes
+pub mod SameFile
+pub mod Sending
+pub mod Shapes
+pub mod Slots
+pub mod Whole

@@ -1,0 +1,2 @@
+pub mod CallEntries
+pub mod WholeLogs

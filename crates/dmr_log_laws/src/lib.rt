@@ -1,0 +1,4 @@
+//! Laws of the log of dmr_log that speak of whole recordings.
+#![tactic(auto)]
+
+pub mod laws;
