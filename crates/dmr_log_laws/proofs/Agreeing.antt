@@ -5,9 +5,8 @@ use Rattle.std.proofs.lemmas.List.{length-map}
 use Rattle.dmr_burst.specs.declared.burst.Burst.{Burst}
 use Rattle.dmr_gateway.specs.GatewayRules.{Gate}
 use Rattle.dmr_listing.specs.ListingRules.{GivenInTurn}
-use Rattle.dmr_log.proofs.Pieces.{all_bursts_are_told, each_burst_is_in_one}
 use Rattle.dmr_log.specs.LogRules.{IsFrameLogged, new_log, recorded_burst}
-use Rattle.dmr_log.specs.Pieces.{AreSharedOut, RepeatedFrame}
+use Rattle.dmr_log.specs.Pieces.{AllBurstsAreTold, AreSharedOut, EachBurstIsInOne, RepeatedFrame}
 use Rattle.dmr_log.specs.RecordingLogs.{AreFramesTaken, IsRestTold, Logs, RecordedFrames, silent_frames}
 use Rattle.dmr_log.specs.Transmissions.{is_burst}
 use Rattle.dmr_log.specs.declared.log.FrameTold.{FrameTold}
@@ -29,7 +28,7 @@ use Rattle.dmr_log_laws.proofs.Pushes.{as_in_a_run, bursts_of_outs}
 use Rattle.dmr_log_laws.proofs.SameFile.{handed_1, handed_2}
 use Rattle.dmr_log_laws.proofs.Sending.{run_repeats}
 use Rattle.dmr_log_laws.proofs.Whole.{IsSlotOfLog, slots_of_log}
-use Rattle.dmr_log_laws.specs.WholeLogs.{AgreesWithRuns, EachBurstIsInOneEntry, IsWholeLog, TellsWholeLogs, bursts_of, entries}
+use Rattle.dmr_log_laws.specs.WholeLogs.{AgreesWithRuns, EachBurstIsInOneEntry, IsWholeLog, TellsWholeLogs, burst_total, entries_of}
 use Rattle.dmr_log_laws.specs.WholeLogs.{recorded_in_slot_1, recorded_in_slot_2, repeated_in, told_of_slot_1, told_of_slot_2}
 
 -- 1. What is told of whole recordings.
@@ -50,33 +49,36 @@ given_append L Takes old between new (x ∷ xs) ys (next, first, rest) b =
 
 -- whole recordings are told as one log
 pub tells_whole_logs : (L : Type 0) (Takes : L → FrameTold → L → Type 0) → TellsWholeLogs L Takes
-tells_whole_logs L Takes colour gateway frames read log left_old left_new old between new taken rest =
-    (taken.told ++ (rest.told ++ log.told ∷ []), record {
-      of_frames = taken.told ++ rest.told;
-      decided = rest.decided;
-      logged = logs_append (new_log colour gateway) read rest.decided frames (silent_frames 5) taken.told rest.told taken.logged
-          rest.logged;
-      ended = rest.ended;
-      all = sym (append_assoc taken.told rest.told (log.told ∷ []));
-    }, given_append L Takes old between new taken.told (rest.told ++ log.told ∷ []) taken.given rest.given)
+tells_whole_logs L Takes colour gateway frames read log left_old left_new old between new taken rest = (
+  taken.told ++ (rest.told ++ log.told ∷ []),
+  record {
+    of_frames = taken.told ++ rest.told;
+    decided = rest.decided;
+    logged = logs_append (new_log colour gateway) read rest.decided frames (silent_frames 5) taken.told rest.told taken.logged
+        rest.logged;
+    ended = rest.ended;
+    all = sym (append_assoc taken.told rest.told (log.told ∷ []));
+  },
+  given_append L Takes old between new taken.told (rest.told ++ log.told ∷ []) taken.given rest.given,
+)
 
 -- 2. One slot.
 
 few_frames : (n m : ℕ) → n ≤ frame_limit → m ≡ n → m < 2 ^ 32
 few_frames n m few e = omega (arith, few, e)
 
-shared_out : (colour : ℕ) (slots : List (Option (List ℕ))) (told : List SlotTold) (bursts : List (Option Burst))
+shared_out : EachBurstIsInOne → (colour : ℕ) (slots : List (Option (List ℕ))) (told : List SlotTold) (bursts : List (Option Burst))
     → length slots ≤ frame_limit → IsSlotLog colour slots told bursts
-    → AreSharedOut 0 (repeated_in (length slots) told) (entries told)
-shared_out colour slots told bursts few so =
+    → AreSharedOut 0 (repeated_in (length slots) told) (entries_of told)
+shared_out each_burst_is_in_one colour slots told bursts few so =
     subst (λ (l : List Transmission). AreSharedOut 0 (repeated_in (length slots) told) l) (sym so.all)
     (subst (λ (l : List Repeated). AreSharedOut 0 l (so.ended ++ option_to_list so.last)) so.repeats
     (each_burst_is_in_one so.frames so.ended so.last (few_frames (length slots) (length so.frames) few so.long) so.followed))
 
-bursts_told : (colour : ℕ) (slots : List (Option (List ℕ))) (told : List SlotTold) (bursts : List (Option Burst))
-    → length slots ≤ frame_limit → IsSlotLog colour slots told bursts → bursts_of (entries told) ≡ count_by is_some bursts
-bursts_told colour slots told bursts few so =
-    ap bursts_of so.all
+bursts_told : AllBurstsAreTold → (colour : ℕ) (slots : List (Option (List ℕ))) (told : List SlotTold) (bursts : List (Option Burst))
+    → length slots ≤ frame_limit → IsSlotLog colour slots told bursts → burst_total (entries_of told) ≡ count_by is_some bursts
+bursts_told all_bursts_are_told colour slots told bursts few so =
+    ap burst_total so.all
     ∙ all_bursts_are_told so.frames so.ended so.last (few_frames (length slots) (length so.frames) few so.long) so.followed
     ∙ so.counted
 
@@ -108,16 +110,16 @@ recorded_long_2 : (frames : RecordedFrames) → length (recorded_in_slot_2 frame
 recorded_long_2 frames = length-map frames _
 
 -- the entries of each slot share out its frames
-pub each_burst_is_in_one_entry : EachBurstIsInOneEntry
-each_burst_is_in_one_entry colour gateway frames told log few whole =
+pub each_burst_is_in_one_entry : EachBurstIsInOne → EachBurstIsInOneEntry
+each_burst_is_in_one_entry law colour gateway frames told log few whole =
     let both = slots_of_log colour gateway frames told log whole in
     let one = recorded_long_1 frames in
     let two = recorded_long_2 frames in (
-      subst (λ (n : ℕ). AreSharedOut 0 (repeated_in n (told_of_slot_1 told)) (entries (told_of_slot_1 told))) one
-          (shared_out colour (recorded_in_slot_1 frames) (told_of_slot_1 told) both.bursts_1 (omega (arith, few, one))
+      subst (λ (n : ℕ). AreSharedOut 0 (repeated_in n (told_of_slot_1 told)) (entries_of (told_of_slot_1 told))) one
+          (shared_out law colour (recorded_in_slot_1 frames) (told_of_slot_1 told) both.bursts_1 (omega (arith, few, one))
           (slot_log_of colour _ _ _ both.slot_1)),
-      subst (λ (n : ℕ). AreSharedOut 0 (repeated_in n (told_of_slot_2 told)) (entries (told_of_slot_2 told))) two
-          (shared_out colour (recorded_in_slot_2 frames) (told_of_slot_2 told) both.bursts_2 (omega (arith, few, two))
+      subst (λ (n : ℕ). AreSharedOut 0 (repeated_in n (told_of_slot_2 told)) (entries_of (told_of_slot_2 told))) two
+          (shared_out law colour (recorded_in_slot_2 frames) (told_of_slot_2 told) both.bursts_2 (omega (arith, few, two))
           (slot_log_of colour _ _ _ both.slot_2)),
     )
 
@@ -125,15 +127,15 @@ sums_agree : (a b c d e f r k : ℕ) → a ≡ c → b ≡ d → e ≡ c → f �
 sums_agree a b c d e f r k p q s t u v = omega (arith, p, q, s, t, u, v)
 
 -- the entries of both slots tell as many bursts as a run over the same file counts, and so does the log
-pub agrees_with_runs : AgreesWithRuns
-agrees_with_runs gateway frames told log s uplink sendings repeated counts old new few whole same writes =
+pub agrees_with_runs : AllBurstsAreTold → AgreesWithRuns
+agrees_with_runs law gateway frames told log s uplink sendings repeated counts old new few whole same writes =
     let both = slots_of_log s.colour gateway frames told log whole in
     let makes = writes.rules.makes in
     let one = recorded_long_1 frames in
     let two = recorded_long_2 frames in
-    let told_1 = bursts_told s.colour (recorded_in_slot_1 frames) (told_of_slot_1 told) both.bursts_1 (omega (arith, few, one))
+    let told_1 = bursts_told law s.colour (recorded_in_slot_1 frames) (told_of_slot_1 told) both.bursts_1 (omega (arith, few, one))
     (slot_log_of s.colour _ _ _ both.slot_1) in
-    let told_2 = bursts_told s.colour (recorded_in_slot_2 frames) (told_of_slot_2 told) both.bursts_2 (omega (arith, few, two))
+    let told_2 = bursts_told law s.colour (recorded_in_slot_2 frames) (told_of_slot_2 told) both.bursts_2 (omega (arith, few, two))
     (slot_log_of s.colour _ _ _ both.slot_2) in
     let run_1 = as_many s.colour s.call_hang (recorded_in_slot_1 frames) (slots_in 0 (handed_frames uplink)) (told_of_slot_1 told)
     both.bursts_1 makes.first makes.first_line.after both.slot_1 (handed_1 frames uplink same) makes.first_line.pushed in
@@ -144,5 +146,5 @@ agrees_with_runs gateway frames told log s uplink sendings repeated counts old n
     let counted = both.counts few in (
       sums_agree _ _ _ _ _ _ _ _ told_1 told_2 run_1 run_2 repeats run,
       counted
-      ∙ sums_agree (count_by is_some both.bursts_1) (count_by is_some both.bursts_2) _ _ _ _ _ _ refl refl run_1 run_2 repeats run,
+          ∙ sums_agree (count_by is_some both.bursts_1) (count_by is_some both.bursts_2) _ _ _ _ _ _ refl refl run_1 run_2 repeats run,
     )

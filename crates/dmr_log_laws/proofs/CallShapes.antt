@@ -1,6 +1,8 @@
 -- The shape of each call: what a log is told to repeat for it, frame by frame.
-use Rattle.std.proofs.Common.{◌≡◌, ℕ, zero, suc, ◌+◌, ◌-◌, ◌<◌, ◌≤◌, ◌^◌, Bool, true, false, cond, not, List, [], ◌∷◌, ◌++◌, length, map}
-use Rattle.std.proofs.Common.{flat_map, replicate, count_by, Option, Some, None, refl, sym, ap, ◌∙◌, subst, arith, append-nil, inl, inr}
+use Rattle.std.proofs.Common.{◌≡◌, ℕ, zero, suc, ◌+◌, ◌-◌, ◌<◌, ◌≤◌, ◌^◌, Bool, true, false, cond, not, List, [], ◌∷◌, ◌++◌, length}
+use Rattle.std.proofs.Common.{map}
+use Rattle.std.proofs.Common.{flat_map, replicate, count_by, Option, Some, None, refl, sym, ap, ◌∙◌, subst, arith, append-nil, inl}
+use Rattle.std.proofs.Common.{inr}
 use Rattle.std.proofs.Common.{is_some, IfSome, if◌then◌else◌, zip, drop}
 use Rattle.std.specs.List.{AllByRecursion, AllZip}
 use Rattle.std.specs.Option.{option_or}
@@ -18,7 +20,8 @@ use Rattle.dmr_log_laws.proofs.Shapes.{AreShort, AreShownAs, IsShownAs, all_head
 use Rattle.dmr_log_laws.proofs.Shapes.{header_repeats, join_shown, known_behind, lc_told, place_repeats, places_shown, unsaid_shown}
 use Rattle.dmr_log_laws.proofs.Slots.{counted_cons}
 use Rattle.dmr_log_laws.specs.CallEntries.{absent_count, call_due, first_meant, last_stage, place_count, slots_before}
-use Rattle.dmr_voice.specs.CallMeaning.{Cell, Ending, Lead, HeaderAgain, PiHeader, Present, Superframe, Terminated, Silenced, Transmission}
+use Rattle.dmr_voice.specs.CallMeaning.{Cell, Ending, Lead, HeaderAgain, PiHeader, Present, Superframe, Terminated, Silenced}
+use Rattle.dmr_voice.specs.CallMeaning.{Transmission}
 use Rattle.dmr_voice.specs.CallMeaning.{VoiceCall, HeadersAlone, LateCall, Controls, DataTry, ForeignParts, cells, data_cell}
 use Rattle.dmr_voice.specs.CallMeaning.{ending_cells, header_cell, is_complete, lead_cell, place_cell, superframe_cells, unsaid}
 use Rattle.dmr_voice.specs.WellFormed.{EndsWell, IsTransmission, Unbroken, Within, presence}
@@ -63,23 +66,23 @@ AreHeaders (repeated.CallHeader lc ∷ rs) = AreHeaders rs
 AreHeaders (r ∷ rs) = ⊥
 
 -- what stands behind headers counts as it did
-record IsBehindHeaders (as bs : List Repeated) : Type 0 where
-  places : places_in (as ++ bs) ≡ places_in bs
-  filled : filled_in (as ++ bs) ≡ filled_in bs
-  stage : stage_behind stage.Headers (as ++ bs) ≡ stage_behind stage.Headers bs
-  order : InOrder stage.Headers bs → InOrder stage.Headers (as ++ bs)
+record IsBehindHeaders (xs bs : List Repeated) : Type 0 where
+  places : places_in (xs ++ bs) ≡ places_in bs
+  filled : filled_in (xs ++ bs) ≡ filled_in bs
+  going : stage_behind stage.Headers (xs ++ bs) ≡ stage_behind stage.Headers bs
+  order : InOrder stage.Headers bs → InOrder stage.Headers (xs ++ bs)
 
-behind_headers : (as bs : List Repeated) → AreHeaders as → IsBehindHeaders as bs
-behind_headers [] bs are = record { places = refl; filled = refl; stage = refl; order = λ o. o }
-behind_headers (repeated.Nothing ∷ as) bs are = absurd are
-behind_headers (repeated.CallHeader lc ∷ as) bs are =
-    let more = behind_headers as bs are in
-    record { places = more.places; filled = more.filled; stage = more.stage; order = λ o. (refl, more.order o) }
-behind_headers (repeated.Place lc f ∷ as) bs are = absurd are
-behind_headers (repeated.Terminator lc ∷ as) bs are = absurd are
-behind_headers (repeated.DataHeader head ∷ as) bs are = absurd are
-behind_headers (repeated.Block type ∷ as) bs are = absurd are
-behind_headers (repeated.Control kind ∷ as) bs are = absurd are
+behind_headers : (xs bs : List Repeated) → AreHeaders xs → IsBehindHeaders xs bs
+behind_headers [] bs are = record { places = refl; filled = refl; going = refl; order = λ o. o }
+behind_headers (repeated.Nothing ∷ xs) bs are = absurd are
+behind_headers (repeated.CallHeader lc ∷ xs) bs are =
+    let more = behind_headers xs bs are in
+    record { places = more.places; filled = more.filled; going = more.going; order = λ o. (refl, more.order o) }
+behind_headers (repeated.Place lc f ∷ xs) bs are = absurd are
+behind_headers (repeated.Terminator lc ∷ xs) bs are = absurd are
+behind_headers (repeated.DataHeader head ∷ xs) bs are = absurd are
+behind_headers (repeated.Block type ∷ xs) bs are = absurd are
+behind_headers (repeated.Control kind ∷ xs) bs are = absurd are
 
 leads_are : (lc : FullLc) (leads : List Lead) → AreHeaders (header_repeats lc leads)
 leads_are lc [] = tt
@@ -95,38 +98,38 @@ ArePlaces [] = Unit {0}
 ArePlaces (repeated.Place lc f ∷ rs) = ArePlaces rs
 ArePlaces (r ∷ rs) = ⊥
 
-record IsBehindPlaces (as bs : List Repeated) : Type 0 where
-  places : places_in (as ++ bs) ≡ length as + places_in bs
-  filled : filled_in (as ++ bs) ≡ filled_in as + filled_in bs
-  stage : stage_behind stage.Places (as ++ bs) ≡ stage_behind stage.Places bs
+record IsBehindPlaces (xs bs : List Repeated) : Type 0 where
+  places : places_in (xs ++ bs) ≡ length xs + places_in bs
+  filled : filled_in (xs ++ bs) ≡ filled_in xs + filled_in bs
+  going : stage_behind stage.Places (xs ++ bs) ≡ stage_behind stage.Places bs
   order : (s : CallStage) → is_terminated s ≡ false → ((t : CallStage) → is_terminated t ≡ false → InOrder t bs)
-      → InOrder s (as ++ bs)
+      → InOrder s (xs ++ bs)
 
-behind_places : (as bs : List Repeated) → ArePlaces as → IsBehindPlaces as bs
+behind_places : (xs bs : List Repeated) → ArePlaces xs → IsBehindPlaces xs bs
 behind_places [] bs are =
-    record { places = omega arith; filled = omega arith; stage = refl; order = λ s open ordered. ordered s open }
-behind_places (repeated.Nothing ∷ as) bs are = absurd are
-behind_places (repeated.CallHeader lc ∷ as) bs are = absurd are
-behind_places (repeated.Place lc f ∷ as) bs are =
-    let more = behind_places as bs are in
+    record { places = omega arith; filled = omega arith; going = refl; order = λ s going ordered. ordered s going }
+behind_places (repeated.Nothing ∷ xs) bs are = absurd are
+behind_places (repeated.CallHeader lc ∷ xs) bs are = absurd are
+behind_places (repeated.Place lc f ∷ xs) bs are =
+    let more = behind_places xs bs are in
     let p = more.places in
     let q = more.filled in
     record {
       places = omega (arith, p);
       filled = omega (arith, q);
-      stage = more.stage;
-      order = λ s open ordered. (open, more.order stage.Places refl ordered);
+      going = more.going;
+      order = λ s going ordered. (going, more.order stage.Places refl ordered);
     }
-behind_places (repeated.Terminator lc ∷ as) bs are = absurd are
-behind_places (repeated.DataHeader head ∷ as) bs are = absurd are
-behind_places (repeated.Block type ∷ as) bs are = absurd are
-behind_places (repeated.Control kind ∷ as) bs are = absurd are
+behind_places (repeated.Terminator lc ∷ xs) bs are = absurd are
+behind_places (repeated.DataHeader head ∷ xs) bs are = absurd are
+behind_places (repeated.Block type ∷ xs) bs are = absurd are
+behind_places (repeated.Control kind ∷ xs) bs are = absurd are
 
 -- what terminators count
 record AreEndings (lc : FullLc) (ending : Ending) : Type 0 where
   places : places_in (ending_repeats lc ending) ≡ 0
   filled : filled_in (ending_repeats lc ending) ≡ 0
-  stage : (s : CallStage) → stage_behind s (ending_repeats lc ending) ≡ last_stage lc ending s
+  going : (s : CallStage) → stage_behind s (ending_repeats lc ending) ≡ last_stage lc ending s
   order : (s : CallStage) → is_terminated s ≡ false → InOrder s (ending_repeats lc ending)
 
 terminators_count : (lc : FullLc) (n : ℕ) → (places_in (replicate n (repeated.Terminator (Some lc))) ≡ 0)
@@ -138,14 +141,14 @@ terminators_count lc (suc n) =
     let more = terminators_count lc n in (more.0, more.1, more.2, (inr refl, more.3))
 
 endings_are : (lc : FullLc) (ending : Ending) → AreEndings lc ending
-endings_are lc Silenced = record { places = refl; filled = refl; stage = λ s. refl; order = λ s open. tt }
+endings_are lc Silenced = record { places = refl; filled = refl; going = λ s. refl; order = λ s going. tt }
 endings_are lc (Terminated information more) =
     let rest = terminators_count lc more in
     record {
       places = rest.0;
       filled = rest.1;
-      stage = λ s. rest.2;
-      order = λ s open. (inl open, rest.3);
+      going = λ s. rest.2;
+      order = λ s going. (inl going, rest.3);
     }
 
 -- 3. The places of superframes.
@@ -212,12 +215,12 @@ short_by ss Silenced well = short_silenced ss well
 
 -- 4. Which slots are not silent.
 
-zip_join : {X Y : Type 0} (R : X → Y → Type 0) (as bs : List X) (es fs : List Y) → AllZip R as es → AllZip R bs fs
-    → AllZip R (as ++ bs) (es ++ fs)
+zip_join : {X Y : Type 0} (R : X → Y → Type 0) (xs bs : List X) (es fs : List Y) → AllZip R xs es → AllZip R bs fs
+    → AllZip R (xs ++ bs) (es ++ fs)
 zip_join R [] bs [] fs p q = q
 zip_join R [] bs (e ∷ es) fs p q = absurd p
-zip_join R (a ∷ as) bs [] fs p q = absurd p
-zip_join R (a ∷ as) bs (e ∷ es) fs p q = (p.0, zip_join R as bs es fs p.1 q)
+zip_join R (a ∷ xs) bs [] fs p q = absurd p
+zip_join R (a ∷ xs) bs (e ∷ es) fs p q = (p.0, zip_join R xs bs es fs p.1 q)
 
 abbrev ending_louds : Ending → List Bool
 ending_louds Silenced = []
@@ -275,11 +278,11 @@ places_loud colour call (s ∷ ss) short =
     (some_loud colour s.carries (option_or own known) (role.Call known) (A ∷ B ∷ C ∷ D ∷ E ∷ F ∷ []) s.places short.0)
     (places_loud colour known ss short.1)
 
-ends_append : (as bs : List Bool) → EndsTrue bs → EndsTrue (as ++ bs)
+ends_append : (xs bs : List Bool) → EndsTrue bs → EndsTrue (xs ++ bs)
 ends_append [] bs ends = ends
 ends_append (a ∷ []) [] ends = absurd ends
 ends_append (a ∷ []) (b ∷ bs) ends = ends
-ends_append (a ∷ c ∷ as) bs ends = ends_append (c ∷ as) bs ends
+ends_append (a ∷ c ∷ xs) bs ends = ends_append (c ∷ xs) bs ends
 
 unbroken_ends : (bs : List Bool) → Unbroken bs → 1 ≤ length bs → EndsTrue bs
 unbroken_ends [] u some = absurd (omega (arith, some))
@@ -303,15 +306,22 @@ leads_end [] = refl
 leads_end (lead ∷ leads) = leads_end leads
 
 headers_end : (leads : List Lead) (ending : Ending) → EndsTrue ((true ∷ map (λ (lead : Lead). true) leads) ++ ending_louds ending)
-headers_end leads (Terminated information more) = ends_append _ (replicate (suc more) true) (all_true more)
+headers_end leads (Terminated information more) =
+    ends_append (true ∷ map (λ (lead : Lead). true) leads) (replicate (suc more) true) (all_true more)
 headers_end leads Silenced = subst EndsTrue (sym (append-nil (true ∷ map (λ (lead : Lead). true) leads))) (leads_end leads)
 
 -- 5. Each kind of call.
 
+call_fields : (s s' : CallStage) (l l' : Option FullLc) (i i' : Bool) (p p' f f' : ℕ) → s ≡ s' → l ≡ l' → i ≡ i' → p ≡ p'
+    → f ≡ f'
+    → ◌≡◌ {A = Call} (record { stage = s; link_control = l; is_late = i; places = p; filled = f })
+    (record { stage = s'; link_control = l'; is_late = i'; places = p'; filled = f' })
+call_fields s s' l l' i i' p p' f f' a b c d e = cc
+
 call_by : (a b : Call) → a.stage ≡ b.stage → a.link_control ≡ b.link_control → a.is_late ≡ b.is_late → a.places ≡ b.places
     → a.filled ≡ b.filled → a ≡ b
-call_by (record { stage = s; link_control = l; is_late = i; places = p; filled = f })
-    (record { stage = s'; link_control = l'; is_late = i'; places = p'; filled = f' }) c d e g h = cc
+call_by a b c d e g h =
+    call_fields a.stage b.stage a.link_control b.link_control a.is_late b.is_late a.places b.places a.filled b.filled c d e g h
 
 -- a call of which headers came
 abbrev behind_header : FullLc → Call
@@ -343,7 +353,7 @@ headers_shape colour lc header leads ending =
           let q = behind.filled in
           let r = ends.places in
           let s = ends.filled in
-          call_by end _ (b.stage ∙ behind.stage ∙ ends.stage stage.Headers) b.link_control b.late
+          call_by end _ (b.stage ∙ behind.going ∙ ends.going stage.Headers) b.link_control b.late
           (omega (arith, places, p, r)) (omega (arith, filled, q, s));
     }
 
@@ -354,16 +364,16 @@ voice_repeats lc leads gap ss ending =
     ++ (replicate gap (repeated.CallHeader (Some lc)) ++ (place_repeats (Some lc) ss ++ ending_repeats lc ending))
 
 -- places in front of others bring a call to its voice
-at_places : (as bs : List Repeated) → ArePlaces as → 1 ≤ length as
-    → stage_behind stage.Headers (as ++ bs) ≡ stage_behind stage.Places bs
+at_places : (xs bs : List Repeated) → ArePlaces xs → 1 ≤ length xs
+    → stage_behind stage.Headers (xs ++ bs) ≡ stage_behind stage.Places bs
 at_places [] bs are some = absurd (omega (arith, some))
-at_places (repeated.Nothing ∷ as) bs are some = absurd are
-at_places (repeated.CallHeader lc ∷ as) bs are some = absurd are
-at_places (repeated.Place lc f ∷ as) bs are some = (behind_places as bs are).stage
-at_places (repeated.Terminator lc ∷ as) bs are some = absurd are
-at_places (repeated.DataHeader head ∷ as) bs are some = absurd are
-at_places (repeated.Block type ∷ as) bs are some = absurd are
-at_places (repeated.Control kind ∷ as) bs are some = absurd are
+at_places (repeated.Nothing ∷ xs) bs are some = absurd are
+at_places (repeated.CallHeader lc ∷ xs) bs are some = absurd are
+at_places (repeated.Place lc f ∷ xs) bs are some = (behind_places xs bs are).going
+at_places (repeated.Terminator lc ∷ xs) bs are some = absurd are
+at_places (repeated.DataHeader head ∷ xs) bs are some = absurd are
+at_places (repeated.Block type ∷ xs) bs are some = absurd are
+at_places (repeated.Control kind ∷ xs) bs are some = absurd are
 
 voice_shape : (colour : ℕ) (lc : FullLc) (header : List Bool) (leads : List Lead) (gap : ℕ) (ss : List Superframe)
     (ending : Ending) → IsTransmission colour (VoiceCall lc header leads gap ss ending)
@@ -401,7 +411,7 @@ voice_shape colour lc header leads gap ss ending well =
       first = behind_header lc;
       begins = tt;
       begun = refl;
-      order = by_leads.order (by_gap.order (by_places.order stage.Headers refl (λ t open. ends.order t open)));
+      order = by_leads.order (by_gap.order (by_places.order stage.Headers refl (λ t going. ends.order t going)));
       few = (omega arith, omega arith);
       behind = λ end b.
           let p = b.places ∙ ap (λ (n : ℕ). 0 + n) (by_leads.places ∙ by_gap.places ∙ by_places.places) in
@@ -409,30 +419,30 @@ voice_shape colour lc header leads gap ss ending well =
           let r = ends.places in
           let s = ends.filled in
           call_by end _
-          (b.stage ∙ by_leads.stage ∙ by_gap.stage ∙ at_places places (ending_repeats lc ending) are (omega (arith, long, some))
-          ∙ ends.stage stage.Places)
+          (b.stage ∙ by_leads.going ∙ by_gap.going ∙ at_places places (ending_repeats lc ending) are (omega (arith, long, some))
+          ∙ ends.going stage.Places)
           b.link_control b.late (omega (arith, p, r, long)) (omega (arith, q, s, absent));
     }
 
 -- 6. Late calls.
 
 -- the first of some places
-record IsFirstPlace (as : List Repeated) : Type 0 where
+record IsFirstPlace (xs : List Repeated) : Type 0 where
   known : Option FullLc
   is_filled : Bool
   rest : List Repeated
-  is : as ≡ repeated.Place known is_filled ∷ rest
+  is : xs ≡ repeated.Place known is_filled ∷ rest
   are : ArePlaces rest
 
-first_place : (as : List Repeated) → ArePlaces as → 1 ≤ length as → IsFirstPlace as
+first_place : (xs : List Repeated) → ArePlaces xs → 1 ≤ length xs → IsFirstPlace xs
 first_place [] are some = absurd (omega (arith, some))
-first_place (repeated.Nothing ∷ as) are some = absurd are
-first_place (repeated.CallHeader lc ∷ as) are some = absurd are
-first_place (repeated.Place lc f ∷ as) are some = record { known = lc; is_filled = f; rest = as; is = refl; are = are }
-first_place (repeated.Terminator lc ∷ as) are some = absurd are
-first_place (repeated.DataHeader head ∷ as) are some = absurd are
-first_place (repeated.Block type ∷ as) are some = absurd are
-first_place (repeated.Control kind ∷ as) are some = absurd are
+first_place (repeated.Nothing ∷ xs) are some = absurd are
+first_place (repeated.CallHeader lc ∷ xs) are some = absurd are
+first_place (repeated.Place lc f ∷ xs) are some = record { known = lc; is_filled = f; rest = xs; is = refl; are = are }
+first_place (repeated.Terminator lc ∷ xs) are some = absurd are
+first_place (repeated.DataHeader head ∷ xs) are some = absurd are
+first_place (repeated.Block type ∷ xs) are some = absurd are
+first_place (repeated.Control kind ∷ xs) are some = absurd are
 
 tail_shown : (colour : ℕ) (tail : List Bool)
     → AreShownAs colour (map (λ (there : Bool). unsaid (if there then CutOff else Silent)) tail)
@@ -490,7 +500,7 @@ late_shape colour lc tail ss ending well =
       louds = map (λ (there : Bool). false) tail ++ (presence ss ++ ending_louds ending);
       loud = zip_join IsLoud _ _ _ _ (tail_quiet tail)
           (zip_join IsLoud _ _ _ _ (places_loud colour None ss short) (endings_loud lc ending));
-      ends = ends_append _ _ (ends_so ss ending well.4 some);
+      ends = ends_append (map (λ (there : Bool). false) tail) (presence ss ++ ending_louds ending) (ends_so ss ending well.4 some);
       first = record {
         stage = stage.Places;
         link_control = f.known;
@@ -500,7 +510,7 @@ late_shape colour lc tail ss ending well =
       };
       begins = tt;
       begun = refl;
-      order = by_places.order stage.Places refl (λ t open. ends.order t open);
+      order = by_places.order stage.Places refl (λ t going. ends.order t going);
       few = (omega arith, omega (arith, once_is, once_few));
       behind = λ end b.
           let p = b.places in
@@ -509,7 +519,7 @@ late_shape colour lc tail ss ending well =
           let q' = by_places.filled in
           let r = ends.places in
           let s = ends.filled in
-          call_by end _ (b.stage ∙ by_places.stage ∙ ends.stage stage.Places)
+          call_by end _ (b.stage ∙ by_places.going ∙ ends.going stage.Places)
           (b.link_control
           ∙ sym (nothing_first (length tail) (repeated.Place f.known f.is_filled ∷ (f.rest ++ ending_repeats lc ending)))
           ∙ sym (told_is_meant colour _ _ shown))

@@ -1,6 +1,8 @@
 -- Each call of what was sent in a slot is told.
-use Rattle.std.proofs.Common.{◌≡◌, ◌≢◌, ℕ, zero, suc, ◌+◌, ◌-◌, ◌<◌, ◌≤◌, ◌^◌, ◌⊎◌, inl, inr, Bool, true, false, cond, not, List, [], ◌∷◌}
-use Rattle.std.proofs.Common.{◌++◌, length, map, flat_map, replicate, drop, count_by, Option, Some, None, option_to_list, option_map}
+use Rattle.std.proofs.Common.{◌≡◌, ◌≢◌, ℕ, zero, suc, ◌+◌, ◌-◌, ◌<◌, ◌≤◌, ◌^◌, ◌⊎◌, inl, inr, Bool, true, false, cond, not, List}
+use Rattle.std.proofs.Common.{[], ◌∷◌}
+use Rattle.std.proofs.Common.{◌++◌, length, map, flat_map, replicate, drop, count_by, Option, Some, None, option_to_list}
+use Rattle.std.proofs.Common.{option_map}
 use Rattle.std.proofs.Common.{refl, sym, ap, ◌∙◌, subst, arith, append_assoc, append-nil, Contains, is_some, IfSome}
 use Rattle.std.proofs.lemmas.List.{length-append, length-map}
 use Rattle.std.proofs.lemmas.List.Elements.{Contains-append_left, Contains-append_right}
@@ -10,6 +12,7 @@ use Rattle.dmr_hearing.specs.Slots.{Silent, CutOff}
 use Rattle.dmr_link.specs.declared.full_lc.FullLc.{FullLc}
 use Rattle.dmr_log.specs.Pieces.{AreFollowed, RepeatedFrame}
 use Rattle.dmr_log.specs.Transmissions.{IsStep, begun_in, begun_subject, in_frame, one_frame}
+use Rattle.dmr_log.specs.declared.checks.Checks.{Checks}
 use Rattle.dmr_log.specs.declared.repeated.Repeated.{Repeated}
 use Rattle.dmr_log.specs.declared.repeated.Repeated.TheVariants as repeated
 use Rattle.dmr_log.specs.declared.transmission.Call.{Call}
@@ -36,9 +39,9 @@ pub record AreFollowedInTwo (current : Option Entry) (n : ℕ) (front rest : Lis
     (last : Option Entry) : Type 0 where
   pub before : List Entry
   pub after : List Entry
-  pub open : Option Entry
-  pub first : AreFollowed current n front before open
-  pub second : AreFollowed open (n + length front) rest after last
+  pub going : Option Entry
+  pub first : AreFollowed current n front before going
+  pub second : AreFollowed going (n + length front) rest after last
   pub all : ended ≡ before ++ after
 
 pub in_two : (current : Option Entry) (n : ℕ) (front rest : List RepeatedFrame) (ended : List Entry) (last : Option Entry)
@@ -48,7 +51,7 @@ in_two current n [] rest ended last followed =
     record {
       before = [];
       after = ended;
-      open = current;
+      going = current;
       first = (refl, refl);
       second = subst (λ (k : ℕ). AreFollowed current k rest ended last) (sym here) followed;
       all = refl;
@@ -60,9 +63,9 @@ in_two current n (f ∷ front) rest ended last (one, next, more, step, told, lat
     record {
       before = head ++ two.before;
       after = two.after;
-      open = two.open;
+      going = two.going;
       first = (one, next, two.before, step, refl, two.first);
-      second = subst (λ (k : ℕ). AreFollowed two.open k rest two.after last) here two.second;
+      second = subst (λ (k : ℕ). AreFollowed two.going k rest two.after last) here two.second;
       all = told ∙ ap (λ (l : List Entry). head ++ l) two.all ∙ sym (append_assoc head two.before two.after);
     }
 
@@ -106,7 +109,8 @@ shown_in_two colour (c ∷ cs) ds (f ∷ frames) shown =
 
 -- 2. Cells that are shown whole.
 
-not_silent : (colour : ℕ) (cs ds : List Cell) (bs : List Bool) → AllZip IsLoud cs bs → EndsTrue bs → AreShown colour (cs ++ ds) []
+-- lemma: not_silent
+pub not_silent : (colour : ℕ) (cs ds : List Cell) (bs : List Bool) → AllZip IsLoud cs bs → EndsTrue bs → AreShown colour (cs ++ ds) []
     → ⊥
 not_silent colour [] ds [] loud ends shown = ends
 not_silent colour [] ds (b ∷ bs) loud ends shown = absurd loud
@@ -124,8 +128,8 @@ pub record AreWhole (colour : ℕ) (es : List Repeated) (ds : List Cell) (frames
   pub repeats : repeats_of front ≡ es
   pub behind : AreShown colour ds (repeats_of rest)
 
-cons_repeats : (a b : Repeated) (as bs : List Repeated) → a ≡ b → as ≡ bs → a ∷ as ≡ b ∷ bs
-cons_repeats a b as bs p q = cc
+cons_repeats : (a b : Repeated) (xs bs : List Repeated) → a ≡ b → xs ≡ bs → a ∷ xs ≡ b ∷ bs
+cons_repeats a b xs bs p q = cc
 
 ends_behind : (c : Cell) (cs : List Cell) (b : Bool) (bs : List Bool) → AllZip IsLoud cs bs → (c ∷ cs ≡ []) ⊎ EndsTrue (b ∷ bs)
     → (cs ≡ []) ⊎ EndsTrue bs
@@ -137,21 +141,21 @@ ends_behind c (x ∷ cs) b (y ∷ bs) loud (inr ends) = inr ends
 whole_behind : (colour : ℕ) (cs ds : List Cell) (es : List Repeated) (bs : List Bool) (frames : List RepeatedFrame)
     → AreShownAs colour cs es → AllZip IsLoud cs bs → (cs ≡ []) ⊎ EndsTrue bs → AreShown colour (cs ++ ds) (repeats_of frames)
     → AreWhole colour es ds frames
-whole_behind colour [] ds [] bs frames as loud ends shown =
+whole_behind colour [] ds [] bs frames xs loud ends shown =
     record { front = []; rest = frames; split = refl; repeats = refl; behind = shown }
-whole_behind colour [] ds (e ∷ es) bs frames as loud ends shown = absurd as
-whole_behind colour (c ∷ cs) ds [] bs frames as loud ends shown = absurd as
-whole_behind colour (c ∷ cs) ds (e ∷ es) [] frames as loud ends shown = absurd loud
-whole_behind colour (c ∷ cs) ds (e ∷ es) (b ∷ bs) [] as loud (inl none) shown = cc
-whole_behind colour (c ∷ cs) ds (e ∷ es) (b ∷ bs) [] as loud (inr ends) shown =
+whole_behind colour [] ds (e ∷ es) bs frames xs loud ends shown = absurd xs
+whole_behind colour (c ∷ cs) ds [] bs frames xs loud ends shown = absurd xs
+whole_behind colour (c ∷ cs) ds (e ∷ es) [] frames xs loud ends shown = absurd loud
+whole_behind colour (c ∷ cs) ds (e ∷ es) (b ∷ bs) [] xs loud (inl none) shown = cc
+whole_behind colour (c ∷ cs) ds (e ∷ es) (b ∷ bs) [] xs loud (inr ends) shown =
     absurd (not_silent colour (c ∷ cs) ds (b ∷ bs) loud ends shown)
-whole_behind colour (c ∷ cs) ds (e ∷ es) (b ∷ bs) (f ∷ frames) as loud ends shown =
-    let more = whole_behind colour cs ds es bs frames as.1 loud.1 (ends_behind c cs b bs loud.1 ends) shown.1 in
+whole_behind colour (c ∷ cs) ds (e ∷ es) (b ∷ bs) (f ∷ frames) xs loud ends shown =
+    let more = whole_behind colour cs ds es bs frames xs.1 loud.1 (ends_behind c cs b bs loud.1 ends) shown.1 in
     record {
       front = f ∷ more.front;
       rest = more.rest;
       split = ap (λ (l : List RepeatedFrame). f ∷ l) more.split;
-      repeats = cons_repeats f.0 e (repeats_of more.front) es (as.0.shown f.0 shown.0) more.repeats;
+      repeats = cons_repeats f.0 e (repeats_of more.front) es (xs.0.shown f.0 shown.0) more.repeats;
       behind = more.behind;
     }
 
@@ -208,25 +212,25 @@ replicate_long zero x = refl
 replicate_long (suc n) x = let more = replicate_long n x in omega (arith, more)
 
 -- frames that repeat two lists, in two
-record AreTwo (frames : List RepeatedFrame) (as bs : List Repeated) : Type 0 where
+record AreTwo (frames : List RepeatedFrame) (xs bs : List Repeated) : Type 0 where
   front : List RepeatedFrame
   rest : List RepeatedFrame
   split : frames ≡ front ++ rest
-  first : repeats_of front ≡ as
+  first : repeats_of front ≡ xs
   second : repeats_of rest ≡ bs
 
-two_of : (frames : List RepeatedFrame) (as bs : List Repeated) → repeats_of frames ≡ as ++ bs → AreTwo frames as bs
+two_of : (frames : List RepeatedFrame) (xs bs : List Repeated) → repeats_of frames ≡ xs ++ bs → AreTwo frames xs bs
 two_of frames [] bs e = record { front = []; rest = frames; split = refl; first = refl; second = e }
-two_of [] (a ∷ as) bs e = cc
-two_of (f ∷ fs) (a ∷ as) bs e =
+two_of [] (a ∷ xs) bs e = cc
+two_of (f ∷ fs) (a ∷ xs) bs e =
     let head : f.0 ≡ a = cc in
-    let tail : repeats_of fs ≡ as ++ bs = cc in
-    let more = two_of fs as bs tail in
+    let tail : repeats_of fs ≡ xs ++ bs = cc in
+    let more = two_of fs xs bs tail in
     record {
       front = f ∷ more.front;
       rest = more.rest;
       split = ap (λ (l : List RepeatedFrame). f ∷ l) more.split;
-      first = cons_repeats f.0 a (repeats_of more.front) as head more.first;
+      first = cons_repeats f.0 a (repeats_of more.front) xs head more.first;
       second = more.second;
     }
 
@@ -240,15 +244,16 @@ record IsPassedOver (colour n : ℕ) (t : Transmission) (due : Option Call) (ds 
   rest : List RepeatedFrame
   before : List Entry
   after : List Entry
-  open : Option Entry
+  going : Option Entry
   place : ℕ
   behind : AreShown colour ds (repeats_of rest)
-  followed : AreFollowed open place rest after last
+  followed : AreFollowed going place rest after last
   all : ended ≡ before ++ after
   whole : (place ≡ n + length (cells colour t)) ⊎ (rest ≡ [])
   few : place + length rest < 2 ^ 32
 
-quiet_behind : (colour : ℕ) (ds : List Cell) (frames : List RepeatedFrame)
+-- lemma: quiet_behind
+pub quiet_behind : (colour : ℕ) (ds : List Cell) (frames : List RepeatedFrame)
     → AreShown colour (unsaid Silent ∷ ds) (repeats_of frames) → IsQuiet frames
 quiet_behind colour ds [] shown = tt
 quiet_behind colour ds (f ∷ fs) shown = unsaid_shown colour Silent f.0 shown.0
@@ -263,8 +268,8 @@ record IsOneCall (first count : ℕ) (call : Call) (rest : List RepeatedFrame) (
     : Type 0 where
   before : List Entry
   after : List Entry
-  open : Option Entry
-  followed : AreFollowed open at rest after last
+  going : Option Entry
+  followed : AreFollowed going at rest after last
   all : ended ≡ before ++ after
   tells : TellsCall (ended ++ option_to_list last) first count call
 
@@ -300,7 +305,7 @@ one_call colour t call shape current m at f fs rest ended last none is are quiet
     record {
       before = head;
       after = more;
-      open = Some stay.entry;
+      going = Some stay.entry;
       followed = stay.followed;
       all = told;
       tells = record {
@@ -321,7 +326,14 @@ two_are_all before between after ended last e = e ∙ sym (append_assoc before b
 
 more_told : (before es : List Entry) (first count : ℕ) (call : Call) → TellsCall es first count call
     → TellsCall (before ++ es) first count call
-more_told before es first count call t = record t { among = Contains-append_right before es t.entry t.among }
+more_told before es first count call t = record {
+  entry = t.entry;
+  among = Contains-append_right before es t.entry t.among;
+  begins = t.begins;
+  frames = t.frames;
+  bursts = t.bursts;
+  tells = t.tells;
+}
 
 call_passed : (colour n : ℕ) (t : Transmission) (call : Call) (shape : IsCallShape colour t call) (ds : List Cell)
     (current : Option Entry) (quiet body rest : List RepeatedFrame) (ended : List Entry) (last : Option Entry)
@@ -332,7 +344,7 @@ call_passed : (colour n : ℕ) (t : Transmission) (call : Call) (shape : IsCallS
 call_passed colour n t call shape ds current quiet [] rest ended last none nothing are behind below followed = cc
 call_passed colour n t call shape ds current quiet (f ∷ fs) rest ended last none nothing are behind below followed =
     let two = in_two current n quiet (f ∷ (fs ++ rest)) ended last followed in
-    let closed = stays_closed current n quiet two.before two.open none (nothing_told (slots_before t) quiet nothing) two.first in
+    let closed = stays_closed current n quiet two.before two.going none (nothing_told (slots_before t) quiet nothing) two.first in
     let head : f.0 ≡ shape.begin = cc in
     let tail : repeats_of fs ≡ shape.more = cc in
     let long_quiet : length quiet ≡ slots_before t =
@@ -345,7 +357,7 @@ call_passed colour n t call shape ds current quiet (f ∷ fs) rest ended last no
     ∙ length-append (replicate (slots_before t) repeated.Nothing) (shape.begin ∷ shape.more)
     ∙ omega (arith, long_fs, replicate_long (slots_before t) repeated.Nothing) in
     let at = n + length quiet + 1 + length fs in
-    let one = one_call colour t call shape two.open (n + length quiet) at f fs rest two.after last closed head tail
+    let one = one_call colour t call shape two.going (n + length quiet) at f fs rest two.after last closed head tail
     (quiet_behind colour ds rest behind) refl (omega (arith, below, all_long, rest_long)) two.second in
     let lifted = more_told two.before (two.after ++ option_to_list last) (n + length quiet) (1 + length fs) call one.tells in
     let all : two.before ++ (two.after ++ option_to_list last) ≡ ended ++ option_to_list last =
@@ -359,7 +371,7 @@ call_passed colour n t call shape ds current quiet (f ∷ fs) rest ended last no
       rest = rest;
       before = two.before ++ one.before;
       after = one.after;
-      open = one.open;
+      going = one.going;
       place = at;
       behind = behind;
       followed = one.followed;
@@ -388,7 +400,7 @@ one_transmission colour n t None shape ds frames current ended last shown none b
       rest = part.rest;
       before = two.before;
       after = two.after;
-      open = two.open;
+      going = two.going;
       place = n + length part.front;
       behind = part.behind;
       followed = two.second;
@@ -424,9 +436,10 @@ pub none_left : (colour n : ℕ) (ts : List (Transmission × ℕ)) (es : List En
     → AreShown colour (sent_from colour ts) [] → AreCallsTold colour n ts es
 none_left colour n [] es well shown = tt
 none_left colour n (t ∷ ts) es well shown =
-    let parts = none_behind colour (cells colour t.0 ++ replicate t.1 (unsaid Silent)) (sent_from colour ts) shown in
-    (no_shape colour t.0 (call_due colour t.0) (replicate t.1 (unsaid Silent)) _ _ es (shape_of colour t.0 well.0) parts.0,
-    none_left colour (n + length (cells colour t.0) + t.1) ts es well.2 parts.1)
+    let parts = none_behind colour (cells colour t.0 ++ replicate t.1 (unsaid Silent)) (sent_from colour ts) shown in (
+      no_shape colour t.0 (call_due colour t.0) (replicate t.1 (unsaid Silent)) _ _ es (shape_of colour t.0 well.0) parts.0,
+      none_left colour (n + length (cells colour t.0) + t.1) ts es well.2 parts.1,
+    )
 
 more_due : (due : Option Call) (before es : List Entry) (first count : ℕ) → IfSome due (λ call. TellsCall es first count call)
     → IfSome due (λ call. TellsCall (before ++ es) first count call)
@@ -450,8 +463,8 @@ AllTold colour ts =
     → AreFollowed current n frames ended last → AreCallsTold colour n ts (ended ++ option_to_list last)
 
 after_pause : (colour n k : ℕ) (ts : List (Transmission × ℕ)) (t : Transmission) (ended : List Entry) (last : Option Entry)
-    → IsWellFormed colour ts → AllTold colour ts → (rest : List RepeatedFrame) (before after : List Entry) (open : Option Entry)
-    (place : ℕ) → AreFollowed open place rest after last → ended ≡ before ++ after
+    → IsWellFormed colour ts → AllTold colour ts → (rest : List RepeatedFrame) (before after : List Entry) (going : Option Entry)
+    (place : ℕ) → AreFollowed going place rest after last → ended ≡ before ++ after
     → place ≡ n + length (cells colour t) → place + length rest < 2 ^ 32
     → (front more : List RepeatedFrame) → rest ≡ front ++ more
     → AreShown colour (replicate (suc k) (unsaid Silent)) (repeats_of front)
@@ -459,18 +472,18 @@ after_pause : (colour n k : ℕ) (ts : List (Transmission × ℕ)) (t : Transmis
     → (length front ≡ length (replicate (suc k) (unsaid Silent))) ⊎ (more ≡ [])
     → AreCallsTold colour (n + length (cells colour t) + suc k) ts (ended ++ option_to_list last)
 unfolding AllTold
-after_pause colour n k ts t ended last well all rest before after open place followed is at few front more split shown behind
+after_pause colour n k ts t ended last well all rest before after going place followed is at few front more split shown behind
     (inr none) =
     none_left colour _ ts _ well (subst (λ (l : List RepeatedFrame). AreShown colour (sent_from colour ts) (repeats_of l)) none behind)
-after_pause colour n k ts t ended last well all rest before after open place followed is at few front more split shown behind
+after_pause colour n k ts t ended last well all rest before after going place followed is at few front more split shown behind
     (inl whole) =
     let long : length front ≡ suc k = whole ∙ replicate_long (suc k) (unsaid Silent) in
-    let two = in_two open place front more after last
-    (subst (λ (l : List RepeatedFrame). AreFollowed open place l after last) split followed) in
-    let closed = is_closed open place front two.before two.open (omega (arith, long)) (pause_shown colour (suc k) front shown)
+    let two = in_two going place front more after last
+    (subst (λ (l : List RepeatedFrame). AreFollowed going place l after last) split followed) in
+    let closed = is_closed going place front two.before two.going (omega (arith, long)) (pause_shown colour (suc k) front shown)
     two.first in
     let longer : length rest ≡ length front + length more = ap length split ∙ length-append front more in
-    let told = all (place + length front) more two.open two.after last behind closed (omega (arith, few, longer)) two.second in
+    let told = all (place + length front) more two.going two.after last behind closed (omega (arith, few, longer)) two.second in
     let same : place + length front ≡ n + length (cells colour t) + suc k = omega (arith, long, at) in
     let all_are : before ++ (two.before ++ (two.after ++ option_to_list last)) ≡ ended ++ option_to_list last =
     ap (λ (l : List Entry). before ++ l) (sym (append_assoc two.before two.after (option_to_list last))
@@ -481,19 +494,19 @@ after_pause colour n k ts t ended last well all rest before after open place fol
     (more_calls colour (place + length front) ts before _ (more_calls colour (place + length front) ts two.before _ told)))
 
 pause_ends : (colour n k : ℕ) (ts : List (Transmission × ℕ)) (t : Transmission) (ended : List Entry) (last : Option Entry)
-    → IsWellFormed colour ts → AllTold colour ts → (rest : List RepeatedFrame) (before after : List Entry) (open : Option Entry)
+    → IsWellFormed colour ts → AllTold colour ts → (rest : List RepeatedFrame) (before after : List Entry) (going : Option Entry)
     (place : ℕ) → AreShown colour (replicate (suc k) (unsaid Silent) ++ sent_from colour ts) (repeats_of rest)
-    → AreFollowed open place rest after last → ended ≡ before ++ after
+    → AreFollowed going place rest after last → ended ≡ before ++ after
     → (place ≡ n + length (cells colour t)) ⊎ (rest ≡ []) → place + length rest < 2 ^ 32
     → AreCallsTold colour (n + length (cells colour t) + suc k) ts (ended ++ option_to_list last)
-pause_ends colour n k ts t ended last well all rest before after open place shown followed is (inr none) few =
+pause_ends colour n k ts t ended last well all rest before after going place shown followed is (inr none) few =
     none_left colour _ ts _ well
     (none_behind colour (replicate (suc k) (unsaid Silent)) (sent_from colour ts)
     (subst (λ (l : List RepeatedFrame). AreShown colour (replicate (suc k) (unsaid Silent) ++ sent_from colour ts) (repeats_of l))
     none shown)).1
-pause_ends colour n k ts t ended last well all rest before after open place shown followed is (inl at) few =
+pause_ends colour n k ts t ended last well all rest before after going place shown followed is (inl at) few =
     let part = shown_in_two colour (replicate (suc k) (unsaid Silent)) (sent_from colour ts) rest shown in
-    after_pause colour n k ts t ended last well all rest before after open place followed is at few part.front part.rest part.split
+    after_pause colour n k ts t ended last well all rest before after going place followed is at few part.front part.rest part.split
     part.shown part.behind part.whole
 
 behind_pause : (colour n k : ℕ) (ts : List (Transmission × ℕ)) (t : Transmission) (ended : List Entry) (last : Option Entry)
@@ -502,9 +515,10 @@ behind_pause : (colour n k : ℕ) (ts : List (Transmission × ℕ)) (t : Transmi
     → AreCallsTold colour (n + length (cells colour t) + suc k) ts (ended ++ option_to_list last)
 unfolding AllTold
 behind_pause colour n k ts t ended last well all due p =
-    pause_ends colour n k ts t ended last well all p.rest p.before p.after p.open p.place p.behind p.followed p.all p.whole p.few
+    pause_ends colour n k ts t ended last well all p.rest p.before p.after p.going p.place p.behind p.followed p.all p.whole p.few
 
-pause_is : (t : Transmission) (n : ℕ) (ts : List (Transmission × ℕ)) → IsPause t n ts → 1 ≤ n
+-- lemma: pause_is
+pub pause_is : (t : Transmission) (n : ℕ) (ts : List (Transmission × ℕ)) → IsPause t n ts → 1 ≤ n
 pause_is (VoiceCall lc header leads gap ss (Terminated information more)) n ts p = p
 pause_is (VoiceCall lc header leads gap ss Silenced) n ts p = omega (arith, p)
 pause_is (HeadersAlone lc header leads (Terminated information more)) n ts p = p

@@ -1,5 +1,6 @@
 -- What a log tells of each slot is what its line gives and what came in it.
-use Rattle.std.proofs.Common.{◌≡◌, ◌≢◌, ℕ, zero, suc, ◌+◌, ◌-◌, true, false, Bool, List, [], ◌∷◌, ◌++◌, length, map, take, drop, replicate}
+use Rattle.std.proofs.Common.{◌≡◌, ◌≢◌, ℕ, zero, suc, ◌+◌, ◌-◌, true, false, Bool, List, [], ◌∷◌, ◌++◌, length, map, take, drop}
+use Rattle.std.proofs.Common.{replicate}
 use Rattle.std.proofs.Common.{Option, Some, None, refl, sym, ap, ◌∙◌, subst, arith, append_assoc, slice_index_or}
 use Rattle.std.specs.List.{AllZip}
 use Rattle.std.specs.Option.{option_map_or}
@@ -150,11 +151,11 @@ heard_so colour c None arrived recorded nothing = record {
   is_voice = ap (λ (a : Arrived). a.is_voice) nothing;
   is_own = ap (λ (a : Arrived). a.is_own) nothing;
 }
-heard_so colour c (Some octets) arrived recorded as = record {
-  heard = as.heard;
-  as_sent = recorded_is_heard colour (Some octets) c.sent as.heard recorded as.hears;
-  is_voice = ap (λ (a : Arrived). a.is_voice) as.value;
-  is_own = ap (λ (a : Arrived). a.is_own) as.value;
+heard_so colour c (Some octets) arrived recorded xs = record {
+  heard = xs.heard;
+  as_sent = recorded_is_heard colour (Some octets) c.sent xs.heard recorded xs.hears;
+  is_voice = ap (λ (a : Arrived). a.is_voice) xs.value;
+  is_own = ap (λ (a : Arrived). a.is_own) xs.value;
 }
 
 shown : (colour missing : ℕ) (cs : List Cell) (slots past : List (Option (List ℕ))) (back : List Said) (outs : List SlotOut)

@@ -1,5 +1,6 @@
 -- How the transmission of a call grows, frame by frame.
-use Rattle.std.proofs.Common.{◌≡◌, ℕ, ◌+◌, ◌-◌, ◌<◌, ◌≤◌, ◌^◌, ◌↔◌, ◌||◌, ◌⊎◌, Bool, true, false, cond, not, List, [], ◌∷◌, ◌++◌, length, map}
+use Rattle.std.proofs.Common.{◌≡◌, ℕ, ◌+◌, ◌-◌, ◌<◌, ◌≤◌, ◌^◌, ◌↔◌, ◌||◌, ◌⊎◌, Bool, true, false, cond, not, List, [], ◌∷◌, ◌++◌}
+use Rattle.std.proofs.Common.{length, map}
 use Rattle.std.proofs.Common.{Option, Some, None, option_to_list, option_map, IsTrue, refl, sym, ap, ◌∙◌, subst, arith, inl, inr}
 use Rattle.std.proofs.Common.{append_assoc, append-nil, Contains, nat_lt}
 use Rattle.std.specs.Option.{option_or}
@@ -81,8 +82,8 @@ one_more n below = omega arith
 
 pair_true : {A B : Type 0} (b : Bool) (x y u : A) (v w z : B) → b ≡ true
     → ◌≡◌ {A = A × B} (x, v) (cond b (y, w) (u, z)) → (x ≡ y) × (v ≡ w)
-pair_true true x y u v w z e p = (ap (λ (q : A × B). q.0) p, ap (λ (q : A × B). q.1) p)
-pair_true false x y u v w z e p = cc
+pair_true {A = A} {B = B} true x y u v w z e p = (ap (λ (q : A × B). q.0) p, ap (λ (q : A × B). q.1) p)
+pair_true {A = A} {B = B} false x y u v w z e p = cc
 
 -- frames in order stay in one transmission, and nothing ends in them
 pub record Stays (first count : ℕ) (c : Call) (more : List RepeatedFrame) (n : ℕ) (ended : List Entry) (last : Option Entry)
@@ -100,7 +101,8 @@ order_bursts stage (repeated.DataHeader head) rs order = absurd order
 order_bursts stage (repeated.Block type) rs order = absurd order
 order_bursts stage (repeated.Control kind) rs order = absurd order
 
-stays_by : (frames more : List RepeatedFrame) (first count n total at : ℕ) (span : Span) (c : Call) (ended : List Entry)
+-- frames in order grow a call
+pub stays_by : (frames more : List RepeatedFrame) (first count n total at : ℕ) (span : Span) (c : Call) (ended : List Entry)
     (last : Option Entry) → span.first ≡ first → span.frames ≡ count → span.bursts ≡ count → total ≡ count + length frames
     → at ≡ n + length frames → total < 2 ^ 32 → InOrder c.stage (repeats_of frames)
     → AreFollowed (Some (call_entry span c)) n (frames ++ more) ended last
@@ -134,11 +136,15 @@ stays_by (f ∷ fs) more first count n total at span c ended last begins frames 
 
 -- 2. Where no call is open.
 
+-- it is no call
+abbrev pub IsNoCallSubject : Subject → Type 0
+IsNoCallSubject (subject.Call c) = ⊥
+IsNoCallSubject (subject.Packet p) = Unit {0}
+IsNoCallSubject (subject.Controls k) = Unit {0}
+
 abbrev pub IsNoCall : Option Entry → Type 0
 IsNoCall None = Unit {0}
-IsNoCall (Some (record { span = span; subject = subject.Call c })) = ⊥
-IsNoCall (Some (record { span = span; subject = subject.Packet p })) = Unit {0}
-IsNoCall (Some (record { span = span; subject = subject.Controls k })) = Unit {0}
+IsNoCall (Some t) = IsNoCallSubject t.subject
 
 none_begun : (n : ℕ) (checks : Checks) → IsNoCall (begun_in n repeated.Nothing checks)
 none_begun n checks = tt
@@ -156,16 +162,20 @@ packet_goes_on true t p n checks one next is step =
       subject = with x repeated.Nothing;
     }))) (sym is) tt)
 
+nothing_behind : (span : Span) (s : Subject) (n : ℕ) (checks : Checks) (one : Option Ended) (next : Option Entry)
+    → IsStep (Some (record { span = span; subject = s })) n repeated.Nothing checks one next → IsNoCall next
+nothing_behind span (subject.Call c) n checks one next (same, so, step) =
+    subst IsNoCall (sym (ap (λ (q : Option Ended × Option Entry). q.1) step)) tt
+nothing_behind span (subject.Packet p) n checks one next (same, so, step) =
+    packet_goes_on (nat_lt 0 p.left) (record { span = span; subject = subject.Packet p }) p n checks one next refl step
+nothing_behind span (subject.Controls k) n checks one next (same, so, step) =
+    subst IsNoCall (sym (ap (λ (q : Option Ended × Option Entry). q.1) step)) tt
+
 -- a frame that repeats nothing leaves no call open
 pub nothing_ends : (current : Option Entry) (n : ℕ) (checks : Checks) (one : Option Ended) (next : Option Entry)
     → IsStep current n repeated.Nothing checks one next → IsNoCall next
 nothing_ends None n checks one next step = subst IsNoCall (sym step.1) tt
-nothing_ends (Some (record { span = span; subject = subject.Call c })) n checks one next (same, so, step) =
-    subst IsNoCall (sym (ap (λ (q : Option Ended × Option Entry). q.1) step)) tt
-nothing_ends (Some (record { span = span; subject = subject.Packet p })) n checks one next (same, so, step) =
-    packet_goes_on (nat_lt 0 p.left) (record { span = span; subject = subject.Packet p }) p n checks one next refl step
-nothing_ends (Some (record { span = span; subject = subject.Controls k })) n checks one next (same, so, step) =
-    subst IsNoCall (sym (ap (λ (q : Option Ended × Option Entry). q.1) step)) tt
+nothing_ends (Some t) n checks one next step = nothing_behind t.span t.subject n checks one next step
 
 -- a voice LC header or a place
 abbrev pub BeginsCall : Repeated → Type 0
@@ -173,21 +183,27 @@ BeginsCall (repeated.CallHeader lc) = Unit {0}
 BeginsCall (repeated.Place lc is_filled) = Unit {0}
 BeginsCall r = ⊥
 
+call_behind_other : (span : Span) (s : Subject) (n : ℕ) (r : Repeated) (checks : Checks) (one : Option Ended)
+    (next : Option Entry) → IsNoCallSubject s → BeginsCall r
+    → IsStep (Some (record { span = span; subject = s })) n r checks one next → next ≡ begun_in n r checks
+call_behind_other span (subject.Call c) n r checks one next none begins step = absurd none
+call_behind_other span (subject.Packet p) n (repeated.CallHeader lc) checks one next none begins (same, so, step) =
+    ap (λ (q : Option Ended × Option Entry). q.1) step
+call_behind_other span (subject.Packet p) n (repeated.Place lc f) checks one next none begins (same, so, step) =
+    ap (λ (q : Option Ended × Option Entry). q.1) step
+call_behind_other span (subject.Packet p) n r checks one next none begins step = absurd begins
+call_behind_other span (subject.Controls k) n (repeated.CallHeader lc) checks one next none begins (same, so, step) =
+    ap (λ (q : Option Ended × Option Entry). q.1) step
+call_behind_other span (subject.Controls k) n (repeated.Place lc f) checks one next none begins (same, so, step) =
+    ap (λ (q : Option Ended × Option Entry). q.1) step
+call_behind_other span (subject.Controls k) n r checks one next none begins step = absurd begins
+
 -- where no call is open, it begins one
 pub call_begins : (current : Option Entry) (n : ℕ) (r : Repeated) (checks : Checks) (one : Option Ended) (next : Option Entry)
     → IsNoCall current → BeginsCall r → IsStep current n r checks one next → next ≡ begun_in n r checks
 call_begins None n r checks one next none begins step = step.1
-call_begins (Some (record { span = span; subject = subject.Call c })) n r checks one next none begins step = absurd none
-call_begins (Some (record { span = span; subject = subject.Packet p })) n (repeated.CallHeader lc) checks one next none begins
-    (same, so, step) = ap (λ (q : Option Ended × Option Entry). q.1) step
-call_begins (Some (record { span = span; subject = subject.Packet p })) n (repeated.Place lc f) checks one next none begins
-    (same, so, step) = ap (λ (q : Option Ended × Option Entry). q.1) step
-call_begins (Some (record { span = span; subject = subject.Packet p })) n r checks one next none begins step = absurd begins
-call_begins (Some (record { span = span; subject = subject.Controls k })) n (repeated.CallHeader lc) checks one next none begins
-    (same, so, step) = ap (λ (q : Option Ended × Option Entry). q.1) step
-call_begins (Some (record { span = span; subject = subject.Controls k })) n (repeated.Place lc f) checks one next none begins
-    (same, so, step) = ap (λ (q : Option Ended × Option Entry). q.1) step
-call_begins (Some (record { span = span; subject = subject.Controls k })) n r checks one next none begins step = absurd begins
+call_begins (Some t) n r checks one next none begins step =
+    call_behind_other t.span t.subject n r checks one next none begins step
 
 -- 3. Where a call ends.
 

@@ -9,7 +9,8 @@ use Rattle.dmr_link.specs.declared.full_lc.FullLc.{FullLc}
 use Rattle.dmr_slot.proofs.Unique.{one_slot_out}
 use Rattle.dmr_slot.specs.Bursts.{IsSlotOut}
 use Rattle.dmr_slot.specs.LineMeaning.{LineOut, Repeated, Hang, Free}
-use Rattle.dmr_slot.specs.LineRules.{LineMemory, IsPush, ArePushed, after_push, call_left_after, decided, known_after, moved, out_of}
+use Rattle.dmr_slot.specs.LineRules.{LineMemory, IsPush, ArePushed, after_push, call_left_after, decided, known_after, moved}
+use Rattle.dmr_slot.specs.LineRules.{out_of}
 use Rattle.dmr_slot.specs.LineRules.{role_of, silent_line, still_left}
 use Rattle.dmr_slot.specs.declared.line.SlotOut.{SlotOut}
 use Rattle.dmr_voice.proofs.Carrying.{one_carried}
@@ -43,8 +44,8 @@ same_repeated colour l l' k k' Nothing a b p q =
 abbrev pub with_hang : LineMemory → ℕ → ℕ → Option FullLc → LineMemory
 with_hang m h l k = record m { call_hang = h; left = l; lc = k }
 
-cons_alike : {A : Type 0} (a b : A) (as bs : List A) → a ≡ b → as ≡ bs → a ∷ as ≡ b ∷ bs
-cons_alike a b as bs p q = cc
+cons_alike : {A : Type 0} (a b : A) (xs bs : List A) → a ≡ b → xs ≡ bs → a ∷ xs ≡ b ∷ bs
+cons_alike a b xs bs p q = cc
 
 -- two lines that differ in the call hang alone repeat the same
 pub same_bursts : (m : LineMemory) (h l : ℕ) (k : Option FullLc) (slots : List (Option (List ℕ))) (a b : List SlotOut)

@@ -164,12 +164,13 @@ place_shown colour F carries lc known (Some y) = record {
 abbrev pub AreShownAs : ℕ → List Cell → List Repeated → Type 0
 AreShownAs colour cs es = AllZip (IsShownAs colour) cs es
 
-join_shown : (colour : ℕ) (as bs : List Cell) (es fs : List Repeated) → AreShownAs colour as es → AreShownAs colour bs fs
-    → AreShownAs colour (as ++ bs) (es ++ fs)
+-- cells in two parts
+pub join_shown : (colour : ℕ) (xs bs : List Cell) (es fs : List Repeated) → AreShownAs colour xs es → AreShownAs colour bs fs
+    → AreShownAs colour (xs ++ bs) (es ++ fs)
 join_shown colour [] bs [] fs p q = q
 join_shown colour [] bs (e ∷ es) fs p q = absurd p
-join_shown colour (a ∷ as) bs [] fs p q = absurd p
-join_shown colour (a ∷ as) bs (e ∷ es) fs p q = (p.0, join_shown colour as bs es fs p.1 q)
+join_shown colour (a ∷ xs) bs [] fs p q = absurd p
+join_shown colour (a ∷ xs) bs (e ∷ es) fs p q = (p.0, join_shown colour xs bs es fs p.1 q)
 
 -- the headers of a call
 abbrev pub header_repeats : FullLc → List Lead → List Repeated
@@ -180,7 +181,8 @@ leads_shown : (colour : ℕ) (lc : FullLc) (header : List Bool) (leads : List Le
 leads_shown colour lc header [] = tt
 leads_shown colour lc header (lead ∷ leads) = (lead_shown colour lc header lead, leads_shown colour lc header leads)
 
-gap_shown : (colour : ℕ) (lc : FullLc) (header : List Bool) (gap : ℕ)
+-- the gap behind headers
+pub gap_shown : (colour : ℕ) (lc : FullLc) (header : List Bool) (gap : ℕ)
     → AreShownAs colour (replicate gap (record (header_cell lc header) { sent = Silent }))
     (replicate gap (repeated.CallHeader (Some lc)))
 gap_shown colour lc header zero = tt

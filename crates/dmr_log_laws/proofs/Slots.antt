@@ -1,10 +1,11 @@
 -- A log of both slots, slot by slot.
-use Rattle.std.proofs.Common.{◌≡◌, ℕ, ◌+◌, ◌-◌, ◌*◌, ◌<◌, ◌≤◌, ◌^◌, Bool, true, false, cond, List, [], ◌∷◌, ◌++◌, length, map, count_by}
+use Rattle.std.proofs.Common.{◌≡◌, ℕ, ◌+◌, ◌-◌, ◌*◌, ◌<◌, ◌≤◌, ◌^◌, Bool, true, false, cond, List, [], ◌∷◌, ◌++◌, length, map}
+use Rattle.std.proofs.Common.{count_by}
 use Rattle.std.proofs.Common.{Option, Some, None, refl, sym, ap, ◌∙◌, subst, arith, is_some}
 use Rattle.std.proofs.lemmas.List.Sums.{sum_by-cons}
 use Rattle.dmr_burst.specs.declared.burst.Burst.{Burst}
 use Rattle.dmr_gateway.specs.declared.received.Received.{Received}
-use Rattle.dmr_log.specs.LogRules.{IsFrameLogged, recorded_burst, with_records, with_repeated, with_ended, with_ends, with_one}
+use Rattle.dmr_log.specs.LogRules.{IsFrameLogged, recorded_burst, with_subject, with_records, with_repeated, with_ended, with_ends, with_one}
 use Rattle.dmr_log.specs.RecordingLogs.{Logs, RecordedFrames}
 use Rattle.dmr_log.specs.SlotTracks.{IsPassed, SlotTrack}
 use Rattle.dmr_log.specs.Transmissions.{plus_one}
@@ -15,6 +16,7 @@ use Rattle.dmr_log.specs.declared.slot_log.SlotTold.{SlotTold}
 use Rattle.dmr_log.specs.declared.transmission.Ended.{Ended}
 use Rattle.dmr_log.specs.declared.transmission.EndedBy.{EndedBy}
 use Rattle.dmr_log.specs.declared.transmission.Span.{Span}
+use Rattle.dmr_log.specs.declared.transmission.Subject.{Subject}
 use Rattle.dmr_log.specs.declared.transmission.Subject.TheVariants.{Call, Packet, Controls}
 use Rattle.dmr_log_laws.specs.WholeLogs.{recorded_in_slot_1, recorded_in_slot_2, told_of_slot_1, told_of_slot_2}
 
@@ -33,11 +35,14 @@ pub records_repeat : (rs : List (Option Received)) (c : LogCounts) → (with_rec
 records_repeat [] c = refl
 records_repeat (r ∷ rs) c = records_repeat rs (with_one r c)
 
+subject_repeats : (s : Subject) (c : LogCounts) → (with_subject s c).repeated ≡ c.repeated
+subject_repeats (Call x) c = refl
+subject_repeats (Packet x) c = refl
+subject_repeats (Controls x) c = refl
+
 ended_repeats : (e : Option Ended) (c : LogCounts) → (with_ended e c).repeated ≡ c.repeated
 ended_repeats None c = refl
-ended_repeats (Some (record { transmission = record { span = s; subject = Call x }; by = y })) c = refl
-ended_repeats (Some (record { transmission = record { span = s; subject = Packet x }; by = y })) c = refl
-ended_repeats (Some (record { transmission = record { span = s; subject = Controls x }; by = y })) c = refl
+ended_repeats (Some e) c = subject_repeats e.transmission.subject c
 
 pub ends_repeat : (a b : SlotTold) (c : LogCounts) → (with_ends a b c).repeated ≡ c.repeated
 ends_repeat a b c = ended_repeats b.ended (with_ended a.ended c) ∙ ended_repeats a.ended c

@@ -1,5 +1,6 @@
 -- The log of a whole recording: what is told of it, and what a run over the same file counts.
-use Rattle.std.specs.Prelude.{◌≡◌, ℕ, ◌+◌, ◌≤◌, Option, List, [], ◌∷◌, ◌++◌, map, take, drop, length, sum_by, option_map, option_to_list}
+use Rattle.std.specs.Prelude.{◌≡◌, ℕ, ◌+◌, ◌≤◌, Option, List, [], ◌∷◌, ◌++◌, map, take, drop, length, sum_by, option_map}
+use Rattle.std.specs.Prelude.{option_to_list}
 use Rattle.std.specs.List.{flat_map, AllByRecursion}
 use Rattle.dmr_gateway.specs.GatewayRules.{Gate}
 use Rattle.dmr_log.specs.LogRules.{IsEndLogged, new_log, recorded_burst}
@@ -48,9 +49,9 @@ abbrev pub told_of_slot_2 : List FrameTold → List SlotTold
 told_of_slot_2 told = map (λ (t : FrameTold). t.slot_2) told
 
 -- The entries of a slot: the transmissions that are told to have ended, in that order.
-abbrev pub entries : List SlotTold → List Transmission
-entries [] = []
-entries (t ∷ told) = option_to_list (option_map (λ (e : Ended). e.transmission) t.ended) ++ entries told
+abbrev pub entries_of : List SlotTold → List Transmission
+entries_of [] = []
+entries_of (t ∷ told) = option_to_list (option_map (λ (e : Ended). e.transmission) t.ended) ++ entries_of told
 
 -- What a slot repeats in each frame of a recording of so many frames. The first five frames that are taken decide on none.
 abbrev pub repeated_in : ℕ → List SlotTold → List Repeated
@@ -73,8 +74,8 @@ abbrev pub EachBurstIsInOneEntry : Type 0
 EachBurstIsInOneEntry =
     (colour : ℕ) (gateway : Option Gate) (frames : RecordedFrames) (told : List FrameTold) (log : LogState) →
     length frames ≤ frame_limit → IsWholeLog colour gateway frames told log →
-    AreSharedOut 0 (repeated_in (length frames) (told_of_slot_1 told)) (entries (told_of_slot_1 told))
-    × AreSharedOut 0 (repeated_in (length frames) (told_of_slot_2 told)) (entries (told_of_slot_2 told))
+    AreSharedOut 0 (repeated_in (length frames) (told_of_slot_1 told)) (entries_of (told_of_slot_1 told))
+    × AreSharedOut 0 (repeated_in (length frames) (told_of_slot_2 told)) (entries_of (told_of_slot_2 told))
 
 -- 3. A run over the same file.
 
@@ -85,8 +86,8 @@ pub record IsSameFile (frames : RecordedFrames) (uplink : List UplinkSlots) : Ty
   pub octets : head_octets uplink_magic ++ flat_map (spelling Uplink) (slots_of_frames frames) ≡ uplink_file uplink
 
 -- how many bursts these entries tell
-abbrev pub bursts_of : List Transmission → ℕ
-bursts_of transmissions = sum_by (λ (t : Transmission). t.span.bursts) transmissions
+abbrev pub burst_total : List Transmission → ℕ
+burst_total transmissions = sum_by (λ (t : Transmission). t.span.bursts) transmissions
 
 -- A log and a run for the same colour code, over the same file: the bursts of all entries are as many as the run counts as
 -- repeated, and the log counts as many.
@@ -96,5 +97,5 @@ AgreesWithRuns =
     (uplink : List UplinkSlots) (sendings : List Sending) (repeated : ℕ) (counts : Counts) (old new : Files) →
     length frames ≤ frame_limit → IsWholeLog s.colour gateway frames told log → IsSameFile frames uplink →
     WritesFiles s sendings uplink repeated counts old new →
-    (bursts_of (entries (told_of_slot_1 told)) + bursts_of (entries (told_of_slot_2 told)) ≡ repeated)
+    (burst_total (entries_of (told_of_slot_1 told)) + burst_total (entries_of (told_of_slot_2 told)) ≡ repeated)
     × (log.counts.repeated ≡ repeated)
