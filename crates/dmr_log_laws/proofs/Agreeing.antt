@@ -1,34 +1,27 @@
 -- The entries of a log share out the frames of its slots, and tell as many bursts as a run repeats.
-use Rattle.std.proofs.Common.{◌≡◌, ℕ, ◌+◌, ◌<◌, ◌≤◌, ◌^◌, List, [], ◌∷◌, ◌++◌, length, map, count_by, sum_by, replicate, is_some}
+use Rattle.std.proofs.Common.{◌≡◌, ℕ, ◌+◌, ◌<◌, ◌≤◌, ◌^◌, List, [], ◌∷◌, ◌++◌, length, count_by, replicate, is_some}
 use Rattle.std.proofs.Common.{Option, None, option_to_list, refl, sym, ap, ◌∙◌, subst, arith, append_assoc}
 use Rattle.std.proofs.lemmas.List.{length-map}
 use Rattle.dmr_burst.specs.declared.burst.Burst.{Burst}
-use Rattle.dmr_gateway.specs.GatewayRules.{Gate}
 use Rattle.dmr_listing.specs.ListingRules.{GivenInTurn}
-use Rattle.dmr_log.specs.LogRules.{IsFrameLogged, new_log, recorded_burst}
-use Rattle.dmr_log.specs.Pieces.{AllBurstsAreTold, AreSharedOut, EachBurstIsInOne, RepeatedFrame}
-use Rattle.dmr_log.specs.RecordingLogs.{AreFramesTaken, IsRestTold, Logs, RecordedFrames, silent_frames}
-use Rattle.dmr_log.specs.Transmissions.{is_burst}
+use Rattle.dmr_log.specs.LogRules.{new_log}
+use Rattle.dmr_log.specs.Pieces.{AllBurstsAreTold, AreSharedOut, EachBurstIsInOne}
+use Rattle.dmr_log.specs.RecordingLogs.{Logs, RecordedFrames, silent_frames}
 use Rattle.dmr_log.specs.declared.log.FrameTold.{FrameTold}
 use Rattle.dmr_log.specs.declared.log.LogState.{LogState}
 use Rattle.dmr_log.specs.declared.repeated.Repeated.{Repeated}
 use Rattle.dmr_log.specs.declared.slot_log.SlotTold.{SlotTold}
 use Rattle.dmr_log.specs.declared.transmission.Transmission.{Transmission}
 use Rattle.dmr_record.specs.Head.{frame_limit}
-use Rattle.dmr_record.specs.Outgoing.{Sending}
-use Rattle.dmr_record.specs.Uplink.{UplinkSlots}
-use Rattle.dmr_repeater.specs.Files.{Files}
-use Rattle.dmr_repeater.specs.Runs.{WritesFiles}
 use Rattle.dmr_slot.specs.LineRules.{LineMemory, ArePushed, silent_line}
 use Rattle.dmr_slot.specs.declared.line.SlotOut.{SlotOut}
-use Rattle.dmr_station.specs.DownlinkRules.{IsPushedLine, slots_in, handed_frames}
-use Rattle.dmr_station.specs.StationRules.{Settings, Counts}
+use Rattle.dmr_station.specs.DownlinkRules.{slots_in, handed_frames}
 use Rattle.dmr_log_laws.proofs.Followed.{none_counted, pushed_by, slot_log, IsSlotLog}
 use Rattle.dmr_log_laws.proofs.Pushes.{as_in_a_run, bursts_of_outs}
 use Rattle.dmr_log_laws.proofs.SameFile.{handed_1, handed_2}
 use Rattle.dmr_log_laws.proofs.Sending.{run_repeats}
 use Rattle.dmr_log_laws.proofs.Whole.{IsSlotOfLog, slots_of_log}
-use Rattle.dmr_log_laws.specs.WholeLogs.{AgreesWithRuns, EachBurstIsInOneEntry, IsWholeLog, TellsWholeLogs, burst_total, entries_of}
+use Rattle.dmr_log_laws.specs.WholeLogs.{AgreesWithRuns, EachBurstIsInOneEntry, TellsWholeLogs, burst_total, entries_of}
 use Rattle.dmr_log_laws.specs.WholeLogs.{recorded_in_slot_1, recorded_in_slot_2, repeated_in, told_of_slot_1, told_of_slot_2}
 
 -- 1. What is told of whole recordings.

@@ -1,7 +1,7 @@
 -- The shape of each call: what a log is told to repeat for it, frame by frame.
-use Rattle.std.proofs.Common.{◌≡◌, ℕ, zero, suc, ◌+◌, ◌-◌, ◌<◌, ◌≤◌, ◌^◌, Bool, true, false, cond, not, List, [], ◌∷◌, ◌++◌, length}
+use Rattle.std.proofs.Common.{◌≡◌, ℕ, zero, suc, ◌+◌, ◌≤◌, Bool, true, false, cond, not, List, [], ◌∷◌, ◌++◌, length}
 use Rattle.std.proofs.Common.{map}
-use Rattle.std.proofs.Common.{flat_map, replicate, count_by, Option, Some, None, refl, sym, ap, ◌∙◌, subst, arith, append-nil, inl}
+use Rattle.std.proofs.Common.{replicate, count_by, Option, Some, None, refl, sym, ap, ◌∙◌, subst, arith, append-nil, inl}
 use Rattle.std.proofs.Common.{inr}
 use Rattle.std.proofs.Common.{is_some, IfSome, if◌then◌else◌, zip, drop}
 use Rattle.std.specs.List.{AllByRecursion, AllZip}
@@ -16,7 +16,7 @@ use Rattle.dmr_log.specs.declared.transmission.CallStage.{CallStage}
 use Rattle.dmr_log.specs.declared.transmission.CallStage.TheVariants as stage
 use Rattle.dmr_log.specs.declared.transmission.Subject.TheVariants as subject
 use Rattle.dmr_log_laws.proofs.Growing.{BeginsCall, InOrder, IsCallBehind, filled_in, first_told, places_in, stage_behind}
-use Rattle.dmr_log_laws.proofs.Shapes.{AreShort, AreShownAs, IsShownAs, all_headers_shown, ending_repeats, ending_shown, gap_shown}
+use Rattle.dmr_log_laws.proofs.Shapes.{AreShort, AreShownAs, all_headers_shown, ending_repeats, ending_shown, gap_shown}
 use Rattle.dmr_log_laws.proofs.Shapes.{header_repeats, join_shown, known_behind, lc_told, place_repeats, places_shown, unsaid_shown}
 use Rattle.dmr_log_laws.proofs.Slots.{counted_cons}
 use Rattle.dmr_log_laws.specs.CallEntries.{absent_count, call_due, first_meant, last_stage, place_count, slots_before}

@@ -1,29 +1,25 @@
 -- Each call of what was sent in a slot is told.
-use Rattle.std.proofs.Common.{◌≡◌, ◌≢◌, ℕ, zero, suc, ◌+◌, ◌-◌, ◌<◌, ◌≤◌, ◌^◌, ◌⊎◌, inl, inr, Bool, true, false, cond, not, List}
+use Rattle.std.proofs.Common.{◌≡◌, ℕ, zero, suc, ◌+◌, ◌-◌, ◌<◌, ◌≤◌, ◌^◌, ◌⊎◌, inl, inr, Bool, List}
 use Rattle.std.proofs.Common.{[], ◌∷◌}
-use Rattle.std.proofs.Common.{◌++◌, length, map, flat_map, replicate, drop, count_by, Option, Some, None, option_to_list}
+use Rattle.std.proofs.Common.{◌++◌, length, flat_map, replicate, Option, Some, None, option_to_list}
 use Rattle.std.proofs.Common.{option_map}
-use Rattle.std.proofs.Common.{refl, sym, ap, ◌∙◌, subst, arith, append_assoc, append-nil, Contains, is_some, IfSome}
+use Rattle.std.proofs.Common.{refl, sym, ap, ◌∙◌, subst, arith, append_assoc, Contains, IfSome}
 use Rattle.std.proofs.lemmas.List.{length-append, length-map}
-use Rattle.std.proofs.lemmas.List.Elements.{Contains-append_left, Contains-append_right}
-use Rattle.std.specs.List.{AllByRecursion, AllZip}
-use Rattle.std.specs.Option.{option_or}
-use Rattle.dmr_hearing.specs.Slots.{Silent, CutOff}
-use Rattle.dmr_link.specs.declared.full_lc.FullLc.{FullLc}
+use Rattle.std.proofs.lemmas.List.Elements.{Contains-append_right}
+use Rattle.std.specs.List.{AllZip}
+use Rattle.dmr_hearing.specs.Slots.{Silent}
 use Rattle.dmr_log.specs.Pieces.{AreFollowed, RepeatedFrame}
 use Rattle.dmr_log.specs.Transmissions.{IsStep, begun_in, begun_subject, in_frame, one_frame}
 use Rattle.dmr_log.specs.declared.checks.Checks.{Checks}
 use Rattle.dmr_log.specs.declared.repeated.Repeated.{Repeated}
 use Rattle.dmr_log.specs.declared.repeated.Repeated.TheVariants as repeated
 use Rattle.dmr_log.specs.declared.transmission.Call.{Call}
-use Rattle.dmr_log.specs.declared.transmission.CallStage.{CallStage}
-use Rattle.dmr_log.specs.declared.transmission.CallStage.TheVariants as stage
 use Rattle.dmr_log.specs.declared.transmission.Ended.{Ended}
 use Rattle.dmr_log.specs.declared.transmission.Subject.{Subject}
 use Rattle.dmr_log.specs.declared.transmission.Subject.TheVariants as subject
 use Rattle.dmr_log.specs.declared.transmission.Transmission.{Transmission as Entry}
-use Rattle.dmr_log_laws.proofs.Decided.{AreShown, Shows}
-use Rattle.dmr_log_laws.proofs.Growing.{BeginsCall, InOrder, IsCallBehind, IsNoCall, IsQuiet, call_begins, call_behind, call_entry}
+use Rattle.dmr_log_laws.proofs.Decided.{AreShown}
+use Rattle.dmr_log_laws.proofs.Growing.{InOrder, IsCallBehind, IsNoCall, IsQuiet, call_begins, call_behind, call_entry}
 use Rattle.dmr_log_laws.proofs.Growing.{grown_call, nothing_ends, open_is_told, repeats_of, stays_by}
 use Rattle.dmr_log_laws.proofs.Shapes.{AreShownAs, IsShownAs, unsaid_shown}
 use Rattle.dmr_log_laws.proofs.CallShapes.{EndsTrue, IsCallShape, IsLoud, shape_of}

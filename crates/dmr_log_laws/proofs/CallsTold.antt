@@ -1,23 +1,22 @@
 -- The calls of both slots of a recording are told.
-use Rattle.std.proofs.Common.{◌≡◌, ℕ, ◌+◌, ◌<◌, ◌≤◌, ◌^◌, ◌⊎◌, inl, inr, List, [], ◌∷◌, ◌++◌, length, map, replicate, take, drop}
-use Rattle.std.proofs.Common.{Option, None, option_to_list, refl, sym, ap, ◌∙◌, subst, arith, append_assoc}
+use Rattle.std.proofs.Common.{◌≡◌, ℕ, ◌+◌, ◌<◌, ◌≤◌, ◌^◌, ◌⊎◌, inl, inr, List, [], ◌∷◌, ◌++◌, length, replicate, take, drop}
+use Rattle.std.proofs.Common.{Option, None, option_to_list, sym, ap, ◌∙◌, subst, arith, append_assoc}
 use Rattle.std.proofs.Math.Seq.{take-append_seam}
 use Rattle.std.proofs.lemmas.List.{drop-append-le, length-append, length-drop, length-map}
 use Rattle.dmr_burst.specs.declared.burst.Burst.{Burst}
 use Rattle.dmr_hearing.specs.Slots.{Silent}
 use Rattle.dmr_log.specs.Pieces.{AreFollowed, RepeatedFrame}
 use Rattle.dmr_log.specs.SlotTracks.{ended_with, told_at_end}
-use Rattle.dmr_log.specs.declared.repeated.Repeated.{Repeated}
 use Rattle.dmr_log.specs.declared.slot_log.SlotTold.{SlotTold}
 use Rattle.dmr_log.specs.declared.transmission.Transmission.{Transmission as Entry}
 use Rattle.dmr_record.specs.Head.{frame_limit}
 use Rattle.dmr_voice.specs.CallMeaning.{Cell, Transmission, sent_list, unsaid}
 use Rattle.dmr_voice.specs.DamagedRecordings.{IsDamagedRecordingOf}
 use Rattle.dmr_voice.specs.WellFormed.{IsWellFormed}
-use Rattle.dmr_log_laws.proofs.Calls.{told_from, in_two, more_calls, none_behind, none_left, pause_shown, replicate_long, sent_from}
+use Rattle.dmr_log_laws.proofs.Calls.{told_from, in_two, more_calls, none_left, pause_shown, replicate_long, sent_from}
 use Rattle.dmr_log_laws.proofs.Calls.{shown_in_two, stays_closed}
 use Rattle.dmr_log_laws.proofs.Decided.{AreShown, slot_shown}
-use Rattle.dmr_log_laws.proofs.Followed.{IsSlotLog, passed_long, slot_log, told_to_repeat}
+use Rattle.dmr_log_laws.proofs.Followed.{passed_long, slot_log, told_to_repeat}
 use Rattle.dmr_log_laws.proofs.Growing.{IsNoCall, repeats_of}
 use Rattle.dmr_log_laws.proofs.Whole.{IsSlotOfLog, slots_of_log}
 use Rattle.dmr_log_laws.specs.CallEntries.{AreCallsTold, CallsAreTold, CallsOfSlotAreTold}

@@ -1,25 +1,21 @@
 -- What a log tells of each slot is what its line gives and what came in it.
-use Rattle.std.proofs.Common.{◌≡◌, ◌≢◌, ℕ, zero, suc, ◌+◌, ◌-◌, true, false, Bool, List, [], ◌∷◌, ◌++◌, length, map, take, drop}
+use Rattle.std.proofs.Common.{◌≡◌, ℕ, zero, suc, ◌+◌, List, [], ◌∷◌, ◌++◌, length, drop}
 use Rattle.std.proofs.Common.{replicate}
 use Rattle.std.proofs.Common.{Option, Some, None, refl, sym, ap, ◌∙◌, subst, arith, append_assoc, slice_index_or}
 use Rattle.std.specs.List.{AllZip}
-use Rattle.std.specs.Option.{option_map_or}
 use Rattle.dmr_burst.specs.declared.burst.Burst.{Burst}
 use Rattle.dmr_hearing.proofs.Damaged.{recorded_is_heard}
-use Rattle.dmr_hearing.proofs.HeardAsBoth.{silent}
 use Rattle.dmr_hearing.specs.Damage.{IsRecordedAs}
 use Rattle.dmr_hearing.specs.Parts.{is_own}
 use Rattle.dmr_hearing.specs.Slots.{IsHeardAs, Silent, silence, vocoder_of}
 use Rattle.dmr_hearing.specs.declared.heard.Heard.{Heard}
-use Rattle.dmr_link.specs.declared.full_lc.FullLc.{FullLc}
-use Rattle.dmr_log.specs.SlotTracks.{Arrives, IsPassed, SlotTrack, nothing_arrived, repeated_of, silent_track}
+use Rattle.dmr_log.specs.SlotTracks.{Arrives, SlotTrack, nothing_arrived, repeated_of, silent_track}
 use Rattle.dmr_log.specs.declared.arrived.Arrived.{Arrived}
 use Rattle.dmr_log.specs.declared.repeated.Repeated.{Repeated}
 use Rattle.dmr_log.specs.declared.slot_log.SlotTold.{SlotTold}
 use Rattle.dmr_slot.specs.Bursts.{IsSlotOut}
 use Rattle.dmr_slot.specs.LineMeaning.{LineOut, Repeated as Gives, Free, lines}
-use Rattle.dmr_slot.specs.LineRules.{LineMemory, ArePushed, IsPush, silent_line}
-use Rattle.dmr_slot.specs.Recordings.{handed_slots}
+use Rattle.dmr_slot.specs.LineRules.{ArePushed, IsPush, silent_line}
 use Rattle.dmr_slot.specs.declared.line.SlotOut.{SlotOut}
 use Rattle.dmr_slot.proofs.Recorded.{line_of_what_is_meant}
 use Rattle.dmr_voice.proofs.Law.{repeats_what_is_meant}

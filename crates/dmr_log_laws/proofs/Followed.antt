@@ -1,8 +1,8 @@
 -- What one slot of a log tells: which transmissions end in it.
 use Rattle.std.proofs.Common.{◌≡◌, ℕ, ◌+◌, ◌-◌, ◌==◌, ◌||◌, Bool, true, false, cond, List, [], ◌∷◌, ◌++◌, length, map, count_by}
 use Rattle.std.proofs.Common.{take}
-use Rattle.std.proofs.Common.{drop, Option, Some, None, option_to_list, option_map, refl, sym, ap, ◌∙◌, subst, arith, is_some}
-use Rattle.std.proofs.Common.{append_assoc, append-nil, replicate}
+use Rattle.std.proofs.Common.{Option, Some, None, option_to_list, option_map, refl, sym, ap, ◌∙◌, subst, arith, is_some}
+use Rattle.std.proofs.Common.{append_assoc, replicate}
 use Rattle.std.proofs.Math.Seq.{take-append_seam}
 use Rattle.std.proofs.lemmas.List.{length-append, length-map}
 use Rattle.dmr_burst.specs.declared.burst.Burst.{Burst}
@@ -25,7 +25,7 @@ use Rattle.dmr_log.specs.declared.transmission.Ended.{Ended}
 use Rattle.dmr_log.specs.declared.transmission.Transmission.{Transmission}
 use Rattle.dmr_slot.specs.Bursts.{IsSlotOut}
 use Rattle.dmr_slot.specs.LineMeaning.{Free}
-use Rattle.dmr_slot.specs.LineRules.{LineMemory, IsPush, ArePushed, silent_line}
+use Rattle.dmr_slot.specs.LineRules.{LineMemory, IsPush, ArePushed}
 use Rattle.dmr_slot.specs.declared.line.SlotOut.{SlotOut}
 use Rattle.dmr_voice.specs.declared.track.Track.TheVariants.{Idle}
 use Rattle.dmr_log_laws.proofs.Pushes.{bursts_of_outs}

@@ -2,12 +2,12 @@
 use Rattle.std.proofs.Common.{◌≡◌, ℕ, ◌+◌, ◌-◌, ◌<◌, ◌≤◌, ◌^◌, ◌↔◌, ◌||◌, ◌⊎◌, Bool, true, false, cond, not, List, [], ◌∷◌, ◌++◌}
 use Rattle.std.proofs.Common.{length, map}
 use Rattle.std.proofs.Common.{Option, Some, None, option_to_list, option_map, IsTrue, refl, sym, ap, ◌∙◌, subst, arith, inl, inr}
-use Rattle.std.proofs.Common.{append_assoc, append-nil, Contains, nat_lt}
+use Rattle.std.proofs.Common.{Contains, nat_lt}
 use Rattle.std.specs.Option.{option_or}
 use Rattle.dmr_link.specs.declared.full_lc.FullLc.{FullLc}
 use Rattle.dmr_log.specs.Pieces.{AreFollowed, RepeatedFrame}
 use Rattle.dmr_log.specs.Transmissions.{HasInCommon, IsStep, begun_in, belongs, call_with, ended_by, is_before_voice, is_burst}
-use Rattle.dmr_log.specs.Transmissions.{is_terminated, one_frame, plus_one, transmission_with, with}
+use Rattle.dmr_log.specs.Transmissions.{is_terminated, plus_one, transmission_with, with}
 use Rattle.dmr_log.specs.declared.checks.Checks.{Checks}
 use Rattle.dmr_log.specs.declared.repeated.Repeated.{Repeated}
 use Rattle.dmr_log.specs.declared.repeated.Repeated.TheVariants as repeated

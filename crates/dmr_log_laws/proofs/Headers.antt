@@ -1,5 +1,5 @@
 -- A data header that was sent is told.
-use Rattle.std.proofs.Common.{◌≡◌, ℕ, ◌≤◌, List, Bool, true, false, length, take, Option, Some, None, refl, sym, ap, ◌∙◌, subst}
+use Rattle.std.proofs.Common.{◌≡◌, ℕ, List, Bool, true, false, length, take, Option, Some, None, refl, sym, ap, ◌∙◌, subst}
 use Rattle.std.proofs.Common.{arith, lit≤}
 use Rattle.dmr_bits.proofs.OctetFronts.{length-bits_of_octets}
 use Rattle.dmr_bits.proofs.Parts.{length-part}
@@ -23,7 +23,7 @@ use Rattle.dmr_hearing.proofs.Payloads.{sent_is_read}
 use Rattle.dmr_hearing.specs.Damage.{IsDamagedData, IsRecordedAs}
 use Rattle.dmr_hearing.specs.DataTypes.{payload_of}
 use Rattle.dmr_hearing.specs.Slots.{Data}
-use Rattle.dmr_listing.specs.Contents.{HoldsContents, HoldsDataHeader}
+use Rattle.dmr_listing.specs.Contents.{HoldsDataHeader}
 use Rattle.dmr_listing.specs.Lines.{IsHeld}
 use Rattle.dmr_listing.specs.declared.contents.Contents.{Contents}
 use Rattle.dmr_listing.specs.declared.contents.Contents.TheVariants.{LinkControl, ControlBlock, DataHeader, OtherFormat}

@@ -1,5 +1,5 @@
 -- What a slot repeats does not depend on the call hang of its line, nor on what is silent in front.
-use Rattle.std.proofs.Common.{◌≡◌, ℕ, ◌-◌, List, [], ◌∷◌, ◌++◌, drop, map, Option, Some, None, refl, sym, ap, ◌∙◌, subst}
+use Rattle.std.proofs.Common.{◌≡◌, ℕ, ◌-◌, List, [], ◌∷◌, drop, map, Option, Some, None, refl, sym, ap, ◌∙◌, subst}
 use Rattle.std.specs.Option.{option_map_or}
 use Rattle.dmr_burst.specs.declared.burst.Burst.{Burst}
 use Rattle.dmr_hearing.proofs.OneHearing.{one_hearing}
@@ -8,14 +8,13 @@ use Rattle.dmr_hearing.specs.declared.heard.Heard.{Heard}
 use Rattle.dmr_link.specs.declared.full_lc.FullLc.{FullLc}
 use Rattle.dmr_slot.proofs.Unique.{one_slot_out}
 use Rattle.dmr_slot.specs.Bursts.{IsSlotOut}
-use Rattle.dmr_slot.specs.LineMeaning.{LineOut, Repeated, Hang, Free}
-use Rattle.dmr_slot.specs.LineRules.{LineMemory, IsPush, ArePushed, after_push, call_left_after, decided, known_after, moved}
+use Rattle.dmr_slot.specs.LineMeaning.{Repeated, Hang, Free}
+use Rattle.dmr_slot.specs.LineRules.{LineMemory, ArePushed, after_push, call_left_after, decided, known_after, moved}
 use Rattle.dmr_slot.specs.LineRules.{out_of}
 use Rattle.dmr_slot.specs.LineRules.{role_of, silent_line, still_left}
 use Rattle.dmr_slot.specs.declared.line.SlotOut.{SlotOut}
 use Rattle.dmr_voice.proofs.Carrying.{one_carried}
 use Rattle.dmr_voice.specs.Carried.{IsCarried}
-use Rattle.dmr_voice.specs.declared.said.Role.TheVariants.{Other}
 use Rattle.dmr_voice.specs.declared.said.Said.{Said}
 use Rattle.dmr_voice.specs.declared.said.Said.TheVariants.{Nothing, Repeat}
 use Rattle.dmr_voice.specs.declared.track.Track.{Track}

@@ -1,7 +1,7 @@
 -- How many slots of the downlink repeat a burst: as many as the lines of both slots.
-use Rattle.std.proofs.Common.{◌≡◌, ℕ, zero, suc, ◌+◌, Bool, true, false, cond, List, [], ◌∷◌, ◌++◌, length, map, zip, count_by}
+use Rattle.std.proofs.Common.{◌≡◌, ℕ, suc, ◌+◌, Bool, cond, List, [], ◌∷◌, length, map, zip, count_by}
 use Rattle.std.proofs.Common.{take}
-use Rattle.std.proofs.Common.{Option, Some, None, refl, sym, ap, ◌∙◌, subst, arith, is_some}
+use Rattle.std.proofs.Common.{Option, Some, None, refl, ap, ◌∙◌, subst, arith, is_some}
 use Rattle.std.proofs.lemmas.List.Concat.{flat_map-cons}
 use Rattle.std.specs.List.{AllZip, list_any}
 use Rattle.dmr_burst.specs.declared.burst.Burst.{Burst}
@@ -17,7 +17,7 @@ use Rattle.dmr_station.specs.Announced.{AreAnnounced}
 use Rattle.dmr_station.specs.DownlinkRules.{Makes, frames_in, is_repeated, marked_frames, repeated_count, slots_of}
 use Rattle.dmr_station.specs.GatewayMeaning.{AreGiven, Given}
 use Rattle.dmr_station.specs.Sent.{DownlinkBurst, DownlinkSlots, SlotBursts}
-use Rattle.dmr_station.specs.StationRules.{Counts, Settings, marked, marked_slots}
+use Rattle.dmr_station.specs.StationRules.{Counts, Settings, marked}
 use Rattle.dmr_station.specs.declared.announcing.Message.{Message}
 use Rattle.dmr_log_laws.proofs.Pushes.{bursts_of_outs}
 use Rattle.dmr_log_laws.proofs.Slots.{counted_cons}

@@ -1,17 +1,15 @@
 -- What a log is told to repeat for the slots of a call.
-use Rattle.std.proofs.Common.{◌≡◌, ◌≢◌, ℕ, zero, suc, ◌+◌, ◌==◌, ◌≤◌, Bool, true, false, not, List, [], ◌∷◌, ◌++◌, length, map, zip}
-use Rattle.std.proofs.Common.{Option, Some, None, is_some, replicate, drop, refl, sym, ap, ◌∙◌, subst, arith, if◌then◌else◌}
+use Rattle.std.proofs.Common.{◌≡◌, ℕ, zero, suc, ◌≤◌, Bool, true, false, not, List, [], ◌∷◌, ◌++◌, length, map, zip}
+use Rattle.std.proofs.Common.{Option, Some, None, is_some, replicate, drop, refl, ap, ◌∙◌, arith, if◌then◌else◌}
 use Rattle.std.proofs.lemmas.Bool.{eq-eqb}
 use Rattle.std.specs.List.{AllByRecursion, AllZip}
 use Rattle.std.specs.Option.{option_or}
 use Rattle.dmr_burst.specs.declared.burst.Burst.{Burst}
 use Rattle.dmr_burst.specs.declared.emb.Emb.{Emb}
-use Rattle.dmr_burst.specs.declared.burst.Burst.TheVariants as burst
 use Rattle.dmr_hearing.specs.Parts.{is_own}
 use Rattle.dmr_hearing.specs.Slots.{SentSlot, Silent, silence, vocoder_of}
 use Rattle.dmr_hearing.specs.declared.heard.Heard.{Heard}
 use Rattle.dmr_link.specs.declared.full_lc.FullLc.{FullLc}
-use Rattle.dmr_listing.specs.declared.contents.Contents.{Contents}
 use Rattle.dmr_log.specs.Repeated.{data_told}
 use Rattle.dmr_log.specs.SlotTracks.{repeated_of}
 use Rattle.dmr_log.specs.declared.arrived.Arrived.{Arrived}
@@ -20,14 +18,12 @@ use Rattle.dmr_log.specs.declared.repeated.Repeated.TheVariants as repeated
 use Rattle.dmr_slot.specs.Bursts.{IsSlotOut, lc_of}
 use Rattle.dmr_slot.specs.LineMeaning.{Repeated as Gives}
 use Rattle.dmr_slot.specs.declared.line.SlotOut.{SlotOut}
-use Rattle.dmr_voice.specs.Bursts.{IsBurstWith}
 use Rattle.dmr_voice.specs.CallMeaning.{Cell, Ending, Terminated, Silenced, Lead, HeaderAgain, PiHeader, Present, Superframe}
 use Rattle.dmr_voice.specs.CallMeaning.{data_cell, ending_cells, header_cell, is_complete, lead_cell, place_cell, superframe_cells}
 use Rattle.dmr_voice.specs.CallMeaning.{unsaid}
 use Rattle.dmr_voice.specs.Places.{content_at, voice_of}
 use Rattle.dmr_voice.specs.declared.place.Place.{Place}
 use Rattle.dmr_voice.specs.declared.place.Place.TheVariants.{A, B, C, D, E, F}
-use Rattle.dmr_voice.specs.declared.said.Content.{Content}
 use Rattle.dmr_voice.specs.declared.said.Content.TheVariants as content
 use Rattle.dmr_voice.specs.declared.said.Role.{Role}
 use Rattle.dmr_voice.specs.declared.said.Role.TheVariants.{Call}

@@ -1,11 +1,11 @@
 -- A log of both slots, slot by slot.
-use Rattle.std.proofs.Common.{◌≡◌, ℕ, ◌+◌, ◌-◌, ◌*◌, ◌<◌, ◌≤◌, ◌^◌, Bool, true, false, cond, List, [], ◌∷◌, ◌++◌, length, map}
+use Rattle.std.proofs.Common.{◌≡◌, ℕ, ◌+◌, ◌-◌, ◌*◌, ◌<◌, ◌≤◌, ◌^◌, Bool, cond, List, [], ◌∷◌, length}
 use Rattle.std.proofs.Common.{count_by}
-use Rattle.std.proofs.Common.{Option, Some, None, refl, sym, ap, ◌∙◌, subst, arith, is_some}
+use Rattle.std.proofs.Common.{Option, Some, None, refl, ap, ◌∙◌, subst, arith, is_some}
 use Rattle.std.proofs.lemmas.List.Sums.{sum_by-cons}
 use Rattle.dmr_burst.specs.declared.burst.Burst.{Burst}
 use Rattle.dmr_gateway.specs.declared.received.Received.{Received}
-use Rattle.dmr_log.specs.LogRules.{IsFrameLogged, recorded_burst, with_subject, with_records, with_repeated, with_ended, with_ends, with_one}
+use Rattle.dmr_log.specs.LogRules.{with_subject, with_records, with_repeated, with_ended, with_ends, with_one}
 use Rattle.dmr_log.specs.RecordingLogs.{Logs, RecordedFrames}
 use Rattle.dmr_log.specs.SlotTracks.{IsPassed, SlotTrack}
 use Rattle.dmr_log.specs.Transmissions.{plus_one}
@@ -14,8 +14,6 @@ use Rattle.dmr_log.specs.declared.log.LogCounts.{LogCounts}
 use Rattle.dmr_log.specs.declared.log.LogState.{LogState}
 use Rattle.dmr_log.specs.declared.slot_log.SlotTold.{SlotTold}
 use Rattle.dmr_log.specs.declared.transmission.Ended.{Ended}
-use Rattle.dmr_log.specs.declared.transmission.EndedBy.{EndedBy}
-use Rattle.dmr_log.specs.declared.transmission.Span.{Span}
 use Rattle.dmr_log.specs.declared.transmission.Subject.{Subject}
 use Rattle.dmr_log.specs.declared.transmission.Subject.TheVariants.{Call, Packet, Controls}
 use Rattle.dmr_log_laws.specs.WholeLogs.{recorded_in_slot_1, recorded_in_slot_2, told_of_slot_1, told_of_slot_2}

@@ -1,12 +1,12 @@
 -- Each data try of what was sent in a slot, whose header counts its blocks, is told.
 use Rattle.std.proofs.Common.{◌≡◌, ℕ, zero, suc, ◌+◌, ◌-◌, ◌<◌, ◌≤◌, ◌^◌, ◌⊎◌, inl, inr, Bool, true, false, cond, List, [], ◌∷◌}
 use Rattle.std.proofs.Common.{◌++◌}
-use Rattle.std.proofs.Common.{length, map, drop, replicate, count_by, Option, Some, None, option_to_list, option_map, is_some}
+use Rattle.std.proofs.Common.{length, map, drop, replicate, Option, Some, None, option_to_list, option_map, is_some}
 use Rattle.std.proofs.Common.{nat_lt}
 use Rattle.std.proofs.Common.{refl, sym, ap, ◌∙◌, subst, arith, append_assoc, Contains, IfSome}
-use Rattle.std.proofs.lemmas.List.{length-append, length-map}
+use Rattle.std.proofs.lemmas.List.{length-append}
 use Rattle.std.proofs.lemmas.List.Elements.{Contains-append_right}
-use Rattle.std.specs.List.{AllByRecursion, AllZip}
+use Rattle.std.specs.List.{AllByRecursion}
 use Rattle.std.proofs.lemmas.Bool.{lt-ltb}
 use Rattle.dmr_data.specs.Header.{Fits, layout}
 use Rattle.dmr_data.specs.declared.header.Header.{Header}
@@ -37,7 +37,7 @@ use Rattle.dmr_log_laws.proofs.Slots.{counted_cons}
 use Rattle.dmr_log_laws.specs.TryEntries.{AreTriesTold, HoldsHeader, IsTryTold, TellsPacket, there_count}
 use Rattle.dmr_voice.specs.CallMeaning.{Block, Cell, Transmission, VoiceCall, HeadersAlone, LateCall, Controls, DataTry}
 use Rattle.dmr_voice.specs.CallMeaning.{ForeignParts, cells, data_cell, unsaid}
-use Rattle.dmr_voice.specs.WellFormed.{IsPause, IsTransmission, IsWellFormed}
+use Rattle.dmr_voice.specs.WellFormed.{IsTransmission, IsWellFormed}
 use Rattle.dmr_voice.specs.declared.said.Role.TheVariants.{Other}
 
 -- 1. Where a transmission stands that is open.

@@ -1,5 +1,5 @@
 -- The data tries of both slots of a recording are told, where their headers count their blocks.
-use Rattle.std.proofs.Common.{◌≡◌, ℕ, ◌+◌, ◌<◌, ◌≤◌, ◌^◌, ◌⊎◌, inl, inr, List, [], ◌∷◌, ◌++◌, length, replicate, Option, None}
+use Rattle.std.proofs.Common.{◌≡◌, ℕ, ◌+◌, ◌<◌, ◌≤◌, ◌^◌, ◌⊎◌, inl, inr, List, [], ◌++◌, length, replicate, Option, None}
 use Rattle.std.proofs.Common.{option_to_list, refl, sym, ap, ◌∙◌, subst, arith, append_assoc}
 use Rattle.std.proofs.lemmas.List.{length-append, length-map}
 use Rattle.dmr_burst.specs.declared.burst.Burst.{Burst}
@@ -17,7 +17,7 @@ use Rattle.dmr_log_laws.proofs.Growing.{repeats_of}
 use Rattle.dmr_log_laws.proofs.Tries.{IsAt, at_frames, more_tries, no_tries_left, tries_told}
 use Rattle.dmr_log_laws.proofs.Whole.{IsSlotOfLog, slots_of_log}
 use Rattle.dmr_log_laws.specs.TryEntries.{AreTriesTold, TriesAreTold, TriesOfSlotAreTold}
-use Rattle.dmr_log_laws.specs.WholeLogs.{entries_of, recorded_in_slot_1, recorded_in_slot_2, told_of_slot_1, told_of_slot_2}
+use Rattle.dmr_log_laws.specs.WholeLogs.{recorded_in_slot_1, recorded_in_slot_2, told_of_slot_1, told_of_slot_2}
 
 from_lead : (colour lead : ℕ) (ts : List (Transmission × ℕ)) (front rest : List RepeatedFrame) (going : Option Entry)
     (after : List Entry) (last : Option Entry) → IsWellFormed colour ts → AreShown colour (sent_from colour ts) (repeats_of rest)

@@ -1,10 +1,10 @@
 -- The log of a whole recording, slot by slot.
-use Rattle.std.proofs.Common.{◌≡◌, ℕ, ◌+◌, ◌*◌, ◌<◌, ◌≤◌, ◌^◌, List, [], ◌∷◌, ◌++◌, length, map, count_by, replicate, is_some}
-use Rattle.std.proofs.Common.{Option, Some, None, refl, sym, ap, ◌∙◌, subst, arith}
+use Rattle.std.proofs.Common.{◌≡◌, ℕ, ◌+◌, ◌≤◌, List, [], ◌∷◌, ◌++◌, length, count_by, replicate, is_some}
+use Rattle.std.proofs.Common.{Option, None, ap, ◌∙◌, subst, arith}
 use Rattle.std.proofs.lemmas.List.{length-append, map-append}
 use Rattle.dmr_burst.specs.declared.burst.Burst.{Burst}
 use Rattle.dmr_gateway.specs.GatewayRules.{Gate}
-use Rattle.dmr_log.specs.LogRules.{new_log, with_ends, with_records}
+use Rattle.dmr_log.specs.LogRules.{new_log, with_ends}
 use Rattle.dmr_log.specs.RecordingLogs.{RecordedFrames, silent_frames}
 use Rattle.dmr_log.specs.SlotTracks.{SlotTrack, silent_track, told_at_end, ended_with}
 use Rattle.dmr_log.specs.declared.log.FrameTold.{FrameTold}
