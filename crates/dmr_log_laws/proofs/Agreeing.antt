@@ -139,5 +139,6 @@ agrees_with_runs law gateway frames told log s uplink sendings repeated counts o
     let counted = both.counts few in (
       sums_agree _ _ _ _ _ _ _ _ told_1 told_2 run_1 run_2 repeats run,
       counted
-          ∙ sums_agree (count_by is_some both.bursts_1) (count_by is_some both.bursts_2) _ _ _ _ _ _ refl refl run_1 run_2 repeats run,
+          ∙ sums_agree (count_by is_some both.bursts_1) (count_by is_some both.bursts_2) _ _ _ _ _ _ refl refl run_1 run_2 repeats
+          run,
     )

@@ -328,8 +328,8 @@ abbrev behind_header : FullLc → Call
 behind_header lc = record { stage = stage.Headers; link_control = Some lc; is_late = false; places = 0; filled = 0 }
 
 headers_shape : (colour : ℕ) (lc : FullLc) (header : List Bool) (leads : List Lead) (ending : Ending)
-    → IfSome (call_due colour (HeadersAlone lc header leads ending)) (λ call. IsCallShape colour (HeadersAlone lc header leads ending)
-    call)
+    → IfSome (call_due colour (HeadersAlone lc header leads ending))
+    (λ call. IsCallShape colour (HeadersAlone lc header leads ending) call)
 headers_shape colour lc header leads ending =
     let ends = endings_are lc ending in
     let behind = behind_headers (header_repeats lc leads) (ending_repeats lc ending) (leads_are lc leads) in
@@ -386,7 +386,8 @@ voice_shape colour lc header leads gap ss ending well =
     let places = place_repeats (Some lc) ss in
     let are = places_are (Some lc) ss in
     let by_places = behind_places places (ending_repeats lc ending) are in
-    let by_gap = behind_headers (replicate gap (repeated.CallHeader (Some lc))) (places ++ ending_repeats lc ending) (gap_is lc gap) in
+    let by_gap = behind_headers (replicate gap (repeated.CallHeader (Some lc))) (places ++ ending_repeats lc ending)
+    (gap_is lc gap) in
     let by_leads = behind_headers (header_repeats lc leads)
     (replicate gap (repeated.CallHeader (Some lc)) ++ (places ++ ending_repeats lc ending)) (leads_are lc leads) in
     let long = places_long (Some lc) ss in

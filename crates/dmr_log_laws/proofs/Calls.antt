@@ -74,7 +74,7 @@ pub record AreShownInTwo (colour : ℕ) (cs ds : List Cell) (frames : List Repea
   pub behind : AreShown colour ds (repeats_of rest)
   pub whole : (length front ≡ length cs) ⊎ (rest ≡ [])
 
--- lemma: none_behind
+-- where no frame is left, all cells are silent, of both lists
 pub none_behind : (colour : ℕ) (cs ds : List Cell) → AreShown colour (cs ++ ds) [] → AreShown colour cs [] × AreShown colour ds []
 none_behind colour [] ds shown = (tt, shown)
 none_behind colour (c ∷ cs) ds shown = let more = none_behind colour cs ds shown.1 in ((shown.0, more.0), more.1)
@@ -84,7 +84,7 @@ one_longer : (f : RepeatedFrame) (front : List RepeatedFrame) (c : Cell) (cs : L
 one_longer f front c cs rest (inl e) = inl (omega (arith, e))
 one_longer f front c cs rest (inr e) = inr e
 
--- lemma: shown_in_two
+-- frames that show two lists of cells show one behind the other
 pub shown_in_two : (colour : ℕ) (cs ds : List Cell) (frames : List RepeatedFrame) → AreShown colour (cs ++ ds) (repeats_of frames)
     → AreShownInTwo colour cs ds frames
 shown_in_two colour [] ds frames shown =
@@ -105,9 +105,9 @@ shown_in_two colour (c ∷ cs) ds (f ∷ frames) shown =
 
 -- 2. Cells that are shown whole.
 
--- lemma: not_silent
-pub not_silent : (colour : ℕ) (cs ds : List Cell) (bs : List Bool) → AllZip IsLoud cs bs → EndsTrue bs → AreShown colour (cs ++ ds) []
-    → ⊥
+-- cells that end with one that is there are not all silent
+pub not_silent : (colour : ℕ) (cs ds : List Cell) (bs : List Bool) → AllZip IsLoud cs bs → EndsTrue bs
+    → AreShown colour (cs ++ ds) [] → ⊥
 not_silent colour [] ds [] loud ends shown = ends
 not_silent colour [] ds (b ∷ bs) loud ends shown = absurd loud
 not_silent colour (c ∷ cs) ds [] loud ends shown = absurd loud
@@ -161,7 +161,7 @@ abbrev pub AreNothing : List RepeatedFrame → Type 0
 AreNothing [] = Unit {0}
 AreNothing (f ∷ fs) = (f.0 ≡ repeated.Nothing) × AreNothing fs
 
--- lemma: stays_closed
+-- where no call is open, none is behind frames that repeat nothing
 pub stays_closed : (current : Option Entry) (n : ℕ) (frames : List RepeatedFrame) (ended : List Entry) (last : Option Entry)
     → IsNoCall current → AreNothing frames → AreFollowed current n frames ended last → IsNoCall last
 stays_closed current n [] ended last closed nothing (none, same) = subst IsNoCall (sym same) closed
@@ -178,7 +178,7 @@ is_closed current n (f ∷ fs) ended last some nothing (one, next, rest, step, t
     (nothing_ends current n f.1 one next (subst (λ (r : Repeated). IsStep current n r f.1 one next) nothing.0 step)) nothing.1
     later
 
--- lemma: pause_shown
+-- what shows silences repeats nothing
 pub pause_shown : (colour k : ℕ) (frames : List RepeatedFrame) → AreShown colour (replicate k (unsaid Silent)) (repeats_of frames)
     → AreNothing frames
 pause_shown colour zero [] shown = tt
@@ -202,7 +202,7 @@ zip_long R [] (y ∷ ys) p = absurd p
 zip_long R (x ∷ xs) [] p = absurd p
 zip_long R (x ∷ xs) (y ∷ ys) p = let more = zip_long R xs ys p.1 in omega (arith, more)
 
--- lemma: replicate_long
+-- so many are so many
 pub replicate_long : {A : Type 0} (n : ℕ) (x : A) → length (replicate n x) ≡ n
 replicate_long zero x = refl
 replicate_long (suc n) x = let more = replicate_long n x in omega (arith, more)
@@ -248,7 +248,7 @@ record IsPassedOver (colour n : ℕ) (t : Transmission) (due : Option Call) (ds 
   whole : (place ≡ n + length (cells colour t)) ⊎ (rest ≡ [])
   few : place + length rest < 2 ^ 32
 
--- lemma: quiet_behind
+-- what shows a silence first repeats nothing first
 pub quiet_behind : (colour : ℕ) (ds : List Cell) (frames : List RepeatedFrame)
     → AreShown colour (unsaid Silent ∷ ds) (repeats_of frames) → IsQuiet frames
 quiet_behind colour ds [] shown = tt
@@ -357,7 +357,8 @@ call_passed colour n t call shape ds current quiet (f ∷ fs) rest ended last no
     (quiet_behind colour ds rest behind) refl (omega (arith, below, all_long, rest_long)) two.second in
     let lifted = more_told two.before (two.after ++ option_to_list last) (n + length quiet) (1 + length fs) call one.tells in
     let all : two.before ++ (two.after ++ option_to_list last) ≡ ended ++ option_to_list last =
-    sym (append_assoc two.before two.after (option_to_list last)) ∙ ap (λ (l : List Entry). l ++ option_to_list last) (sym two.all) in
+    sym (append_assoc two.before two.after (option_to_list last))
+    ∙ ap (λ (l : List Entry). l ++ option_to_list last) (sym two.all) in
     let place : n + length quiet ≡ n + slots_before t = omega (arith, long_quiet) in
     let count : 1 + length fs ≡ length (cells colour t) - slots_before t = omega (arith, cells_long) in
     record {
@@ -427,7 +428,7 @@ no_shape colour t None ds first count es shape shown = tt
 no_shape colour t (Some call) ds first count es shape shown =
     absurd (not_silent colour (cells colour t) ds shape.louds shape.loud shape.ends shown)
 
--- lemma: none_left
+-- where no frame is left, no call is due
 pub none_left : (colour n : ℕ) (ts : List (Transmission × ℕ)) (es : List Entry) → IsWellFormed colour ts
     → AreShown colour (sent_from colour ts) [] → AreCallsTold colour n ts es
 none_left colour n [] es well shown = tt
@@ -442,7 +443,7 @@ more_due : (due : Option Call) (before es : List Entry) (first count : ℕ) → 
 more_due None before es first count told = tt
 more_due (Some call) before es first count told = more_told before es first count call told
 
--- lemma: more_calls
+-- calls among entries are so among more
 pub more_calls : (colour n : ℕ) (ts : List (Transmission × ℕ)) (before es : List Entry) → AreCallsTold colour n ts es
     → AreCallsTold colour n ts (before ++ es)
 more_calls colour n [] before es told = tt
@@ -470,7 +471,8 @@ after_pause : (colour n k : ℕ) (ts : List (Transmission × ℕ)) (t : Transmis
 unfolding AllTold
 after_pause colour n k ts t ended last well all rest before after going place followed is at few front more split shown behind
     (inr none) =
-    none_left colour _ ts _ well (subst (λ (l : List RepeatedFrame). AreShown colour (sent_from colour ts) (repeats_of l)) none behind)
+    none_left colour _ ts _ well
+    (subst (λ (l : List RepeatedFrame). AreShown colour (sent_from colour ts) (repeats_of l)) none behind)
 after_pause colour n k ts t ended last well all rest before after going place followed is at few front more split shown behind
     (inl whole) =
     let long : length front ≡ suc k = whole ∙ replicate_long (suc k) (unsaid Silent) in
@@ -513,7 +515,7 @@ unfolding AllTold
 behind_pause colour n k ts t ended last well all due p =
     pause_ends colour n k ts t ended last well all p.rest p.before p.after p.going p.place p.behind p.followed p.all p.whole p.few
 
--- lemma: pause_is
+-- at least one silence stands behind each transmission
 pub pause_is : (t : Transmission) (n : ℕ) (ts : List (Transmission × ℕ)) → IsPause t n ts → 1 ≤ n
 pause_is (VoiceCall lc header leads gap ss (Terminated information more)) n ts p = p
 pause_is (VoiceCall lc header leads gap ss Silenced) n ts p = omega (arith, p)

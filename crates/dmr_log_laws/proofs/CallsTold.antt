@@ -58,7 +58,8 @@ behind_lead colour lead ts frames ended last well shown below followed =
     ap length part.split ∙ length-append part.front part.rest in
     let closed = stays_closed None 0 part.front two.before two.going tt (pause_shown colour lead part.front part.shown) two.first in
     let all : two.before ++ (two.after ++ option_to_list last) ≡ ended ++ option_to_list last =
-    sym (append_assoc two.before two.after (option_to_list last)) ∙ ap (λ (l : List Entry). l ++ option_to_list last) (sym two.all) in
+    sym (append_assoc two.before two.after (option_to_list last))
+    ∙ ap (λ (l : List Entry). l ++ option_to_list last) (sym two.all) in
     subst (AreCallsTold colour lead ts) all
     (more_calls colour lead ts two.before (two.after ++ option_to_list last)
     (from_lead colour lead ts part.front part.rest two.going two.after last well part.behind closed (omega (arith, long, below))

@@ -182,8 +182,8 @@ shown colour missing (c ∷ cs) (slot ∷ slots) past back (o ∷ outs) (a ∷ c
         gives = given.0;
         told = decided.0;
       },
-      shown colour missing cs slots past (c.means (vocoder_of slot) ∷ back) outs came told (omega (arith, long)) recorded.1 arrives.1
-          given.1 decided.1,
+      shown colour missing cs slots past (c.means (vocoder_of slot) ∷ back) outs came told (omega (arith, long)) recorded.1
+          arrives.1 given.1 decided.1,
     )
 
 -- 3. A whole slot.

@@ -3,6 +3,7 @@ pub mod CallShapes
 pub mod Calls
 pub mod CallsTold
 pub mod Decided
+pub mod Examples
 pub mod Followed
 pub mod Growing
 pub mod Headers

@@ -63,7 +63,8 @@ same_bursts m h l k (slot ∷ slots) (x ∷ a) (y ∷ b) after after' (next, p, 
     let step : decided m p.heard p.carried ≡ decided m q.heard q.carried =
     ap (λ (o : Heard). decided m o p.carried) heard ∙ ap (λ (lc : Option FullLc). decided m q.heard lc) carried in
     let behind : next ≡ after_push m q.heard q.carried =
-    p.remembers ∙ ap (λ (o : Heard). after_push m o p.carried) heard ∙ ap (λ (lc : Option FullLc). after_push m q.heard lc) carried in
+    p.remembers ∙ ap (λ (o : Heard). after_push m o p.carried) heard
+    ∙ ap (λ (lc : Option FullLc). after_push m q.heard lc) carried in
     let said : Said = (decided m q.heard q.carried).0 in
     cons_alike x.repeated y.repeated (bursts_of_outs a) (bursts_of_outs b)
     (same_repeated m.colour m.left l m.lc k said x y

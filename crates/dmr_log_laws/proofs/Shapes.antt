@@ -237,6 +237,7 @@ places_shown colour call (s ∷ ss) short =
 
 -- the headers of a call, with those behind the first
 pub all_headers_shown : (colour : ℕ) (lc : FullLc) (header : List Bool) (leads : List Lead)
-    → AreShownAs colour (header_cell lc header ∷ map (lead_cell lc header) leads) (repeated.CallHeader (Some lc) ∷ header_repeats lc leads)
+    → AreShownAs colour (header_cell lc header ∷ map (lead_cell lc header) leads)
+    (repeated.CallHeader (Some lc) ∷ header_repeats lc leads)
 all_headers_shown colour lc header leads =
     (header_shown colour lc header (header_cell lc header).sent, leads_shown colour lc header leads)

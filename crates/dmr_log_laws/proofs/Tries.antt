@@ -74,7 +74,7 @@ at_step None n r checks one next below at step =
 at_step (Some t) n r checks one next below at (same, so, step) =
     at_either (belongs same t.subject r) t n r checks one next below at step
 
--- lemma: at_frames
+-- behind frames, a transmission that is open has them
 pub at_frames : (current : Option Entry) (n m : ℕ) (frames : List RepeatedFrame) (ended : List Entry) (last : Option Entry)
     → m ≡ n + length frames → m < 2 ^ 32 → IsAt n current → AreFollowed current n frames ended last → IsAt m last
 at_frames current n m [] ended last place below at (none, same) =
@@ -108,7 +108,8 @@ headed_or_not false span s n head checks one next below at so step =
 headed_or_not true span s n head checks one next below at so step = record {
   span = span_with span (repeated.DataHeader head) checks;
   is = ap (λ (q : Option Ended × Option Entry). q.1) step
-      ∙ ap (λ (x : Subject). let e : Entry = record { span = span_with span (repeated.DataHeader head) checks; subject = x } in Some e) so;
+      ∙ ap (λ (x : Subject). let e : Entry = record { span = span_with span (repeated.DataHeader head) checks; subject = x } in
+      Some e) so;
   begins = omega (arith, at);
   at = one_frame_more span.first span.frames n at below;
 }
@@ -139,7 +140,8 @@ abbrev IsBlockOr : Option Block → Repeated → Type 0
 IsBlockOr None r = r ≡ repeated.Nothing
 IsBlockOr (Some d) r = r ≡ repeated.Block d.kind
 
-kind_told : (kind : ℕ) (contents : Option Contents) → Contains (7 ∷ 8 ∷ 10 ∷ []) kind → data_told kind None contents ≡ repeated.Block kind
+kind_told : (kind : ℕ) (contents : Option Contents) → Contains (7 ∷ 8 ∷ 10 ∷ []) kind
+    → data_told kind None contents ≡ repeated.Block kind
 kind_told kind contents (zero, below, is) =
     subst (λ (k : ℕ). data_told k None contents ≡ repeated.Block k) is refl
 kind_told kind contents (suc zero, below, is) =
@@ -203,8 +205,9 @@ ends_quietly span p n (f ∷ fs) ended last all quiet (one, next, rest, step, to
     let quiet_step = subst (λ (r : Repeated). IsStep (Some (packet_entry span p)) n r f.1 one next) quiet step in
     let over : nat_lt 0 p.left ≡ false = ap (nat_lt 0) all in
     let is : one ≡ Some (record { transmission = packet_entry span p; by = ended_by repeated.Nothing }) =
-    (pair_false (nat_lt 0 p.left) one (Some (record { transmission = packet_entry span p; by = ended_by repeated.Nothing })) None next
-    (Some (transmission_with (packet_entry span p) repeated.Nothing f.1)) (begun_in n repeated.Nothing f.1) over quiet_step.2).0 in
+    (pair_false (nat_lt 0 p.left) one (Some (record { transmission = packet_entry span p; by = ended_by repeated.Nothing })) None
+    next (Some (transmission_with (packet_entry span p) repeated.Nothing f.1)) (begun_in n repeated.Nothing f.1) over
+    quiet_step.2).0 in
     let ended_is : ended ≡ packet_entry span p ∷ rest =
     told ∙ ap (λ (x : Option Ended). option_to_list (option_map (λ (e : Ended). e.transmission) x) ++ rest) is in
     subst (λ (l : List Entry). IsPacketTold (packet_entry span p) p 0 (l ++ option_to_list last)) (sym ended_is)
@@ -236,7 +239,8 @@ block_more : (b : Option Block) (bs : List (Option Block)) (r : Repeated) (f : R
     → IsPacketTold (packet_entry s q) q (there_count bs) (es ++ option_to_list last))
     → AreFollowed (Some (packet_entry span p)) n (f ∷ fs) ended last
     → IsPacketTold (packet_entry span p) p (there_count (b ∷ bs)) (ended ++ option_to_list last)
-block_more b bs r f fs span p n ended last is belong burst left there at below more (one, next, rest, (same, so, step), told, later) =
+block_more b bs r f fs span p n ended last is belong burst left there at below more
+    (one, next, rest, (same, so, step), told, later) =
     let step_is = subst (λ (x : Repeated). ◌≡◌ {A = Option Ended × Option Entry} (one, next)
     (cond (belongs same (subject.Packet p) x) (None, Some (transmission_with (packet_entry span p) x f.1))
     (Some (record { transmission = packet_entry span p; by = ended_by x }), begun_in n x f.1))) is step in
@@ -427,7 +431,7 @@ none_of_one colour n (LateCall lc tail ss ending) es shown = tt
 none_of_one colour n (Controls bursts) es shown = tt
 none_of_one colour n (ForeignParts parts) es shown = tt
 
--- lemma: no_tries_left
+-- where no frame is left, no try is due
 pub no_tries_left : (colour n : ℕ) (ts : List (Transmission × ℕ)) (es : List Entry) → AreShown colour (sent_from colour ts) []
     → AreTriesTold colour n ts es
 no_tries_left colour n [] es shown = tt
@@ -467,7 +471,8 @@ rest_told : (colour n k : ℕ) (t : Transmission) (ts : List (Transmission × �
     → (length front ≡ length (cells colour t ++ replicate k (unsaid Silent))) ⊎ (rest ≡ [])
     → AreTriesTold colour (n + length (cells colour t) + k) ts (after ++ option_to_list last)
 rest_told colour n k t ts front rest after going last all behind at below followed (inr none) =
-    no_tries_left colour _ ts _ (subst (λ (l : List RepeatedFrame). AreShown colour (sent_from colour ts) (repeats_of l)) none behind)
+    no_tries_left colour _ ts _
+    (subst (λ (l : List RepeatedFrame). AreShown colour (sent_from colour ts) (repeats_of l)) none behind)
 rest_told colour n k t ts front rest after going last all behind at below followed (inl whole) =
     let long = length-append (cells colour t) (replicate k (unsaid Silent)) in
     let pause = replicate_long k (unsaid Silent) in
@@ -492,7 +497,8 @@ tries_behind colour t (suc k) ts is some all n frames current ended last shown a
     let rest = rest_told colour n (suc k) t ts part.front part.rest two.after two.going last all part.behind stands
     (omega (arith, below, long)) two.second part.whole in
     let all_are : two.before ++ (two.after ++ option_to_list last) ≡ ended ++ option_to_list last =
-    sym (append_assoc two.before two.after (option_to_list last)) ∙ ap (λ (l : List Entry). l ++ option_to_list last) (sym two.all) in (
+    sym (append_assoc two.before two.after (option_to_list last))
+    ∙ ap (λ (l : List Entry). l ++ option_to_list last) (sym two.all) in (
       due_of_one colour n (suc k) t (replicate k (unsaid Silent) ++ sent_from colour ts) frames current ended last is at below
           regrouped followed,
       subst (AreTriesTold colour (n + length (cells colour t) + suc k) ts) all_are
@@ -506,5 +512,5 @@ pub tries_told : (colour : ℕ) (ts : List (Transmission × ℕ)) → IsWellForm
     → AreFollowed current n frames ended last → AreTriesTold colour n ts (ended ++ option_to_list last)
 tries_told colour [] well n frames current ended last shown at below followed = tt
 tries_told colour (t ∷ ts) well n frames current ended last shown at below followed =
-    tries_behind colour t.0 t.1 ts well.0 (pause_is t.0 t.1 ts well.1) (tries_told colour ts well.2) n frames current ended last shown
-    at below followed
+    tries_behind colour t.0 t.1 ts well.0 (pause_is t.0 t.1 ts well.1) (tries_told colour ts well.2) n frames current ended last
+    shown at below followed

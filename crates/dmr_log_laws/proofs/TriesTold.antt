@@ -48,7 +48,8 @@ behind_lead colour lead ts frames ended last well shown below followed =
     let at = at_frames None 0 (0 + length part.front) part.front two.before two.going refl (omega (arith, long, below)) tt
     two.first in
     let all : two.before ++ (two.after ++ option_to_list last) ≡ ended ++ option_to_list last =
-    sym (append_assoc two.before two.after (option_to_list last)) ∙ ap (λ (l : List Entry). l ++ option_to_list last) (sym two.all) in
+    sym (append_assoc two.before two.after (option_to_list last))
+    ∙ ap (λ (l : List Entry). l ++ option_to_list last) (sym two.all) in
     subst (AreTriesTold colour lead ts) all
     (more_tries colour lead ts two.before (two.after ++ option_to_list last)
     (from_lead colour lead ts part.front part.rest two.going two.after last well part.behind at (omega (arith, long, below))

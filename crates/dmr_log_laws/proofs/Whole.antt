@@ -60,7 +60,8 @@ slots_of_log colour gateway frames told log w =
           (told_of_slot_2 w.of_frames) log.told.slot_2 both.bursts_2 w.decided.second (map-append _ frames (silent_frames 5))
           (ap told_of_slot_2 w.all ∙ map-append _ w.of_frames (log.told ∷ [])) w.ended.ends_2 both.passed_2;
       counts = λ few.
-          let long : length (frames ++ silent_frames 5) ≡ length frames + 5 = length-append frames (silent_frames 5) ∙ omega arith in
+          let long : length (frames ++ silent_frames 5) ≡ length frames + 5 =
+          length-append frames (silent_frames 5) ∙ omega arith in
           ap (λ (c : LogCounts). c.repeated) w.ended.counts
           ∙ records_repeat log.told.received (with_ends log.told.slot_1 log.told.slot_2 w.decided.counts)
           ∙ ends_repeat log.told.slot_1 log.told.slot_2 w.decided.counts

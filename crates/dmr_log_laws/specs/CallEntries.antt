@@ -76,14 +76,14 @@ call_due colour (LateCall lc tail superframes ending) = Some (record {
 })
 call_due colour t = None
 
--- How many slots of a transmission stand in front of its first that means something: of a late call those before its first A.
+-- How many slots of a call stand in front of the first that means something: of a late call those in front of its first A.
 abbrev pub slots_before : Transmission → ℕ
 slots_before (LateCall lc tail superframes ending) = length tail
 slots_before t = 0
 
 -- 2. The entries.
 
--- One of these entries tells this call: it begins in this frame, and has so many, each of which repeats a burst.
+-- One of these entries tells this call: it begins in this frame and has so many frames, each of which repeats a burst.
 pub record TellsCall (told : List Entry) (first count : ℕ) (call : Call) : Type 0 where
   pub entry : Entry
   pub among : Contains told entry
@@ -92,7 +92,7 @@ pub record TellsCall (told : List Entry) (first count : ℕ) (call : Call) : Typ
   pub bursts : entry.span.bursts ≡ count
   pub tells : entry.subject ≡ subject.Call call
 
--- Each call of these transmissions is told, the first of which begins in this frame.
+-- Each call of these transmissions is told, where the first of them begins in this frame.
 abbrev pub AreCallsTold : ℕ → ℕ → List (Transmission × ℕ) → List Entry → Type 0
 AreCallsTold colour frame [] told = Unit {0}
 AreCallsTold colour frame (t ∷ ts) told =
@@ -102,11 +102,11 @@ AreCallsTold colour frame (t ∷ ts) told =
 
 -- 3. The law.
 
--- Whatever well-formed transmissions are sent in a slot, and however they are damaged within the limits, each of its calls is told.
+-- Whatever well-formed transmissions are sent in a slot, and however they are damaged within the limits, each call is told.
 abbrev pub CallsOfSlotAreTold : ℕ → List (Option (List ℕ)) → List SlotTold → Type 0
 CallsOfSlotAreTold colour slots told =
-    (lead : ℕ) (ts : List (Transmission × ℕ)) → IsWellFormed colour ts → IsDamagedRecordingOf colour (sent_list colour lead ts) slots →
-    AreCallsTold colour lead ts (entries_of told)
+    (lead : ℕ) (ts : List (Transmission × ℕ)) → IsWellFormed colour ts →
+    IsDamagedRecordingOf colour (sent_list colour lead ts) slots → AreCallsTold colour lead ts (entries_of told)
 
 -- So it is in both slots of a recording.
 abbrev pub CallsAreTold : Type 0

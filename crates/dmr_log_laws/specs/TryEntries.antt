@@ -51,7 +51,7 @@ IsTryTold frame (DataTry csbks header blocks) told =
     TellsPacket told (frame + length csbks) h (there_count blocks)
 IsTryTold frame t told = Unit {0}
 
--- So is each try of these transmissions, the first of which begins in this frame.
+-- So is each try of these transmissions, where the first of them begins in this frame.
 abbrev pub AreTriesTold : ℕ → ℕ → List (Transmission × ℕ) → List Entry → Type 0
 AreTriesTold colour frame [] told = Unit {0}
 AreTriesTold colour frame (t ∷ ts) told =
@@ -59,8 +59,8 @@ AreTriesTold colour frame (t ∷ ts) told =
 
 -- 3. The law.
 
--- Whatever well-formed transmissions are sent in a slot, and however they are damaged within the limits, each of its tries whose
--- header counts its blocks is told.
+-- Whatever well-formed transmissions are sent in a slot, and however they are damaged within the limits, each data try is told whose
+-- header counts its blocks.
 abbrev pub TriesOfSlotAreTold : ℕ → List (Option (List ℕ)) → List SlotTold → Type 0
 TriesOfSlotAreTold colour slots told =
     (lead : ℕ) (ts : List (Transmission × ℕ)) → IsWellFormed colour ts →

@@ -26,8 +26,8 @@ pub fn entries_agree_with_runs()
     all_bursts_are_told();
 }
 
-/// Of well-formed transmissions in a slot, damaged within the limits, there is an entry for each call, headers alone and late calls.
-/// It tells the frames of the call, its link control, its places, those that are absent, and whether it has a terminator.
+/// Of well-formed transmissions in a slot, damaged within the limits, there is an entry for each call, headers alone and late calls
+/// among them. It tells the frames of the call, its link control, its places, those that are absent, and its terminator.
 pub fn calls_are_told()
     ensures law { CallsAreTold }
 {}
