@@ -59,8 +59,8 @@ AreTriesTold colour frame (t ∷ ts) told =
 
 -- 3. The law.
 
--- Whatever well-formed transmissions are sent in a slot, and however they are damaged within the limits, each data try is told whose
--- header counts its blocks.
+-- Whatever well-formed transmissions are sent in a slot, and however they are damaged within the limits, each data try is told
+-- whose header counts its blocks.
 abbrev pub TriesOfSlotAreTold : ℕ → List (Option (List ℕ)) → List SlotTold → Type 0
 TriesOfSlotAreTold colour slots told =
     (lead : ℕ) (ts : List (Transmission × ℕ)) → IsWellFormed colour ts →
