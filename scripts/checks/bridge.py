@@ -15,7 +15,7 @@ import time
 
 from checks import recordings as it
 from checks.pipes import OF_DOWNLINK, OF_UPLINK, in_frames
-from checks.program import Ran
+from checks.program import Ran, Room
 
 # How long a test waits for what has to come, in seconds. It goes on as soon as that is there.
 PATIENCE = 30
@@ -344,21 +344,23 @@ class Gateway:
         lines = [line for line in told if line.startswith("frames ")]
         count = len([*self.kept.glob("*.dmru")])
         for number, line in itertools.zip_longest(range(self.first, count + 1), lines):
-            self.expect_run_as_over_files(f"{self.name}: run {number}", number, line)
+            expect_run_as_over_files(self.report, f"{self.name}: run {number}", self.kept / str(number), line, self.llid)
 
-    def expect_run_as_over_files(self, name, number, line):
-        """A run over the inputs of a live run writes its outputs, and prints its line, where it has one."""
-        over = [self.path / f"over-files.{kind}" for kind in ("dmrd", "dmri")]
-        words = ["--uplink", self.kept / f"{number}.dmru", "--outgoing", self.kept / f"{number}.dmro"]
-        ran = self.report.call("run", "--llid", self.llid, *words, "--downlink", over[0], "--received", over[1])
-        outputs = [(self.file(file.suffix[1:], number), file.read_bytes()) for file in over]
-        if line is None:
-            is_so = all(whole.startswith(output) for output, whole in outputs)
-            self.expect(f"{name}: a front of the outputs over files", is_so, "other octets")
-            return
-        self.expect(f"{name}: the line over files", (ran.status, ran.out, ran.err) == (0, f"{line}\n".encode(), b""), ran)
-        self.expect(f"{name}: the outputs over files", all(output == whole for output, whole in outputs), "other octets")
-        frames = [frame for frame, *_ in outgoing_in(self.file("dmro", number))]
-        self.expect(f"{name}: the frames of the records", frames == [*range(1, len(frames) + 1)], frames)
-        given = len(in_frames(self.file("dmru", number), OF_UPLINK)) - 1
-        self.expect(f"{name}: a record for each frame", len(frames) == given + 1, (len(frames), given))
+
+def expect_run_as_over_files(report, name, recorded, line, llid=1):
+    """A run over the inputs of a recorded run writes its outputs, and prints its line, where it has one. Its four files are named
+    alike, but for their endings."""
+    uplink, outgoing, *outputs = [recorded.with_suffix(f".{kind}").read_bytes() for kind in KINDS]
+    with Room(report, uplink, outgoing) as room:
+        ran = room.run("--llid", llid)
+        over_files = room.outputs()
+    if line is None:
+        is_so = all(whole.startswith(output) for whole, output in zip(over_files, outputs))
+        report.expect(f"{name}: a front of the outputs over files", is_so, "other octets")
+        return
+    report.expect(f"{name}: the line over files", (ran.status, ran.out, ran.err) == (0, f"{line}\n".encode(), b""), ran)
+    report.expect(f"{name}: the outputs over files", over_files == outputs, "other octets")
+    frames = [frame for frame, *_ in outgoing_in(outgoing)]
+    report.expect(f"{name}: the frames of the records", frames == [*range(1, len(frames) + 1)], frames)
+    given = len(in_frames(uplink, OF_UPLINK)) - 1
+    report.expect(f"{name}: a record for each frame", len(frames) == given + 1, (len(frames), given))

@@ -1,5 +1,6 @@
 """The documents are true of the sources: links lead somewhere, definitions stand in their files, words in their crates, and the
-public calls in their table; counts are as they are counted. No sentence of theirs, or of a docstring, is longer than 40 words."""
+public calls in their table; counts are as they are counted. No sentence of theirs, or of a docstring, is longer than 40 words.
+In a docstring a colon ends a sentence too."""
 
 import re
 import subprocess
@@ -59,8 +60,9 @@ LINKED = re.compile(r"\[([^\]]*)\](?:\([^)\s]*\)|\[[^\]]*\])")
 WORD = re.compile(r"`([^`\s]+)`")
 FILE = re.compile(r"/|\.(?:rt|antt|edit|py|md|txt|1)$")
 TOLD_FOLDERS = "crates", "docs", "scripts", "share", "samples"
-# The last word of a sentence, with brackets, quotes and marks behind it.
-LAST_WORD = re.compile(r"[.!?:][)\]\"'*_]*$")
+# The last word of a sentence, with brackets, quotes and marks behind it: in a document, and in a docstring.
+LAST_WORD = re.compile(r"[.!?][)\]\"'*_]*$")
+LAST_OF_DOCSTRING = re.compile(r"[.!?:][)\]\"'*_]*$")
 
 
 def documents_of(report):
@@ -190,6 +192,18 @@ def check_words(report):
             report.expect(f"{name} stands in {stands}", name in declared_in(*places))
 
 
+def check_rules(report):
+    """docs/architecture.md tells of rules and meaning in files of definitions that are there."""
+    text = (report.top / "docs/architecture.md").read_text()
+    text = text[text.index("\n## Rules and meaning\n") :]
+    tables = re.findall(r"^In [^`\n]+`(\w+/specs)`[^`\n]*:\n\n((?:\|.*\n)+)", text, re.MULTILINE)
+    told = [(folder, name) for folder, table in tables for name in re.findall(r"`([\w/]+\.antt)`", table)]
+    places = [report.top / "crates" / (name if "/" in name else f"{folder}/{name}") for folder, name in told]
+    missing = [str(it) for it in places if not it.exists()]
+    report.expect("files of rules and meaning are told", len(places) > 40, len(places))
+    report.expect("the files of rules and meaning are there", not missing, missing)
+
+
 def libraries_of(report):
     """The crates but for those of tests."""
     crates = sorted(it for it in (report.top / "crates").iterdir() if (it / "src").is_dir())
@@ -228,7 +242,8 @@ def check_types(report):
 
 
 def check_crates(report):
-    """docs/architecture.md lists each crate, lowest first, and has each in a layer; no document names any other."""
+    """docs/architecture.md lists each crate, lowest first, has each in a layer, and tells where the tests of each library stand; no
+    document names any other."""
     listed = re.findall(r"^(\w+):", (report.top / "crates.txt").read_text(), re.MULTILINE)
     there = {it.name for it in (report.top / "crates").iterdir() if (it / "src").is_dir()}
     report.expect("crates.txt lists each crate", set(listed) == there, set(listed) ^ there)
@@ -240,6 +255,9 @@ def check_crates(report):
     in_layers = [it for _, crates in layers for it in re.findall(r"\bdmr\w+", crates)]
     is_so = sorted(in_layers) == sorted(wanted)
     report.expect("docs/architecture.md has each crate in a layer", is_so, set(in_layers) ^ set(wanted))
+    libraries = {it for it in wanted if (report.top / "crates" / it / "src/lib.rt").exists()}
+    tested = {it for crates, _ in tables_of(architecture, "| Tests of | Stand in |") for it in re.findall(r"\bdmr_\w+", crates)}
+    report.expect("docs/architecture.md tells where the tests of each library stand", tested == libraries, tested ^ libraries)
     for name in documents_of(report):
         told = set(re.findall(r"\bdmr(?:_|gate_)\w+", (report.top / name).read_text()))
         report.expect(f"{name} names no crate that isn't there", told <= there, told - there)
@@ -255,7 +273,8 @@ def picture_of(crates_txt):
         floors[name] = 1 + max((floors[it] for it in named[name]), default=0)
         below[name] = set(named[name]).union(*(below[it] for it in named[name]))
     of_repeating, of_tools = ({program} | below[program] for program in ("dmrgate", "dmrgate_tools"))
-    wings = of_repeating - of_tools, of_repeating & of_tools, of_tools - of_repeating
+    # What stands below neither program yet is beside the tools.
+    wings = of_repeating - of_tools, of_repeating & of_tools, set(libraries) - of_repeating
     rows = [("floor", "the program that repeats", "both programs", "the tools")]
     for floor in range(max(floors.values()), 0, -1):
         on_floor = [[it for it in libraries if it in wing and floors[it] == floor] for wing in wings]
@@ -339,6 +358,20 @@ def check_counts(report):
     report.expect("docs/testing.md has each part of ./check, in order", in_table == parts, in_table)
 
 
+def check_samples(report):
+    """samples/README.md has a row for each sample. docs/testing.md tells how many frames their downlinks have, and how many of them
+    the tests hold."""
+    folders = sorted(it for it in (report.top / "samples").iterdir() if it.is_dir())
+    rows = [name for name, _ in tables_of((report.top / "samples/README.md").read_text(), "| Folder | Shows |")]
+    names = {it.name for it in folders}
+    report.expect("samples/README.md has a row for each sample", sorted(rows) == sorted(names), names ^ set(rows))
+    frames = sum(int((it / "summary.txt").read_text().split()[1]) for it in folders)
+    tested = (report.top / "crates/dmr_repeater_tests/src/tests/samples.rt").read_text().count("\npub static ")
+    text = " ".join((report.top / "docs/testing.md").read_text().split())
+    for told in (f"Their {len(folders)} downlinks have {frames:,} frames.", f"{tested} of them are also tests of `rt ci`."):
+        report.expect(f"docs/testing.md tells: {told}", told in text)
+
+
 def crates_above(crates_txt):
     """For each crate the others that stand on it, at whatever distance, those of tests too."""
     above = {}
@@ -418,7 +451,7 @@ def passages_of(text):
     return passages
 
 
-def sentences_of(passage):
+def sentences_of(passage, last_word):
     """For each sentence of a passage the number of lines before it, and its words. Code is one word; code alone is no sentence."""
     # A line break inside of code moves in front of it, so that lines stay as many.
     plain = CODE.sub(lambda it: "\n" * it[0].count("\n") + "`", passage)
@@ -428,15 +461,15 @@ def sentences_of(passage):
         if re.search(r"[^\W_]|`", word[0]):
             begin = plain[: word.start()].count("\n") if begin is None else begin
             words.append(word[0])
-        if LAST_WORD.search(word[0]) or not plain[word.end() :].strip():
+        if last_word.search(word[0]) or not plain[word.end() :].strip():
             if any(re.search(r"[^\W_]", it) for it in words):
                 yield begin, words
             begin, words = None, []
 
 
-def lengths_in(text):
+def lengths_in(text, last_word=LAST_WORD):
     """Where each sentence begins, and how many words it has."""
-    return [(at + begin, len(words)) for at, passage in passages_of(text) for begin, words in sentences_of(passage)]
+    return [(at + begin, len(words)) for at, passage in passages_of(text) for begin, words in sentences_of(passage, last_word)]
 
 
 def too_long_in(lengths):
@@ -455,8 +488,9 @@ def check_counting(report):
         ("one behind a heading", f"# Title\n\n{just}\n{over}", [(4, more)]),
         ("one over many lines", over.replace(" ", "\n", 20), [(1, more)]),
         ("one that ends with its paragraph", f"{over[:-1]}\n\n{open_end}", [(1, more)]),
-        ("one before a colon", f"{over[:-1]}: {just}", [(1, more)]),
-        ("four kinds of ends", f"{open_end}: {open_end}! {open_end}? *{just}* {just}", []),
+        ("one over a colon", f"{open_end}: {just}", [(1, 2 * LONGEST)]),
+        ("one over a semicolon", f"{open_end}; {just}", [(1, 2 * LONGEST)]),
+        ("three kinds of ends", f"{open_end}! {open_end}? *{just}* {just}", []),
         ("an end in brackets", f"(\"{just}\") {just}", []),
         ("a point inside a word", over.replace("word", "a.b", 1), [(1, more)]),
         ("list items", f"- {open_end}\n- {open_end}\n  - {open_end}\n1. {over}", [(4, more)]),
@@ -474,18 +508,24 @@ def check_counting(report):
         ("indented code is none", f"    {over}", []),
         ("fenced code is none", f"```\n{over}\n```\n{over}", [(4, more)]),
         ("what a link means is none", f"[{over}]: there.md", []),
-        ("docstrings", docstrings_in(source), [(2, 2 * LONGEST), (5, more)]),
     ):
         had = too_long_in(lengths_in(text))
         report.expect(f"sentences: {name}", had == wanted, had)
+    for name, text, wanted in (
+        ("docstrings", source, [(2, 2 * LONGEST), (5, more)]),
+        ("one before a colon", f"/// {over[:-1]}: {just}", [(1, more)]),
+        ("none over a colon", f"/// {open_end}: {just}", []),
+    ):
+        had = too_long_in(lengths_in(docstrings_in(text), LAST_OF_DOCSTRING))
+        report.expect(f"sentences of docstrings: {name}", had == wanted, had)
 
 
 def check_sentences(report):
-    """No sentence of a document or of a docstring has more than 40 words."""
+    """No sentence of a document or of a docstring has more than 40 words. In a docstring a colon ends one too."""
     check_counting(report)
     lengths = {name: lengths_in((report.top / name).read_text()) for name in documents_of(report)}
     for source in sorted(report.top.glob("crates/*/src/**/*.rt")):
-        lengths[source.relative_to(report.top)] = lengths_in(docstrings_in(source.read_text()))
+        lengths[source.relative_to(report.top)] = lengths_in(docstrings_in(source.read_text()), LAST_OF_DOCSTRING)
     count = sum(map(len, lengths.values()))
     report.expect("sentences are found", count > 5000, count)
     for name, had in lengths.items():
@@ -500,12 +540,14 @@ def check(report):
     check_promises(report)
     check_headline(report)
     check_words(report)
+    check_rules(report)
     check_names(report)
     check_types(report)
     check_crates(report)
     check_picture(report)
     check_public_calls(report)
     check_counts(report)
+    check_samples(report)
     check_callers(report)
     check_width(report)
     check_sentences(report)

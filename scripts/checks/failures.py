@@ -23,10 +23,13 @@ QUEUE = 9
 LEAST = ["--colour", 0, "--llid", 1, "--call-hang", 0, "--channel-hang", 0, "--queue", 1]
 GREATEST = ["--colour", 15, "--llid", 16_777_215, "--call-hang", 65_535, "--channel-hang", 65_535, "--queue", 64]
 
-# Words that are answered with no run: listings and faults, texts, one burst, help and the version, and mistakes.
+# Words that are answered with no run: listings, logs and faults, texts, one burst, help and the version, and mistakes.
 ANSWERED = [
     ["show", "one.dmru"], ["show", "one.dmru", "--json"], ["show", "one.dmru", "--strip"], ["show", "cut.dmru"],
+    ["log", "one.dmru", "--html"],
     ["show", "nowhere"], ["show", "long.dmri"], ["show", "long.dmri", "--json"], ["show", "long.dmri", "--strip"],
+    ["log", "one.dmru"], ["log", "one.dmru", "--csv"], ["log", "one.dmru", "--json", "--llid", 1], ["log", "cut.dmru"],
+    ["log", "nowhere"], ["log", "long.dmri"], ["log", "one.dmru", "--start", "now"], ["log", "--help"],
     ["export", "text", "one.dmru", "-"], ["export", "text", "cut.dmru", "-"], ["export", "text", "long.dmri", "made"],
     ["export", "text", "nowhere", "made"], ["export", "text", "one.dmru", "one.dmru"],
     ["import", "text", "one.txt", "-"], ["import", "text", "cut.txt", "-"], ["import", "text", "one.txt", "made"],
@@ -169,8 +172,10 @@ def expect_answer(report, shim, words, folder):
     for at in range(1, MANY):
         ran, reached = shim.run(lambda env: report.call(*words, cwd=folder, env=env), "memory", at)
         is_whole = (ran.status, ran.out, ran.err) == (whole.status, whole.out, whole.err)
-        # Lines up to a fault may stand before its text, for which there is no memory.
-        is_told = ran.status in (1, 2) and ran.err == NO_MEMORY and (ran.out == b"" or whole.status == 1 and ran.out == whole.out)
+        # Lines up to a fault may stand before its text, for which there is no memory. Each row of a log takes memory of its own.
+        is_front = ran.out == b"" or whole.status == 1 and ran.out == whole.out
+        is_front = is_front or words[:1] == ["log"] and whole.out.startswith(ran.out)
+        is_told = ran.status in (1, 2) and ran.err == NO_MEMORY and is_front
         report.expect(f"{words}, growth {at} fails", is_whole or is_told, ran)
         statuses += [] if is_whole else [ran.status]
         if not reached:

@@ -1,6 +1,7 @@
 """The longest files that there may be, and longer ones. A record past the limit is refused before its tag is looked at."""
 
 import array
+import resource
 import subprocess
 import sys
 
@@ -40,10 +41,15 @@ def check_listings(report):
         report.expect(f"an octet past the longest {file}, listed", is_so, ran)
 
 
+def have_little_memory():
+    """From here on a process has 64 MiB, which is less than the longest texts have octets."""
+    resource.setrlimit(resource.RLIMIT_AS, (64 << 20, 64 << 20))
+
+
 def expect_carried(report, name, room, command, given, wanted, line):
-    """What stands in a file is carried into another one."""
+    """What stands in a file is carried into another one, with little memory."""
     (room.path / "given").write_bytes(given)
-    ran = report.call(command, "text", "given", "made", cwd=room.path)
+    ran = report.call(command, "text", "given", "made", cwd=room.path, preexec_fn=have_little_memory)
     is_so = (ran.status, ran.out, ran.err) == (0, f"{line}\n".encode(), b"")
     report.expect(f"{command} of {name}", is_so and (room.path / "made").read_bytes() == wanted, ran)
 

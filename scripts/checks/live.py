@@ -4,12 +4,15 @@ packet leaves the machine."""
 import concurrent.futures
 import os
 import re
+import shutil
 import subprocess
 import sys
 
 from checks.bridge import BRIDGE
 from checks.live_cases import CASES
 
+# The programs that are needed, of which one makes a namespace.
+PROGRAMS = "unshare", "ip"
 NAMESPACE = "unshare", "--user", "--map-root-user", "--net"
 
 # Makes a TUN device, as the script does that is tried.
@@ -22,12 +25,13 @@ fcntl.ioctl(os.open("/dev/net/tun", os.O_RDWR), 0x400454CA, struct.pack("16sH22x
 AT_ONCE, LIMIT = 6, 600
 
 
-def can_be_tried():
-    """Whether a namespace and a TUN device can be made here."""
-    try:
-        return subprocess.run([*NAMESPACE, sys.executable, "-c", TUN], capture_output=True).returncode == 0
-    except FileNotFoundError:
-        return False
+def missing(*programs):
+    """What live gateways are tried with, and these programs, but isn't here; or nothing."""
+    names = [it for it in (*PROGRAMS, *programs) if not shutil.which(it)]
+    if names:
+        return " and ".join(f"no {it}" for it in names)
+    is_made = subprocess.run([*NAMESPACE, sys.executable, "-c", TUN], capture_output=True).returncode == 0
+    return "" if is_made else "no namespace or no TUN device"
 
 
 def done(report, name):
@@ -56,9 +60,8 @@ def check_help(report):
 
 def check(report):
     check_help(report)
-    if not can_be_tried():
-        print("skipped: no namespace or no TUN device", flush=True)
-        report.skipped += len(CASES)
+    if lacking := missing():
+        report.skip(len(CASES), lacking)
         return
     with concurrent.futures.ThreadPoolExecutor(AT_ONCE) as pool:
         for passed, failed, told in pool.map(lambda name: done(report, name), CASES):

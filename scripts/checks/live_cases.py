@@ -21,7 +21,7 @@ from building.programs import PROGRAMS
 from checks import recordings as it
 from checks.bridge import BRIDGE, DEVICE, GATEWAY, HOST_PORT, OF_RUN, PATIENCE, PMTUDISC_DO, PMTUDISC_DONT, RADIO, RADIO_PORT
 from checks.bridge import SILENCE, WAITED_FOR, Gateway, Host, add_routes, are_children_gone, call_ip, comes_true, in_slot
-from checks.bridge import is_device_there, mtu_of, numbers_of, take_orphans
+from checks.bridge import is_device_there, mtu_of, numbers_of, outgoing_in, take_orphans
 from checks.pipes import OF_DOWNLINK, OF_UPLINK, Reader, Sample, in_frames
 from checks.program import Report
 
@@ -86,6 +86,9 @@ HALVES = {
     }.items()
 }
 
+
+# What a received record holds.
+DATAGRAM, STATUS = 0, 2
 
 # A pipe takes more as long as one of its pages is free, so many octets. Linux has a call that tells how many a pipe holds.
 PAGE, F_GETPIPE_SZ = os.sysconf("SC_PAGESIZE"), 1032
@@ -226,8 +229,12 @@ def check_both_ways(report):
         live.be_silent(30)
         counts = "to-radios 3 to-hosts 1"
         live.expect_order("both ways", "frames 54 repeated 4 received 1 sent 3 refused 46", counts=counts)
-        records = [(frame, slot, packet[28:]) for frame, slot, _mode, packet in live.records()]
-        wanted = [(18, 2, b"how are you"), (19, 1, b"and you"), (20, 1, b"all")]
+        records = [(*at, socket.inet_ntoa(packet[16:20]), packet[28:]) for *at, packet in live.records()]
+        wanted = [
+            (18, 2, 0, "12.0.0.2", b"how are you"),
+            (19, 1, 0, "12.0.0.3", b"and you"),
+            (20, 1, 0, "225.0.0.2", b"all"),
+        ]
         report.expect("both ways: the records", records == wanted, records)
         strip = ["..........iiiiiiiiiccDbbccDbbiiiii....................", "..........DbbbiiiiccDbbiiiiiiiiiii...................."]
         report.expect("both ways: the picture", live.strip() == strip, live.strip())
@@ -483,6 +490,8 @@ def check_beginnings(report):
         told_alone = report.call("run", "--uplink", "a", "--downlink", "b", "--llid", 1, "--colour", 99).err.decode()
         is_so = (ran.status, told, error) == (1, told_alone, " has ended with status 2\n")
         report.expect("a setting that the run refuses", is_so, ran)
+        live.expect_nothing_left("a setting that the run refuses")
+        report.expect("a run that never began leaves no file", not [*live.kept.iterdir()], [*live.kept.iterdir()])
     for options in (["--slot", 3], ["--clock", "sun"], ["--llid", 16777216], ["--frame", 0], ["--walk"], ["--restart", 1]):
         with Gateway(report, *options) as live:
             ran = live.ended()
@@ -523,6 +532,7 @@ def check_modems_that_go(report):
         lines = ran.err.splitlines(keepends=True)
         is_so = (ran.status, len(lines), lines[-1]) == (1, 3, BROKEN_OFF) and lines[0].startswith(b"frames 8 ")
         report.expect("the reader of standard output goes", is_so, ran)
+        live.expect_nothing_left("the reader of standard output goes")
 
 
 def expect_end(report, name, live, numbers, status=0, error=b""):
@@ -623,6 +633,7 @@ def check_waiting_for_pipes(report):
         waited = time.monotonic() - begun
         is_so = ran.status == 0 and waited >= WAITED_FOR and len(ran.err.splitlines()) == 2
         report.expect("and from a signal on five seconds", is_so, (ran, waited))
+        live.expect_nothing_left("and from a signal on five seconds")
 
 
 def check_not_waiting(report):
@@ -718,6 +729,9 @@ def check_mixed(report):
         counts = numbers_of(last)
         names = "to-radios", "to-hosts", "not-of-the-radio", "not-datagrams", "not-taken", "not-for-hosts", "late"
         report.expect("mixed traffic: the gateway", [counts[name] for name in names] == [31, 1, 2, 4, 0, 0, 0], last)
+        ticks = [packet for *_, packet in outgoing_in(live.file("dmro"))].count(b"")
+        is_so = counts["refused"] == numbers_of(lines[0])["refused"] - ticks
+        report.expect("mixed traffic: what the run refused but for ticks", is_so, (lines[0], ticks, last))
         packets = [packet for *_, packet in live.records()]
         texts = [packet[28:] for packet in packets if packet[9] == 17]
         report.expect("mixed traffic: what the host sent", texts == [b"number %d" % at for at in range(30)], texts)
@@ -734,8 +748,9 @@ def check_four_records(report):
         live.be_silent(20)
         had = sorted(filter(None, (host.takes(), host.takes())))
         report.expect("both come", had == [(b"me too", ("12.0.0.3", 5018)), (b"trust me", ("12.0.0.2", 5018))], had)
-        frames = [frame for frame, *_ in received_in(live.file("dmri"))]
-        report.expect("in one frame", frames == 4 * [15], frames)
+        records = [record[:4] for record in received_in(live.file("dmri"))]
+        wanted = [(15, 1, STATUS, 4), (15, 1, DATAGRAM, 2), (15, 2, STATUS, 4), (15, 2, DATAGRAM, 3)]
+        report.expect("in one frame", records == wanted, records)
         live.expect_order("four records", "frames 36 repeated 10 received 4 refused 31", counts="to-hosts 2 not-datagrams 2")
 
 

@@ -1,12 +1,21 @@
-"""The log: of each sample beside what a reader of its downlink finds there, which another program has written; faults; pipes."""
+"""The log: of each sample beside what a reader of its downlink finds there, which another program has written; recordings that are
+encoded here, in each form; faults; pipes; little memory; its page."""
 
 import csv
 import io
 import itertools
+import json
 import re
 
-from checks import talks
+from checks import recordings as it
+from checks import page, talks
+from checks.bursts import TERMINATOR as TERMINATOR_MASK
+from checks.bursts import VOICE_HEADER as VOICE_HEADER_MASK
+from checks.bursts import data_burst, embedded_fields, voice_burst, voice_sync_burst
+from checks.contents import data_header, link_control
+from checks.pipes import OF_UPLINK, QUIET, Live, in_frames
 from checks.program import Room
+from checks.show import damaged, with_little_memory
 
 # Behind `talks`, which tells where this is.
 from dmr import SYNC, DataBurst, bits_of_octets, number_of
@@ -41,6 +50,38 @@ LINES = {
         "frames 25 seconds 1.50 calls 1 packets 0 controls 0 repeated 13",
     ),
 }
+
+# A call of radio 2 to talk group 1, and one of radio 3 with the emergency bit.
+CALL_OF_2, CALL_OF_3 = "000000000001000002", "000080000001000003"
+
+# The log of the scene below, and of it beside a gateway with the address 1.
+SCENE_LINES = """\
+     0.75     0.06      12 2  status 4 -> 1, port 1 -> 2, status 5
+     0.00     0.96       0 1  group call 2 -> 1, 12 places, 2 filled, terminator
+     1.32     0.36      22 1  group call 3 -> 1, emergency, late, 6 places, lost
+frames 40 seconds 2.40 calls 2 packets 1 controls 0 repeated 23
+"""
+HEAD = "start,seconds,frame,slot,kind,from,to,group,options,late,bursts,places,filled,blocks,missing,wrong,checked,end,details\n"
+SCENE_ROWS = [
+    '0.75,0.06,12,2,status,4,1,0,,,1,,,0,0,0,263,,"port 1 -> 2, status 5"\n',
+    "0.00,0.96,0,1,group call,2,1,1,0,0,16,12,2,,,0,750,terminator,\n",
+    "1.32,0.36,22,1,group call,3,1,1,128,1,6,6,0,,,0,128,lost,\n",
+]
+RECEIVED_ROW = '0.75,0.06,12,2,received status,4,1,0,,,,,,,,,,,"4 octets: port 1 -> 2, status 5"\n'
+LATE_ROW_AT_A_TIME = "2026-02-01T00:00:00.320Z,0.36,22,1,group call,3,1,1,128,1,6,6,0,,,0,128,lost,"
+SCENE_OBJECT = (
+    '{"start":0.75,"seconds":0.06,"frame":12,"slot":2,"kind":"status","from":4,"to":1,"group":false,"options":null,"late":null,'
+    '"bursts":1,"places":null,"filled":null,"blocks":0,"missing":0,"wrong":0,"checked":263,"end":null,'
+    '"details":"port 1 -> 2, status 5"}'
+)
+SCENE_END = '{"frames":40,"calls":2,"packets":1,"controls":0,"repeated":23,"received":1}'
+
+# What is told of two late calls, the first of which has no burst that tells whose it is.
+LATE_LINES = """\
+     0.12     0.36       2 1  call, late, 6 places, 1 filled, lost
+     0.96     0.42      16 1  group call 2 -> 1, late, 6 places, 1 filled, terminator
+frames 23 seconds 1.38 calls 2 packets 0 controls 0 repeated 13
+"""
 
 # The whole log of a sample.
 TRIES = """\
@@ -205,6 +246,122 @@ def check_lines(report):
     report.expect("log counts records", received[-1].endswith(" repeated 69 received 1"), received)
 
 
+def superframe(call):
+    """The six bursts of a superframe, by their letters. Those from B to E carry the link control of the call in turn."""
+    parts = [voice_burst(lcss, embedded=field) for lcss, field in zip((1, 3, 3, 2), embedded_fields(bytes.fromhex(call)))]
+    return dict(zip("ABCDEF", [voice_sync_burst(), *parts, voice_burst(0)]))
+
+
+def slots_of_call(call, shape):
+    """The slots of a call, a letter each, as a strip shows them: a header, voice bursts, a terminator, or silence."""
+    ends = {
+        "H": data_burst(VOICE_HEADER, link_control(call, VOICE_HEADER_MASK)),
+        "T": data_burst(TERMINATOR, link_control(call, TERMINATOR_MASK)),
+        ".": None,
+    }
+    sent = {**superframe(call), **ends}
+    return [sent[letter] for letter in shape]
+
+
+def recording(first, second=(), frames=0):
+    """An uplink with these slots, and so many frames if these are more."""
+    octets = it.UPLINK_HEAD
+    for slots in itertools.islice(itertools.zip_longest(first, second, [None] * frames), max(len(first), len(second), frames)):
+        octets += b"".join(b"\0" if slot is None else b"\1" + slot for slot in slots[:2])
+    return octets
+
+
+def scene():
+    """Radio 2 calls talk group 1 and is lost for a moment, and radio 3 comes in late; radio 4 sends a status to the gateway."""
+    first = slots_of_call(CALL_OF_2, "H..ABCDEFA..DEFT....") + slots_of_call(CALL_OF_3, "EFABCDEF")
+    status = data_burst(DATA_HEADER, data_header("0EA00000010000042805"))
+    return recording(first, [None] * 12 + [status], 40)
+
+
+def late_calls():
+    """Two late calls, each with an absent place. The first has no burst that tells whose it is, the second a terminator."""
+    return recording(slots_of_call(CALL_OF_2, "EFA.CDEF......EFA.CDEFT"))
+
+
+def expect_log(report, name, given, words, wanted):
+    ran = report.call("log", "-", *words, given=given)
+    report.expect(f"log of {name} {words}", (ran.status, ran.out.decode(), ran.err) == (0, wanted, b""), (wanted, ran))
+
+
+def check_scene(report):
+    """Each form of a log, beside a gateway, at a time of day, and some of its lines."""
+    given = scene()
+    status, call, late, last = SCENE_LINES.splitlines(keepends=True)
+    expect_log(report, "the scene", given, [], SCENE_LINES)
+    expect_log(report, "the scene", given, ["--csv"], HEAD + "".join(SCENE_ROWS))
+    rows = [SCENE_ROWS[0], RECEIVED_ROW, *SCENE_ROWS[1:]]
+    expect_log(report, "the scene", given, ["--csv", "--llid", 1], HEAD + "".join(rows))
+    ran = report.call("log", "-", "--csv", "--start", "2026-01-31T23:59:59Z", given=given)
+    report.expect("log at a time of day: the last row", ran.out.decode().splitlines()[-1:] == [LATE_ROW_AT_A_TIME], ran)
+    ran = report.call("log", "-", "--json", "--llid", 1, given=given)
+    objects = ran.out.decode().splitlines()
+    report.expect("log in JSON: first and last object", [objects[0], objects[-1]] == [SCENE_OBJECT, SCENE_END], ran)
+    made = [json.loads(text) for text in objects[:-1]]
+    report.expect("log in JSON: each object has a key for each column", all([*it] == HEAD.strip().split(",") for it in made), made)
+    report.expect("log in JSON: details, or none", [it["details"] is None for it in made] == [False, False, True, True], made)
+    expect_log(report, "the scene", given, ["--slot", 1, "--to", 10], call + last)
+    expect_log(report, "the scene", given, ["--from", 1], status + late + last)
+    expect_log(report, "the scene", given, ["--from", 12, "--to", 12, "--csv"], HEAD + SCENE_ROWS[0])
+    ran = report.call("log", "-", "--from", 9, "--to", 3, given=given)
+    report.expect("log from behind its end", ran.is_error("--from is beyond --to", 2), ran)
+
+
+def check_wrong_bits(report):
+    """Wrong bits are counted, of as many as are covered."""
+    given = it.UPLINK_HEAD + b"\1" + damaged(it.CSBK) + b"\0"
+    line = "     0.00     0.06       0 1  CSBK opcode 0, fid 0  [wrong: 21 of 263 bits]\n"
+    expect_log(report, "wrong bits", given, [], line + "frames 1 seconds 0.06 calls 0 packets 0 controls 1 repeated 1\n")
+    expect_log(report, "wrong bits", given, ["--csv"], HEAD + '0.00,0.06,0,1,CSBK,,,,,,1,,,,,21,263,,"opcode 0, fid 0"\n')
+
+
+def check_few(report):
+    """A terminator by itself, which is a call without voice, a packet with one block, and a call of one place."""
+    block = data_burst(BLOCKS[0], link_control("00" * 9, 0))
+    first = slots_of_call(CALL_OF_2, "T......") + [data_burst(DATA_HEADER, data_header("02400000010000028100")), block]
+    ran = report.call("log", "-", given=recording(first + slots_of_call(CALL_OF_2, "......HA")))
+    told = [line[30:] for line in ran.out.decode().splitlines()]
+    wanted = [
+        "group call 2 -> 1, no voice, terminator",
+        "unconfirmed data 2 -> 1, SAP 4, 1 of 1 block",
+        "group call 2 -> 1, 1 place, end",
+    ]
+    report.expect("log of few", (ran.status, told[:-1]) == (0, wanted), ran)
+
+
+def check_live(report):
+    """The log of a pipe has the line of a call as soon as the frame behind it is decided, while more of the pipe may come."""
+    octets = (report.top / "samples/call/uplink.dmru").read_bytes()
+    lines = report.call("log", "-", given=octets).out.splitlines(keepends=True)
+    head, *frames = in_frames(octets, OF_UPLINK)
+    # The call has frames 0 to 6. That nothing is repeated in frame 7 is decided with frame 12.
+    told = 13
+    with Live(report, ["log", "-"]) as run:
+        run.put("uplink", b"".join([head, *frames[: told - 1]]))
+        report.expect("a log of a pipe: nothing in front of the end of the call", run.out.has(b"", QUIET), run.out)
+        run.put("uplink", frames[told - 1])
+        report.expect("a log of a pipe: the line of the call", run.out.has(lines[0], QUIET), run.out)
+        run.put("uplink", b"".join(frames[told:]))
+        ran = run.at_end()
+        report.expect("a log of a pipe: all lines", (ran.status, ran.out, ran.err) == (0, b"".join(lines), b""), ran)
+
+
+def check_longest(report):
+    """The recording with most bursts, in a process that has less memory than it has octets."""
+    given = it.UPLINK_HEAD + (b"\1" + it.CSBK) * (2 * it.LIMIT)
+    ran = with_little_memory(report, given, command="log")
+    seconds = f"{it.LIMIT * 6 // 100}.{it.LIMIT * 6 % 100:02}"
+    lines = ran.stdout.decode().splitlines()
+    told = f"CSBK opcode 0, fid 0, {it.LIMIT} bursts"
+    wanted = [f"     0.00 {seconds:>8}       0 1  {told}", f"     0.03 {seconds:>8}       0 2  {told}"]
+    wanted.append(f"frames {it.LIMIT} seconds {seconds} calls 0 packets 0 controls 2 repeated {2 * it.LIMIT}")
+    report.expect("the log of the recording with most bursts", (ran.returncode, lines) == (0, wanted), (lines, ran.stderr))
+
+
 def check_cut(report):
     """A recording that ends in a call, and one with half a frame more."""
     octets = (report.top / "samples/call/uplink.dmru").read_bytes()
@@ -222,5 +379,12 @@ def check_cut(report):
 def check(report):
     check_lines(report)
     check_cut(report)
+    check_scene(report)
+    expect_log(report, "late calls", late_calls(), [], LATE_LINES)
+    check_wrong_bits(report)
+    check_few(report)
+    check_live(report)
+    check_longest(report)
     for folder in sorted(it for it in (report.top / "samples").iterdir() if it.is_dir()):
         check_beside_downlink(report, folder)
+    page.check(report)

@@ -56,6 +56,11 @@ class Report:
             # In one piece, where others are told beside it.
             print(f"FAILED {name}: {why}\n", end="", flush=True)
 
+    def skip(self, count, why):
+        """So many can't be tried here."""
+        self.skipped += count
+        print(f"skipped: {why}", flush=True)
+
     def counted(self):
         """All counts in a line, with what was skipped where anything was."""
         return f"{self.passed} passed, {self.failed} failed" + (f", {self.skipped} skipped" if self.skipped else "")

@@ -3,6 +3,7 @@
 import os
 import resource
 
+from building.programs import FIRST, tools
 from checks import recordings as it
 from checks.bursts import data_burst, information_of, unreadable_burst, untyped_data_burst, voice_burst, voice_sync_burst
 from checks.contents import TWELVE, TWELVE_DIGITS, beyond_reach
@@ -207,6 +208,8 @@ def check_reasons(report):
             report.expect(f"{file} is a full device", told == wanted, told)
             told = told_more(room, **{file: room.uplink})
             report.expect(f"{file} is the uplink", told == f"error: {room.uplink}: cannot open\n", told)
+        told = told_more(room, uplink="up\x1b[31m\nlink")
+        report.expect("a name with control characters", told == f"error: up?[31m?link: cannot open: {missing}\n", told)
         report.expect("a hang that is refused", told_more(room, "--call-hang", 6) == "")
 
 
@@ -287,7 +290,7 @@ def check_words(report):
 def check_elsewhere(report):
     """A program refuses the commands of the other one, past the command that chooses between them."""
     text = "another program of dmrgate does this: start it by the command dmrgate"
-    elsewhere = [("dmrgate", it) for it in ("show", "import", "export")] + [("dmrgate_tools", it) for it in ("run", "slot")]
+    elsewhere = [(FIRST, it) for it in tools()] + [("dmrgate_tools", it) for it in ("run", "slot")]
     for program, command in elsewhere:
         ran = report.call(command, program=program)
         report.expect(f"{program} doesn't do {command}", ran.is_error(text, 2), ran)

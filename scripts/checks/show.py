@@ -336,9 +336,9 @@ def check_json(report):
     report.expect("a strip in JSON is refused", (ran.status, ran.out) == (2, b"") and b"cannot be used with" in ran.err, ran)
 
 
-def with_little_memory(report, given, *more):
+def with_little_memory(report, given, *more, command="show"):
     """Lists what comes through a pipe, in a process that has 64 MiB."""
-    words = ["show", "-", *map(str, more)]
+    words = [command, "-", *map(str, more)]
     command = ["sh", "-c", 'ulimit -v 65536; exec "$@"', "sh", report.started_for(words), *words]
     return subprocess.run(command, input=given, capture_output=True)
 

@@ -5,15 +5,14 @@ import itertools
 import os
 import pathlib
 import random
-import shutil
 import signal
 import subprocess
 import sys
 import tempfile
 
 from checks import recordings as it
-from checks.bridge import comes_true
-from checks.live import can_be_tried
+from checks.bridge import comes_true, expect_run_as_over_files
+from checks.live import missing
 from checks.pipes import OF_DOWNLINK, PATIENCE, live, side_by_side
 from checks.program import Room
 
@@ -182,22 +181,22 @@ MOST = {"pings": 8, "datagrams": 8}
 LIMIT = 300
 
 
-def lines_of_runs(ran):
-    """The lines of runs that a bridge has printed."""
-    return [line for line in ran.stdout.splitlines() if " repeated " in line]
+def lines_of_runs(printed):
+    """The lines of runs among those that were printed."""
+    return [line for line in printed.splitlines() if " repeated " in line]
+
+
+def runs_in(folder):
+    """The runs that are recorded in a folder: what the four files of each are named, without their endings."""
+    return sorted((file.with_suffix("") for file in folder.glob("*.dmru")), key=lambda run: int(run.name))
 
 
 def expect_runs_over_files(report, name, folder, lines):
     """Each run that was recorded wrote and printed what the run over its files does."""
-    runs = sorted(folder.glob("*.dmru"), key=lambda file: int(file.stem))
+    runs = runs_in(folder)
     report.expect(f"{name}: runs are recorded", len(runs) == len(lines) > 0, (runs, lines))
-    for file, line in zip(runs, lines):
-        with Room(report, file.read_bytes(), file.with_suffix(".dmro").read_bytes()) as room:
-            ran = room.run()
-            is_so = (ran.status, ran.out.decode()) == (0, line + "\n")
-            report.expect(f"{name}: the line of run {file.stem}", is_so, (ran, line))
-            outputs = [file.with_suffix(suffix).read_bytes() for suffix in (".dmrd", ".dmri")]
-            report.expect(f"{name}: the outputs of run {file.stem}", room.outputs() == outputs, "other octets")
+    for run, line in zip(runs, lines):
+        expect_run_as_over_files(report, f"{name}: run {run.name}", run, line)
 
 
 def ended(words, **how):
@@ -228,7 +227,7 @@ def expect_talk_between_namespaces(report, name, of_bridge, of_radio, rounds, le
             lines_of_kind = 0 if (address, kind) == ("12.0.0.2", "group") else 1
             is_enough = all(count.isdigit() and int(count) >= least[kind] for count in counts)
             report.expect(f"{name}: {kind} of {address}", len(counts) == lines_of_kind and is_enough, (counts, ran))
-        expect_runs_over_files(report, name, pathlib.Path(folder), lines_of_runs(ran))
+        expect_runs_over_files(report, name, pathlib.Path(folder), lines_of_runs(ran.stdout))
 
 
 def check_unconfirmed(report):
@@ -253,6 +252,19 @@ def check_losses(report):
 PING_AND_FAIL = f"{sys.executable} {TALKING} ask 12.0.0.1 12.0.0.2 1 pings && exit 7"
 UNTIL_THE_END = "while ip link show dmr0; do sleep 0.1; done >/dev/null 2>&1"
 
+# The octets of a downlink's head and of ten silent frames.
+SOME_FRAMES = 8 + 10 * 2
+
+
+@contextlib.contextmanager
+def two_folders():
+    """A folder in which runs are recorded, and one for temporary files of others."""
+    with tempfile.TemporaryDirectory(prefix="dmrgate-check-") as folder:
+        kept, own = pathlib.Path(folder, "kept"), pathlib.Path(folder, "own")
+        kept.mkdir()
+        own.mkdir()
+        yield kept, own
+
 
 def check_ends(report):
     """The status is that of the command, or 1 where the bridge or the radio failed; a wrong option of the radio is told."""
@@ -263,10 +275,7 @@ def check_ends(report):
         (report.started_for(["run"]), "--slot 3", "exit 7", 1, option),
     ):
         name = f"namespaces that end with status {status}, {told!r}"
-        with tempfile.TemporaryDirectory(prefix="dmrgate-check-") as folder:
-            kept, own = pathlib.Path(folder, "kept"), pathlib.Path(folder, "own")
-            kept.mkdir()
-            own.mkdir()
+        with two_folders() as (kept, own):
             options = ["--program", program, "--bridge", f"--record {kept}", "--radio", of_radio]
             words = [BRIDGE / "two-namespaces", *options, "sh", "-c", command]
             ran = ended(words, env={**os.environ, "TMPDIR": str(own)})
@@ -276,7 +285,7 @@ def check_ends(report):
             if told:
                 report.expect(f"{name}: no run is recorded", not os.listdir(kept), os.listdir(kept))
             else:
-                expect_runs_over_files(report, name, kept, lines_of_runs(ran))
+                expect_runs_over_files(report, name, kept, lines_of_runs(ran.stdout))
 
 
 def processes_of(folder):
@@ -291,52 +300,63 @@ def processes_of(folder):
 
 
 def killed(program):
-    """An end: this one of the processes is killed, once all are there."""
+    """An end: this one of the processes is killed."""
 
-    def end(script, folder):
-        script.stdout.readline()
-        for number, words in processes_of(folder).items():
+    def end(_script, own):
+        for number, words in processes_of(own).items():
             if str(program) in words[:2]:
                 os.kill(number, signal.SIGKILL)
 
     return end
 
 
-def asked_to_end(number, is_up):
-    """An end: all are sent a signal, as by a terminal, once all are there, or as soon as the radio is."""
-
-    def end(script, folder):
-        if is_up:
-            script.stdout.readline()
-        else:
-            comes_true(lambda: [*pathlib.Path(folder).glob("*/modem")])
-        os.killpg(script.pid, number)
-
-    return end
+def asked_to_end(number):
+    """An end: all are sent a signal, as by a terminal."""
+    return lambda script, _own: os.killpg(script.pid, number)
 
 
-def expect_none_left(report, name, end):
-    """A bridge and a radio end in some way. No process goes on, and no file is left."""
-    with tempfile.TemporaryDirectory(prefix="dmrgate-check-") as folder:
-        words = [BRIDGE / "two-namespaces", "--program", report.started_for(["run"]), "sh", "-c", f"echo up && {UNTIL_THE_END}"]
-        how = {"env": {**os.environ, "TMPDIR": folder}, "start_new_session": True}
+def expect_none_left(report, name, end, is_up=True, lines=(0, 1)):
+    """A bridge and a radio end in some way, once all are there and a run goes on, or as soon as the radio is there. No process
+    goes on, and no file is left but those of the run. How many lines of it are printed is one of these numbers. Where one is, the
+    run over its files writes and prints the same, and else it writes what begins with the same."""
+    with two_folders() as (kept, own):
+        options = ["--program", report.started_for(["run"]), "--bridge", f"--record {kept}"]
+        words = [BRIDGE / "two-namespaces", *options, "sh", "-c", f"echo up && {UNTIL_THE_END}"]
+        how = {"env": {**os.environ, "TMPDIR": str(own)}, "start_new_session": True}
         with subprocess.Popen(words, stdout=subprocess.PIPE, stderr=subprocess.DEVNULL, **how) as script:
-            end(script, folder)
-            is_over = comes_true(lambda: not processes_of(folder))
-            left = processes_of(folder)
+            if is_up:
+                script.stdout.readline()
+            is_there = (lambda: has_gone_on(kept)) if is_up else (lambda: [*own.glob("*/modem")])
+            report.expect(f"{name}: all are there that are waited for", comes_true(is_there))
+            end(script, own)
+            is_over = comes_true(lambda: not processes_of(own))
+            left = processes_of(own)
             for number in left:
                 os.kill(number, signal.SIGKILL)
+            printed = lines_of_runs(script.stdout.read().decode())
         report.expect(f"{name}: no process is left", is_over, left)
         report.expect(f"{name}: the status tells so", script.returncode != 0, script.returncode)
-        report.expect(f"{name}: no file is left", not os.listdir(folder), os.listdir(folder))
+        report.expect(f"{name}: no file is left", not os.listdir(own), os.listdir(own))
+        runs = runs_in(kept)
+        is_so = len(runs) in ((1,) if is_up else (0, 1)) and len(printed) in lines
+        report.expect(f"{name}: one run is recorded", is_so, (os.listdir(kept), printed))
+        for run, line in itertools.zip_longest(runs, printed[: len(runs)]):
+            expect_run_as_over_files(report, f"{name}: run {run.name}", run, line)
+
+
+def has_gone_on(kept):
+    """Whether a run that is recorded in this folder has gone on for some frames, all of them silent."""
+    return any(file.stat().st_size >= SOME_FRAMES for file in kept.glob("*.dmrd"))
 
 
 def check_killed(report):
     """Whoever is killed between namespaces, and whenever all are asked to end, nobody goes on."""
-    for program in (report.started_for(["run"]), *(BRIDGE / name for name in ("dmrgate-bridge", "radio", "two-namespaces"))):
-        expect_none_left(report, f"{program.name} is killed", killed(program))
+    bridge, radio, script = (BRIDGE / name for name in ("dmrgate-bridge", "radio", "two-namespaces"))
+    for program, lines in ((report.started_for(["run"]), 0), (bridge, 0), (radio, 1), (script, 1)):
+        expect_none_left(report, f"{program.name} is killed", killed(program), lines=(lines,))
     for number, is_up in itertools.product((signal.SIGINT, signal.SIGTERM, signal.SIGHUP), (True, False)):
-        expect_none_left(report, f"{number!r} {'behind' if is_up else 'before'} the start", asked_to_end(number, is_up))
+        name = f"{number!r} {'behind' if is_up else 'before'} the start"
+        expect_none_left(report, name, asked_to_end(number), is_up)
 
 
 BETWEEN_NAMESPACES = check_unconfirmed, check_confirmed, check_full_rate, check_losses, check_ends, check_killed
@@ -344,8 +364,7 @@ BETWEEN_NAMESPACES = check_unconfirmed, check_confirmed, check_full_rate, check_
 
 def check(report):
     check_with_run(report)
-    if can_be_tried() and all(map(shutil.which, ("nsenter", "setpriv"))):
-        side_by_side(report, *BETWEEN_NAMESPACES)
-    else:
-        print("skipped: no namespace or no TUN device", flush=True)
-        report.skipped += len(BETWEEN_NAMESPACES)
+    if lacking := missing("nsenter", "setpriv"):
+        report.skip(len(BETWEEN_NAMESPACES), lacking)
+        return
+    side_by_side(report, *BETWEEN_NAMESPACES)

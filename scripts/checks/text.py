@@ -126,6 +126,10 @@ OF_OTHER_TEXTS = [
     ("dmrgate outgoing 1\n5 1 confirmed half - -\n", "line 2: wrong octets"),
     (f"dmrgate outgoing 1\n5 1 confirmed half {'00' * 65_536}\n", "line 2: wrong octets"),
     (f"dmrgate outgoing 1\n5 1 confirmed half -{' ' * 131_200}\n", "line 2: too long"),
+    # A line that is too long is told as that, whatever else is wrong with it.
+    (f"{'x' * 131_201}\n", "line 1: too long"),
+    (f"dmrgate uplink 1\nframes 0\n{'x' * 131_201}\n", "line 3: too long"),
+    (f"dmrgate uplink 1\nframes x{' ' * 131_200}\n", "line 2: too long"),
     ("dmrgate received 1\n5 1 status\n", "line 2: wrong number"),
     ("dmrgate received 1\n5 1 news\n", "line 2: wrong number"),
     ("dmrgate received 1\n5 1 status 16777216 -\n", "line 2: wrong number"),

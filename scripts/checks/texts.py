@@ -35,13 +35,14 @@ HELP = {
 Usage: dmrgate <COMMAND>
 
 Commands:
-  run     Repeats a recording of the uplink into the downlink
-  slot    Says what one burst is
-  show    Lists what a file holds
-  log     Lists what a repeater repeats: who calls whom
-  import  Makes a file of a run from another format
-  export  Writes a file of a run in another format
-  help    Print this message or the help of the given subcommand(s)
+  run      Repeats a recording of the uplink into the downlink
+  slot     Says what one burst is
+  show     Lists what a file holds
+  log      Lists what a repeater repeats: who calls whom
+  compare  Tells where two files differ
+  import   Makes a file of a run from another format
+  export   Writes a file of a run in another format
+  help     Print this message or the help of the given subcommand(s)
 
 Options:
   -h, --help     Print help
@@ -138,6 +139,7 @@ Options:
       --start <TIME>  When it began, as 2026-01-31T12:00:00Z
       --csv           A table: a row of CSV for each
       --json          An object a line, for programs
+      --html          A page: a picture of each minute, and a table
       --slot <N>      The slot alone, 1 or 2
       --from <FRAME>  The first frame that has lines
       --to <FRAME>    The last frame that has lines
@@ -155,8 +157,10 @@ burst is; or with the end of the recording. It is late where it begins with a
 place. A packet has how many of its blocks came. [wrong: 21 of 263 bits] tells
 how many bits were wrong, of those that codes cover.
 
---csv has a row for each line, behind one that names the columns. Where the
-recording is a pipe, each line is printed as soon as it is known.
+--csv has a row for each line, behind one that names the columns. --html has a
+page for a browser or for paper: a picture of both slots for each minute, and a
+table of what ended in it. Where the recording is a pipe, each line is printed
+as soon as it is known, and each minute as soon as it is over.
 
 Status 0: the recording is whole; 1: it is at fault, which is told on standard
 error with the octet at which its record begins; 2: the command line.
@@ -164,7 +168,39 @@ error with the octet at which its record begins; 2: the command line.
 Example:
   dmrgate log uplink.dmru --llid 1 --start 2026-01-31T12:00:00Z --csv
 
-The lines and the columns are described in docs/protocol.md.
+The lines, the columns and the page are described in docs/protocol.md.
+""",
+    "compare": """Tells where two files differ
+
+Usage: dmrgate compare [OPTIONS] <A> <B>
+
+Arguments:
+  <A>  A file; - is standard input
+  <B>  Another of its kind; - is standard input
+
+Options:
+      --shift <N>      Compares frame f of A with frame f+N of B
+      --ignore <PART>  Leaves out a part of each burst: cach or vocoder
+      --quiet          Prints the counts alone
+  -h, --help           Print help
+
+Two files of one kind are compared, slot by slot or record by record. Each place
+where they differ has two lines, which say what `dmrgate show` shows there, or
+`silence`. Brackets behind the second have how many bits of CACH and burst
+differ, or how many octets of a record. The last line counts places: those that
+are the same, those that differ, and those that one of the two has alone.
+
+A shift may be negative. Frames in front of those that are compared aren't
+counted. Lists have no shift. `--ignore` may be given twice: other repeaters
+announce calls otherwise, and some correct vocoder bits.
+
+Status 0: the files are the same, of what isn't ignored; 1: they differ; 2: the
+command line, or a file is at fault, which is told on standard error.
+
+Example:
+  dmrgate compare expected.dmrd got.dmrd --ignore cach
+
+The lines are described in docs/protocol.md.
 """,
     "import": """Makes a file of a run from another format
 
@@ -319,8 +355,8 @@ def offered(report, *words):
     return set(ran.stdout.split())
 
 
-def check_completions(report, top, run, slot, show, log, carrying):
-    commands = {"run", "slot", "show", "log", "import", "export"}
+def check_completions(report, top, run, slot, show, log, compare, carrying):
+    commands = {"run", "slot", "show", "log", "compare", "import", "export"}
     for words, wanted in (
         (["dmrgate", ""], {*commands, "help"} | top),
         (["dmrgate", "-"], top),
@@ -348,6 +384,13 @@ def check_completions(report, top, run, slot, show, log, carrying):
         (["dmrgate", "log", "READ"], {"README.md"}),
         (["dmrgate", "log", "--start", ""], set()),
         (["dmrgate", "log", "--", "READ"], {"README.md"}),
+        (["dmrgate", "compare", "-"], compare),
+        (["dmrgate", "compare", "READ"], {"README.md"}),
+        (["dmrgate", "compare", "README.md", "CHANGE"], {"CHANGELOG.md"}),
+        (["dmrgate", "compare", "--ignore", ""], {"cach", "vocoder"}),
+        (["dmrgate", "compare", "--ignore=v"], {"--ignore=vocoder"}),
+        (["dmrgate", "compare", "--shift", ""], set()),
+        (["dmrgate", "compare", "--", "READ"], {"README.md"}),
         (["dmrgate", "help", ""], commands),
         (["dmrgate", "help", "show", ""], set()),
         (["dmrgate", "help", "import", ""], {"text"}),
@@ -362,9 +405,9 @@ def check_completions(report, top, run, slot, show, log, carrying):
         report.expect(f"bash offers for {words}", had == wanted, had ^ wanted)
     text = (report.top / ZSH).read_text()
     begin = text.index("    run)")
-    parts = [text[:begin], *re.split(r"^    (?:slot|show|log|import \| export|help)\)$", text[begin:], flags=re.MULTILINE)]
-    names = "the program", "run", "slot", "show", "log", "import and export"
-    for name, part, wanted in zip(names, parts, (top, run, slot, show, log, carrying)):
+    parts = [text[:begin], *re.split(r"^    (?:slot|show|log|compare|import \| export|help)\)$", text[begin:], flags=re.MULTILINE)]
+    names = "the program", "run", "slot", "show", "log", "compare", "import and export"
+    for name, part, wanted in zip(names, parts, (top, run, slot, show, log, compare, carrying)):
         report.expect(f"zsh's options of {name}", options_in(part) == wanted, options_in(part) ^ wanted)
         is_so = name == "the program" or part.count("_arguments -S ") == 1
         report.expect(f"zsh offers no option of {name} behind --", is_so, part)
@@ -374,7 +417,7 @@ def check_completions(report, top, run, slot, show, log, carrying):
     everywhere = {"--help"}
     marks = (
         ("the program", "__fish_use_subcommand", top), ("run", "from run'", run), ("show", "from show'", show),
-        ("log", "from log'", log),
+        ("log", "from log'", log), ("compare", "from compare'", compare),
     )
     for name, mark, wanted in marks:
         had = everywhere | {f"--{word}" for line in lines if mark in line for word in re.findall(r" -l ([a-z-]+)", line)}
@@ -454,7 +497,7 @@ def check_readme(report):
         ran, there = shell(carried[1], room.path), room.path / carried[3]
         is_so = ran.returncode == 0 and there.read_bytes() == (report.top / carried[2]).read_bytes()
         report.expect("the README's text and back", is_so, ran)
-        blocks = re.findall(r"^    \$ (\./dmrgate show .*)\n((?:    .*\n)+)", text, re.MULTILINE)
+        blocks = re.findall(r"^    \$ (\./dmrgate (?:show|log|compare) .*)\n((?:    .*\n)+)", text, re.MULTILINE)
         is_shown = any(command.startswith("./dmrgate show downlink.dmrd") for command, _ in blocks)
         report.expect("the README shows the downlink of its run", is_shown)
         for command, shown in blocks:
@@ -476,14 +519,15 @@ def check_readme(report):
 def check(report):
     check_alike(report)
     options = check_help(report)
-    top, run, slot, show, log, carrying = (options[it] for it in ("", "run", "slot", "show", "log", "import text"))
+    commands = "", "run", "slot", "show", "log", "compare", "import text"
+    top, run, slot, show, log, compare, carrying = (options[it] for it in commands)
     ran = report.call("--version")
     version = ran.out.decode().strip()
     is_version = re.fullmatch(r"dmrgate \d+\.\d+\.\d+", version) and ran.status == 0 and ran.err == b""
     report.expect("the version", is_version, ran)
     short = report.call("-V")
     report.expect("-V is --version", (short.status, short.out, short.err) == (ran.status, ran.out, ran.err), short)
-    check_manual(report, top | run | slot | show | log, version)
+    check_manual(report, top | run | slot | show | log | compare, version)
     check_examples(report)
-    check_completions(report, top, run, slot, show, log, carrying)
+    check_completions(report, top, run, slot, show, log, compare, carrying)
     check_readme(report)

@@ -1,24 +1,21 @@
--- What is counted of two lists of slots, and how it is told.
-use Rattle.std.specs.Prelude.{◌≡◌, ◌+◌, ◌-◌, ℕ, List, ◌++◌, not, length, codes, decimal}
+-- What is counted of two lists, of slots or of records, and how it is told.
+use Rattle.std.specs.Prelude.{◌≡◌, ◌+◌, ◌-◌, ℕ, Bool, List, ◌++◌, not, length, codes, decimal}
 use Rattle.std.specs.List.{count_by, zip}
-use Rattle.dmr_compare.specs.Kept.{is_same}
-use Rattle.dmr_compare.specs.Slots.{ListedSlot}
 use Rattle.dmr_compare.specs.declared.counts.PlaceCounts.{PlaceCounts}
-use Rattle.dmr_compare.specs.declared.settings.Ignored.{Ignored}
 
 -- how many places that both lists have are the same
-abbrev pub same_places : Ignored → (firsts seconds : List ListedSlot) → ℕ
-same_places ignored firsts seconds = count_by (λ place. is_same ignored place.0 place.1) (zip firsts seconds)
+abbrev pub same_places : {X : Type 0} → (is_same : X → X → Bool) → (firsts seconds : List X) → ℕ
+same_places is_same firsts seconds = count_by (λ place. is_same place.0 place.1) (zip firsts seconds)
 
 -- how many places that both lists have differ
-abbrev pub different_places : Ignored → (firsts seconds : List ListedSlot) → ℕ
-different_places ignored firsts seconds = count_by (λ place. not (is_same ignored place.0 place.1)) (zip firsts seconds)
+abbrev pub different_places : {X : Type 0} → (is_same : X → X → Bool) → (firsts seconds : List X) → ℕ
+different_places is_same firsts seconds = count_by (λ place. not (is_same place.0 place.1)) (zip firsts seconds)
 
--- The counts are those of two lists of slots: how many places that both have are the same and differ, and how many slots each of
+-- The counts are those of two lists: how many places that both have are the same and differ, and how many slots or records each of
 -- them has behind the end of the other one.
-pub record AreCountsOf (ignored : Ignored) (firsts seconds : List ListedSlot) (counts : PlaceCounts) : Type 0 where
-  pub same : counts.same ≡ same_places ignored firsts seconds
-  pub different : counts.different ≡ different_places ignored firsts seconds
+pub record AreCountsOf {X : Type 0} (is_same : X → X → Bool) (firsts seconds : List X) (counts : PlaceCounts) : Type 0 where
+  pub same : counts.same ≡ same_places is_same firsts seconds
+  pub different : counts.different ≡ different_places is_same firsts seconds
   pub only_in_first : counts.only_in_first ≡ length firsts - length seconds
   pub only_in_second : counts.only_in_second ≡ length seconds - length firsts
 

@@ -2,6 +2,9 @@ pub mod Comparing
 pub mod Counting
 pub mod Files
 pub mod Kept
+pub mod ListComparing
+pub mod ListReading
+pub mod ListRecords
 pub mod Printed
 pub mod Reading
 pub mod Shifts

@@ -1,4 +1,4 @@
--- What is printed of the places that two recordings have.
+-- What is printed of the places that two files have.
 use Rattle.std.specs.Prelude.{◌≡◌, ◌==◌, ◌||◌, ℕ, Bool, true, false, List, [], ◌∷◌, ◌++◌, Option, Some}
 use Rattle.std.specs.Prelude.{if◌then◌else◌, codes, decimal}
 use Rattle.std.specs.Io.KnownBytes.{Appends}
@@ -45,14 +45,15 @@ abbrev pub PutsUnless : (is_needless : Bool) → (ending : List ℕ) → (old ne
 PutsUnless true ending old new = new ≡ old
 PutsUnless false ending old new = PutsDifference ending old new
 
--- What is put of a place that both recordings have: nothing where its slots are the same or differences are counted alone, and else
+-- What is put of a place that two recordings have: nothing where its slots are the same or differences are counted alone, and else
 -- two lines. The second ends with how many bits differ, where both have a burst.
 abbrev pub PutsPlace : CompareSettings → ListedSlot × ListedSlot → (old new : Option (List ℕ)) → Type 0
 PutsPlace settings place old new =
     PutsUnless (is_same settings.ignored place.0 place.1 || settings.is_quiet) (told_of settings.ignored place.0 place.1) old new
 
--- The lines of places were put, one place behind the other.
-abbrev pub PutsPlaces : CompareSettings → List (ListedSlot × ListedSlot) → (old new : Option (List ℕ)) → Type 0
-PutsPlaces settings [] old new = new ≡ old
-PutsPlaces settings (place ∷ places) old new =
-    (between : Option (List ℕ)) × PutsPlace settings place old between × PutsPlaces settings places between new
+-- The lines of places were put, one place behind the other, by what is put of a place.
+abbrev pub PutsPlaces : {X : Type 0} → (Puts : X × X → (old new : Option (List ℕ)) → Type 0) → List (X × X)
+    → (old new : Option (List ℕ)) → Type 0
+PutsPlaces Puts [] old new = new ≡ old
+PutsPlaces Puts (place ∷ places) old new =
+    (between : Option (List ℕ)) × Puts place old between × PutsPlaces Puts places between new

@@ -1,5 +1,5 @@
 -- What was read of a recording behind its head.
-use Rattle.std.specs.Prelude.{◌≡◌, ℕ, ◌+◌, ◌-◌, ◌*◌, ◌≤◌, true, List, [], ◌∷◌, Option, Some, None, if◌then◌else◌, length}
+use Rattle.std.specs.Prelude.{◌≡◌, ℕ, ◌+◌, ◌-◌, ◌*◌, ◌≤◌, true, List, [], Option, if◌then◌else◌, length}
 use Rattle.std.specs.Io.KnownBytes.{IsAtEnd}
 use Rattle.dmr_listing.specs.ListingRules.{IsRead, ListingTurn}
 use Rattle.dmr_recording.specs.Places.{octet_behind}
@@ -22,11 +22,6 @@ pub record HasRead (reader : SlotReader) (slots : List ListedSlot) (left_old lef
   pub octet : reader.octet ≡ octet_behind (spelling reader.recording) (bare_slots slots)
   pub room : reader.octet ≤ 8 + 37 * reader.view.slots
   pub over : reader.is_over ≡ true → IsAtEnd left_new
-
--- the slot that was found, if there was one
-abbrev pub found_slot : Option ListedSlot → List ListedSlot
-found_slot None = []
-found_slot (Some slot) = slot ∷ []
 
 -- the most slots that may still come, and the end
 abbrev pub slots_to_come : SlotReader → ℕ

@@ -6,7 +6,7 @@ ghost use Rattle.dmr_compare.specs.Slots.{ListedSlot};
 
 use crate::counts::PlaceCounts;
 use crate::reader::SlotReader;
-use crate::settings::CompareSettings;
+use crate::settings::{CompareSettings, slots_in_front_of_first, slots_in_front_of_second};
 use crate::taking::take_found;
 use crate::trouble::Trouble;
 use dmr_record::{Sink, Source};
@@ -32,10 +32,10 @@ pub(crate) fn compare_recordings<S: Source, T: Source, K: Sink>(
 {
     let mut one = SlotReader::new(recording);
     let mut other = SlotReader::new(recording);
-    if let Err(fault) = one.pass(first, settings.shift.slots_in_front_of_first()) {
+    if let Err(fault) = one.pass(first, slots_in_front_of_first(settings.shift)) {
         return Err(Trouble::First(fault));
     }
-    if let Err(fault) = other.pass(second, settings.shift.slots_in_front_of_second()) {
+    if let Err(fault) = other.pass(second, slots_in_front_of_second(settings.shift)) {
         return Err(Trouble::Second(fault));
     }
     let mut counts = PlaceCounts::default();

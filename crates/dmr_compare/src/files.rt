@@ -1,8 +1,10 @@
 //! Two files, compared.
-ghost use Rattle.std.specs.Prelude.{◌≡◌, ◌≤◌, List, false, true, IfOk, IfErr};
+ghost use Rattle.std.specs.Prelude.{◌≡◌, ◌≤◌, List, None, false, true, IfOk, IfErr};
 ghost use Rattle.dmr_compare.specs.Comparing.{DevicesFail, DevicesFailAt};
-ghost use Rattle.dmr_compare.specs.Files.{AreComparedInPart, AreComparedWhole, AreToldApart};
-ghost use Rattle.dmr_compare.specs.Slots.{ListedSlot};
+ghost use Rattle.dmr_compare.specs.Files.{AreComparedInPart, AreComparedWhole, AreContentsCompared, AreContentsComparedUpTo};
+ghost use Rattle.dmr_compare.specs.Files.{AreToldApart, Contents, IsList};
+ghost use Rattle.dmr_compare.specs.ListComparing.{AreListsCompared, AreListsComparedUpTo};
+ghost use Rattle.dmr_compare.specs.ListRecords.{ListRecord};
 ghost use Rattle.dmr_compare.specs.Status.{different, same, trouble};
 ghost use Rattle.dmr_compare.specs.declared.trouble.Trouble.{Trouble as Reason};
 ghost use Rattle.dmr_lines.specs.Line.{PutsError};
@@ -10,15 +12,88 @@ ghost use Rattle.dmr_lines.specs.Line.{PutsError};
 use crate::comparing::compare_recordings;
 use crate::counts::PlaceCounts;
 use crate::heads::read_heads;
+use crate::list_comparing::{ListRooms, compare_lists};
+use crate::list_record::ListKind;
 use crate::settings::CompareSettings;
 use crate::status::TROUBLE;
 use crate::telling::{FileNames, tell};
 use crate::trouble::Trouble;
-use dmr_record::{Sink, Source, put};
+use dmr_record::{FileFormat, Sink, Source, put};
+use dmr_recording::Recording;
 use std::alloc::Global;
+
+/// Compares two lists behind their heads, as far as both can be read, where there is memory for their records.
+fn compare_lists_behind<S: Source, T: Source, K: Sink>(
+    alloc: Global,
+    settings: &CompareSettings,
+    list: ListKind,
+    first: &mut S,
+    second: &mut T,
+    out: &mut K,
+) -> Result<PlaceCounts, Trouble>
+    requires first { S.has_failed first.old ≡ false }
+    requires second { T.has_failed second.old ≡ false }
+    requires out { K.has_failed out.old ≡ false }
+    ensures whole { IfOk result (λ counts. (firsts : List ListRecord) × (seconds : List ListRecord)
+        × AreListsCompared settings.now list firsts seconds counts
+        (S.left first.old) (S.left first.new) (T.left second.old) (T.left second.new) (K.held out.old) (K.held out.new)) }
+    ensures part { IfErr result (λ reason. AreListsComparedUpTo settings.now list reason
+        (S.left first.old) (S.left first.new) (T.left second.old) (T.left second.new) (K.held out.old) (K.held out.new)) }
+    ensures failed { DevicesFail result (S.has_failed first.new) (T.has_failed second.new) (K.has_failed out.new) }
+{
+    let Ok(mut rooms) = ListRooms::new(alloc) else {
+        return Err(Trouble::Memory);
+    };
+    compare_lists(
+        settings,
+        list,
+        &mut rooms.first,
+        &mut rooms.second,
+        &mut rooms.text,
+        first,
+        second,
+        out,
+    )
+}
+
+/// Compares what stands behind the heads of two files of this format, as far as both can be read, and prints what differs.
+fn compare_behind<S: Source, T: Source, K: Sink>(
+    alloc: Global,
+    settings: &CompareSettings,
+    format: FileFormat,
+    first: &mut S,
+    second: &mut T,
+    out: &mut K,
+) -> Result<PlaceCounts, Trouble>
+    requires first { S.has_failed first.old ≡ false }
+    requires second { T.has_failed second.old ≡ false }
+    requires out { K.has_failed out.old ≡ false }
+    requires unshifted { IsList format → settings.now.shift ≡ None }
+    ensures whole { IfOk result (λ counts. (contents : Contents) × AreContentsCompared settings.now format contents counts
+        (S.left first.old) (S.left first.new) (T.left second.old) (T.left second.new) (K.held out.old) (K.held out.new)) }
+    ensures part { IfErr result (λ reason. AreContentsComparedUpTo settings.now format reason
+        (S.left first.old) (S.left first.new) (T.left second.old) (T.left second.new) (K.held out.old) (K.held out.new)) }
+    ensures failed { DevicesFail result (S.has_failed first.new) (T.has_failed second.new) (K.has_failed out.new) }
+{
+    match format {
+        FileFormat::Uplink => {
+            compare_recordings(settings, Recording::Uplink, first, second, out)
+        }
+        FileFormat::Downlink => {
+            compare_recordings(settings, Recording::Downlink, first, second, out)
+        }
+        FileFormat::Outgoing => {
+            compare_lists_behind(alloc, settings, ListKind::Outgoing, first, second, out)
+        }
+        FileFormat::Received => {
+            compare_lists_behind(alloc, settings, ListKind::Received, first, second, out)
+        }
+    }
+}
 
 /// Compares two files, as far as both can be read, and prints what differs and the counts.
 fn compare_to<S: Source, T: Source, K: Sink>(
+    alloc: Global,
     settings: &CompareSettings,
     first: &mut S,
     second: &mut T,
@@ -27,24 +102,25 @@ fn compare_to<S: Source, T: Source, K: Sink>(
     requires first { S.has_failed first.old ≡ false }
     requires second { T.has_failed second.old ≡ false }
     requires out { K.has_failed out.old ≡ false }
-    ensures whole { IfOk result (λ counts. (firsts : List ListedSlot) × (seconds : List ListedSlot)
-        × AreComparedWhole settings.now firsts seconds counts
+    ensures whole { IfOk result (λ counts. (format : FileFormat) × (contents : Contents)
+        × AreComparedWhole settings.now format contents counts
         (S.left first.old) (S.left first.new) (T.left second.old) (T.left second.new) (K.held out.old) (K.held out.new)) }
     ensures part { IfErr result (λ reason. AreComparedInPart settings.now reason
         (S.left first.old) (S.left first.new) (T.left second.old) (T.left second.new) (K.held out.old) (K.held out.new)) }
     ensures failed { DevicesFail result (S.has_failed first.new) (T.has_failed second.new) (K.has_failed out.new) }
 {
-    let recording = read_heads(first, second)?;
-    let counts = compare_recordings(settings, recording, first, second, out)?;
+    let format = read_heads(settings.shift, first, second)?;
+    let counts = compare_behind(alloc, settings, format, first, second, out)?;
     match put(out, counts.line().as_slice()) {
         Ok(()) => Ok(counts),
         Err(_) => Err(Trouble::Output),
     }
 }
 
-/// Compares two recordings of one kind slot by slot, as far as both can be read, and answers the exit status. The sources stand
-/// before the heads. Of each place that differs two lines go to the first sink, and behind them goes one line with the counts. A
-/// fault of a file is told on the second sink, by the name of that file. So is that the files aren't two recordings of one kind.
+/// Compares two files of one format, as far as both can be read, and answers the exit status: recordings slot by slot, lists record
+/// by record. The sources stand before the heads. Of each place that differs two lines go to the first sink, and behind them goes
+/// one line with the counts. A fault of a file is told on the second sink, by the name of that file. So is that the files are of two
+/// formats, or lists for which a shift is given, and that there is no memory for the records of lists.
 pub fn compare<S: Source, T: Source, K: Sink, E: Sink>(
     alloc: Global,
     settings: &CompareSettings,
@@ -76,7 +152,7 @@ pub fn compare<S: Source, T: Source, K: Sink, E: Sink>(
     ensures out_failed { K.has_failed out.new ≡ true → result ≡ trouble }
     ensures err_failed { E.has_failed err.new ≡ true → result ≡ trouble }
 {
-    match compare_to(settings, first, second, out) {
+    match compare_to(alloc, settings, first, second, out) {
         Ok(counts) => counts.status(),
         Err(Trouble::Output) => TROUBLE,
         Err(reason) => {

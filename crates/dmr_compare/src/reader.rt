@@ -5,8 +5,9 @@ ghost use Rattle.std.specs.Io.KnownBytes.{IsAtEnd};
 ghost use Rattle.dmr_listing.specs.ListingRules.{IsReadUpToFault};
 ghost use Rattle.dmr_recording.specs.Places.{place_by_number};
 ghost use Rattle.dmr_record.specs.Faults.{is_device_fault, is_of_end};
-ghost use Rattle.dmr_compare.specs.Reading.{HasRead, found_slot, slots_to_come};
+ghost use Rattle.dmr_compare.specs.Reading.{HasRead, slots_to_come};
 ghost use Rattle.dmr_compare.specs.Slots.{ListedSlot, lines_of, bare_slots};
+ghost use Rattle.dmr_compare.specs.Taking.{found_next};
 
 use crate::listed::{ListedBurst, list_slot};
 use dmr_listing::RecordingView;
@@ -71,11 +72,11 @@ impl SlotReader {
         // The slot that is found stands behind those that were read.
         ensures read { IfOk result (λ found. (slots : List ListedSlot) (start : Option (List ℕ))
             → HasRead self.old slots start (S.left source.old)
-            → HasRead self.new (slots ++ found_slot found) start (S.left source.new)) }
+            → HasRead self.new (slots ++ found_next found) start (S.left source.new)) }
         // There is one exactly where the end wasn't and isn't seen.
         ensures some { IfOk result (λ found. IfSome found (λ slot. (self.old.is_over ≡ false) × (self.new.is_over ≡ false))) }
         ensures none { IfOk result (λ found. IfNone found (self.new.is_over ≡ true)) }
-        ensures fewer { IfOk result (λ found. slots_to_come self.new + length (found_slot found) ≤ slots_to_come self.old) }
+        ensures fewer { IfOk result (λ found. slots_to_come self.new + length (found_next found) ≤ slots_to_come self.old) }
         ensures well { OnOk result (S.has_failed source.new ≡ false) }
         // Or the record behind them shows a fault.
         ensures fault { IfErr result (λ fault. (slots : List ListedSlot) (start : Option (List ℕ))

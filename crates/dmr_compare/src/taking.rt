@@ -53,8 +53,8 @@ pub(crate) fn take_found<K: Sink>(
 ) -> Result<(), DeviceFault>
     requires sink { K.has_failed sink.old ≡ false }
     requires room { HasRoom counts.old }
-    ensures counted { counts.new ≡ counted_found settings.now.ignored first.now second.now counts.old }
-    ensures lines { OnOk result (PutsFound settings.now first.now second.now (K.held sink.old) (K.held sink.new)) }
+    ensures counted { counts.new ≡ counted_found (is_same settings.now.ignored) first.now second.now counts.old }
+    ensures lines { OnOk result (PutsFound (PutsPlace settings.now) first.now second.now (K.held sink.old) (K.held sink.new)) }
     ensures failed { K.has_failed sink.new ≡ failed_after (K.has_failed sink.old) result }
 {
     match (first, second) {

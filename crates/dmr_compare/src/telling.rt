@@ -24,7 +24,8 @@ fn text_of(alloc: Global, names: &FileNames<'_>, trouble: &Trouble) -> Result<St
         Trouble::First(fault) => format!(in alloc; "{first}: {fault}"),
         Trouble::Second(fault) => format!(in alloc; "{second}: {fault}"),
         Trouble::OtherKind => format!(in alloc; "{second}: another kind of file than {first}"),
-        Trouble::Lists => format!(in alloc; "{first}: not a recording"),
+        Trouble::ShiftOfLists => format!(in alloc; "{first}: a list has no shift"),
+        Trouble::Memory => format!(in alloc; "out of memory"),
         Trouble::Output => format!(in alloc; "write failed"),
     }
 }

@@ -10,8 +10,10 @@ pub enum Trouble {
     Second(FaultLine),
     /// The second is another kind of file than the first.
     OtherKind,
-    /// Both are lists, which have no slots.
-    Lists,
+    /// Both are lists, and a shift is given, which lists don't have.
+    ShiftOfLists,
+    /// There was no memory for the records of two lists.
+    Memory,
     /// What was to be printed couldn't be.
     Output,
 }

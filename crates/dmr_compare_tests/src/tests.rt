@@ -13,7 +13,7 @@ use std::test::Fail;
 
 /// Everything is compared, with no shift.
 const ALL: CompareSettings = CompareSettings {
-    shift: Shift::Later(0),
+    shift: None,
     ignored: Ignored {
         cach: false,
         vocoder: false,
@@ -394,7 +394,7 @@ fn shifts(rt: HostRuntime) -> Result<(), Fail> {
     let rest = CALL.get(16..).unwrap_or("");
     let later = format!(in alloc; "{head}000000000000{rest}")?;
     let by_three = CompareSettings {
-        shift: Shift::Later(3),
+        shift: Some(Shift::Later(3)),
         ..ALL
     };
     let same = Wanted {
@@ -404,13 +404,13 @@ fn shifts(rt: HostRuntime) -> Result<(), Fail> {
     };
     expect(&rt, by_three, CALL, later.as_str(), &same)?;
     let back = CompareSettings {
-        shift: Shift::Earlier(3),
+        shift: Some(Shift::Earlier(3)),
         ..ALL
     };
     expect(&rt, back, later.as_str(), CALL, &same)?;
     // More frames than there are stand in front.
     let far = CompareSettings {
-        shift: Shift::Later(1_000),
+        shift: Some(Shift::Later(1_000)),
         ..ALL
     };
     expect(

@@ -1,6 +1,10 @@
 pub mod AccessType
+pub mod BlockTexts
 pub mod Contents
+pub mod ContentsTexts
+pub mod DatagramTexts
 pub mod Fragments
+pub mod HeaderTexts
 pub mod Lines
 pub mod ListingRules
 pub mod Marks
@@ -8,6 +12,7 @@ pub mod OutgoingListings
 pub mod ReceivedListings
 pub mod Strips
 pub mod Summaries
+pub mod Texts
 pub mod VoicePlace
 pub mod Ways
 pub mod Wrong

@@ -4,6 +4,7 @@ ghost use Rattle.dmr_bits.specs.Bits.{bits_of_octets};
 ghost use Rattle.dmr_bptc.specs.Decoding.{IsDecoded};
 ghost use Rattle.dmr_burst.specs.Layout.{information_field};
 ghost use Rattle.dmr_listing.specs.Contents.{HoldsContents, HoldsControlBlock, HoldsDataHeader, HoldsLinkControl};
+ghost use Rattle.dmr_listing.specs.ContentsTexts.{contents_text};
 ghost use Rattle.dmr_reading.specs.Reading.{IsInformation, is_coded};
 
 use crate::control_block::ControlBlock;
@@ -108,6 +109,8 @@ pub(crate) fn contents_of(kind: u8, burst: &[u8; 33], information: Information) 
 }
 
 impl fmt::Display for Contents {
+    ghost output = { λ contents. contents_text contents };
+
     fn fmt<W: fmt::Write>(&self, f: &mut fmt::Formatter<W>) -> fmt::Result {
         match self {
             Contents::LinkControl(lc) => write!(f, "{}", LinkControl(*lc)),

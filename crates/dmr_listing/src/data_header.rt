@@ -1,4 +1,9 @@
 //! What a line says of a data header.
+ghost use Rattle.std.specs.Prelude.{◌≡◌, Some, codes};
+ghost use Rattle.std.specs.Fmt.{WritesOnOk};
+ghost use Rattle.dmr_data.specs.declared.header.Header.TheVariants as format;
+ghost use Rattle.dmr_listing.specs.HeaderTexts.{blocks_text, header_text, header_way};
+
 use crate::counted::Counted;
 use crate::way::Way;
 use dmr_data::{Confirmed, Header, Response, ShortData, Status, Unconfirmed};
@@ -9,7 +14,10 @@ use std::fmt;
 pub(crate) struct DataHeader(pub(crate) Header);
 
 /// How many blocks follow.
-fn blocks(count: u8) -> Counted {
+fn blocks(count: u8) -> Counted
+    ensures count { result.0 ≡ count }
+    ensures name { result.1.now ≡ codes "block" }
+{
     Counted(usize::from(count), "block")
 }
 
@@ -17,7 +25,10 @@ fn write_response<W: fmt::Write>(
     way: &Way,
     response: &Response,
     f: &mut fmt::Formatter<W>,
-) -> fmt::Result {
+) -> fmt::Result
+    requires way { way.now ≡ header_way (format.Response response.now) }
+    ensures text { WritesOnOk W.write_str_gives f.old result (header_text (format.Response response.now)) f.new }
+{
     let blocks = blocks(response.blocks);
     write!(
         f,
@@ -35,7 +46,10 @@ fn write_unconfirmed<W: fmt::Write>(
     way: &Way,
     header: &Unconfirmed,
     f: &mut fmt::Formatter<W>,
-) -> fmt::Result {
+) -> fmt::Result
+    requires way { way.now ≡ header_way (format.Unconfirmed header.now) }
+    ensures text { WritesOnOk W.write_str_gives f.old result (header_text (format.Unconfirmed header.now)) f.new }
+{
     let blocks = blocks(header.blocks);
     write!(
         f,
@@ -48,7 +62,10 @@ fn write_confirmed<W: fmt::Write>(
     way: &Way,
     header: &Confirmed,
     f: &mut fmt::Formatter<W>,
-) -> fmt::Result {
+) -> fmt::Result
+    requires way { way.now ≡ header_way (format.Confirmed header.now) }
+    ensures text { WritesOnOk W.write_str_gives f.old result (header_text (format.Confirmed header.now)) f.new }
+{
     let blocks = blocks(header.blocks);
     write!(
         f,
@@ -61,7 +78,10 @@ fn write_short_data<W: fmt::Write>(
     way: &Way,
     header: &ShortData,
     f: &mut fmt::Formatter<W>,
-) -> fmt::Result {
+) -> fmt::Result
+    requires way { way.now ≡ header_way (format.ShortData header.now) }
+    ensures text { WritesOnOk W.write_str_gives f.old result (header_text (format.ShortData header.now)) f.new }
+{
     let blocks = blocks(header.blocks);
     write!(
         f,
@@ -70,11 +90,10 @@ fn write_short_data<W: fmt::Write>(
     )
 }
 
-fn write_status<W: fmt::Write>(
-    way: &Way,
-    header: &Status,
-    f: &mut fmt::Formatter<W>,
-) -> fmt::Result {
+fn write_status<W: fmt::Write>(way: &Way, header: &Status, f: &mut fmt::Formatter<W>) -> fmt::Result
+    requires way { way.now ≡ header_way (format.Status header.now) }
+    ensures text { WritesOnOk W.write_str_gives f.old result (header_text (format.Status header.now)) f.new }
+{
     write!(
         f,
         "status {way}, port {} -> {}, status {}",
@@ -83,6 +102,8 @@ fn write_status<W: fmt::Write>(
 }
 
 impl fmt::Display for DataHeader {
+    ghost output = { λ text. Some (header_text text.0) };
+
     fn fmt<W: fmt::Write>(&self, f: &mut fmt::Formatter<W>) -> fmt::Result {
         let way = Way::of_header(&self.0);
         match &self.0 {

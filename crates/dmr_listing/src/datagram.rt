@@ -1,6 +1,7 @@
 //! What a line says of octets that may be a datagram.
-ghost use Rattle.std.specs.Prelude.{◌≡◌, drop, take};
+ghost use Rattle.std.specs.Prelude.{◌≡◌, Some, drop, take};
 ghost use Rattle.dmr_ip.specs.Datagram.{number_at};
+ghost use Rattle.dmr_listing.specs.DatagramTexts.{end_text, octets_text};
 
 use crate::counted::Counted;
 use crate::digits::Digits;
@@ -39,6 +40,8 @@ fn ends_of(datagram: &Datagram) -> (End, End)
 }
 
 impl fmt::Display for End {
+    ghost output = { λ end. Some (end_text end.address end.port) };
+
     fn fmt<W: fmt::Write>(&self, f: &mut fmt::Formatter<W>) -> fmt::Result {
         let End {
             address: [a, b, c, d],
@@ -49,6 +52,8 @@ impl fmt::Display for End {
 }
 
 impl fmt::Display for DatagramText<'_> {
+    ghost output = { λ text. Some (octets_text text.0.now) };
+
     fn fmt<W: fmt::Write>(&self, f: &mut fmt::Formatter<W>) -> fmt::Result {
         match Datagram::parse(self.0) {
             Ok(datagram) => {

@@ -21,12 +21,15 @@
 //! - what a burst of a type holds (`specs/Contents.antt`), and what four frames carry (`specs/Fragments.antt`);
 //! - what a CACH announces (`specs/AccessType.antt`), and which bits are wrong (`specs/Wrong.antt`);
 //! - who sends a data header to whom (`specs/Ways.antt`);
+//! - what is printed of a data header, a control signalling block and what else a data burst holds but a link control
+//!   (`specs/ContentsTexts.antt` over `HeaderTexts` and `BlockTexts`), and of the octets of a received record
+//!   (`specs/DatagramTexts.antt`), letter by letter;
 //! - what is counted (`specs/Summaries.antt`).
 //!
 //! Of a whole file they say that each burst or record has a line, in order and once, and that a fault is told exactly where the
 //! octets show it (`specs/ListingRules.antt`, `OutgoingListings`, `ReceivedListings`). `laws` has the places of the lines. Of
-//! strips they say that each slot has its mark, in order and once (`specs/Marks.antt`, `Strips`). What the texts are is left open
-//! by contracts, and is tested.
+//! strips they say that each slot has its mark, in order and once (`specs/Marks.antt`, `Strips`). What all other texts are is
+//! left open by contracts, and is tested.
 #![tactic(auto)]
 
 mod access_type;

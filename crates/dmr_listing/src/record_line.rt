@@ -1,4 +1,6 @@
 //! The lines of the lists: of what is to be sent, and of what was received.
+ghost use Rattle.std.specs.Prelude.{Some};
+ghost use Rattle.dmr_listing.specs.DatagramTexts.{received_text, status_text};
 
 use crate::counted::Counted;
 use crate::datagram::DatagramText;
@@ -72,6 +74,8 @@ impl fmt::Display for OutgoingLine<'_> {
 struct StatusText<'a>(&'a [u8]);
 
 impl fmt::Display for StatusText<'_> {
+    ghost output = { λ text. Some (status_text text.0.now) };
+
     fn fmt<W: fmt::Write>(&self, f: &mut fmt::Formatter<W>) -> fmt::Result {
         match self.0 {
             [source, destination, high, low] => {
@@ -84,6 +88,8 @@ impl fmt::Display for StatusText<'_> {
 }
 
 impl fmt::Display for ReceivedText<'_> {
+    ghost output = { λ text. Some (received_text text.kind text.octets.now) };
+
     fn fmt<W: fmt::Write>(&self, f: &mut fmt::Formatter<W>) -> fmt::Result {
         let count = Counted(self.octets.len(), "octet");
         write!(f, "{count}: ")?;

@@ -1,4 +1,7 @@
 //! From whom something is, and to whom.
+ghost use Rattle.std.specs.Prelude.{◌≡◌, [], Some, if◌then◌else◌, codes};
+ghost use Rattle.dmr_listing.specs.Texts.{way_text};
+
 use dmr_data::Header;
 use std::fmt;
 
@@ -14,7 +17,6 @@ pub struct Way {
 }
 
 impl Way {
-    ghost use Rattle.std.specs.Prelude.{◌≡◌};
     ghost use Rattle.dmr_listing.specs.Ways.{target_of, is_to_group, source_of};
 
     /// Who sends a data header to whom. A response goes to a radio.
@@ -39,11 +41,15 @@ impl Way {
 }
 
 /// What stands before the number of a group.
-fn group_name(group: bool) -> &'static str {
+fn group_name(group: bool) -> &'static str
+    ensures value { result.now ≡ (if group then codes "group " else []) }
+{
     if group { "group " } else { "" }
 }
 
 impl fmt::Display for Way {
+    ghost output = { λ way. Some (way_text way) };
+
     fn fmt<W: fmt::Write>(&self, f: &mut fmt::Formatter<W>) -> fmt::Result {
         let to = group_name(self.to_group);
         write!(f, "{} -> {to}{}", self.source, self.destination)

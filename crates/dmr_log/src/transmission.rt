@@ -1,5 +1,6 @@
 //! Transmissions: which frames are one, and what is told of it.
 ghost use Rattle.std.specs.Prelude.{◌≡◌, ◌↔◌, IsTrue};
+ghost use Rattle.std.specs.Option.{option_or};
 ghost use Rattle.dmr_log.specs.Transmissions as spec;
 
 use crate::checks::Checks;
@@ -226,13 +227,20 @@ impl Subject {
 }
 
 impl Call {
+    /// The first link control that is known of it, where the next frame has this one.
+    fn first_known(&self, next: Option<FullLc>) -> Option<FullLc>
+        ensures value { result ≡ option_or self.now.link_control next }
+    {
+        self.link_control.or(next)
+    }
+
     /// The call with the next frame, which is of it.
     fn with(self, repeated: &Repeated) -> Call
         ensures value { result ≡ spec.call_with self repeated.now }
     {
         match *repeated {
             Repeated::CallHeader(link_control) => Call {
-                link_control: self.link_control.or(link_control),
+                link_control: self.first_known(link_control),
                 ..self
             },
             Repeated::Place {
@@ -240,14 +248,14 @@ impl Call {
                 is_filled,
             } => Call {
                 stage: CallStage::Places,
-                link_control: self.link_control.or(link_control),
+                link_control: self.first_known(link_control),
                 places: more(self.places, true),
                 filled: more(self.filled, is_filled),
                 ..self
             },
             Repeated::Terminator(link_control) => Call {
                 stage: CallStage::Terminated(link_control),
-                link_control: self.link_control.or(link_control),
+                link_control: self.first_known(link_control),
                 ..self
             },
             _ => self,

@@ -35,6 +35,6 @@ pub use fault::LogFault;
 pub use kind::EntryKind;
 pub use line::EntryLine;
 pub use object::EntryObject;
-pub use printing::print_log;
+pub use printing::{new_log, print_log, print_log_fault, read_uplink_head};
 pub use settings::{LogForm, LogSettings};
 pub use start_time::{Begin, StartTime};

@@ -25,7 +25,7 @@ pub struct EntryLine<'a> {
 
 impl CallEnd {
     /// What a log calls it.
-    pub(crate) fn name(self) -> &'static str
+    pub fn name(self) -> &'static str
         ensures value { result.now ≡ end_name self }
     {
         match self {

@@ -1,11 +1,14 @@
 //! The objects of a log as JSON.
 use crate::columns::{CallEnd, EntryColumns};
 use crate::entry::{EntryDetails, LogEntry};
+use crate::row::DETAILS;
 use crate::start_time::{Begin, StartTime};
+use arrayvec::ArrayString;
 use dmr_listing::Way;
 use dmr_log::Checks;
 use dmr_recording::Seconds;
 use std::fmt;
+use std::fmt::Write;
 
 /// The object of an entry: the same columns as those of a table. All its texts are fixed or digits, so nothing has to be escaped.
 #[derive(Clone, Copy, Drop)]
@@ -91,6 +94,22 @@ impl fmt::Display for EndValue {
     }
 }
 
+/// The value of what else tells an entry apart.
+#[derive(Clone, Copy, Drop)]
+struct DetailsValue<'a>(&'a LogEntry<'a>);
+
+impl fmt::Display for DetailsValue<'_> {
+    fn fmt<W: fmt::Write>(&self, f: &mut fmt::Formatter<W>) -> fmt::Result {
+        let mut details: ArrayString<DETAILS> = ArrayString::new();
+        write!(details, "{}", EntryDetails(self.0))?;
+        if details.is_empty() {
+            write!(f, "null")
+        } else {
+            write!(f, "\"{}\"", details.as_str())
+        }
+    }
+}
+
 /// The keys of what a call or a packet has.
 #[derive(Drop)]
 struct CountKeys<'a>(&'a EntryColumns);
@@ -129,7 +148,7 @@ impl fmt::Display for EntryObject<'_> {
         let checks = ChecksKeys(columns.checks);
         write!(f, "{counts},{checks},")?;
         let end = EndValue(columns.end);
-        let details = EntryDetails(&self.entry);
-        write!(f, "\"end\":{end},\"details\":\"{details}\"}}")
+        let details = DetailsValue(&self.entry);
+        write!(f, "\"end\":{end},\"details\":{details}}}")
     }
 }

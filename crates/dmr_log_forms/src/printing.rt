@@ -66,8 +66,9 @@ fn new_gateway(alloc: Global, colour: u8, address: Option<u32>) -> Result<Option
     }
 }
 
-/// A log of a repeater with this colour code and a gateway at this address, if one is to listen, of which no frame came.
-fn new_log(alloc: Global, colour: u8, address: Option<u32>) -> Result<Log, LogFault>
+/// A log of a repeater with this colour code and a gateway at this address, if one is to listen, of which no frame came. An error
+/// is that one of the two is out of its range, or that there is no memory.
+pub fn new_log(alloc: Global, colour: u8, address: Option<u32>) -> Result<Log, LogFault>
     ensures log { IfOk result (λ log. log ≡ spec.log_of colour address) }
     ensures fault { IfErr result (λ e. part.IsLogNotBegun e colour address) }
     ensures range { part.IsOutOfRange colour address → result ≡ Err LogFault.Range }
@@ -82,8 +83,8 @@ fn new_log(alloc: Global, colour: u8, address: Option<u32>) -> Result<Log, LogFa
     }
 }
 
-/// Reads the head of an uplink.
-fn read_uplink_head<S: Source>(source: &mut S) -> Result<(), LogFault>
+/// Reads the head of an uplink. An error is a fault of the head, or that the file is one of the other three.
+pub fn read_uplink_head<S: Source>(source: &mut S) -> Result<(), LogFault>
     requires source { S.has_failed source.old ≡ false }
     ensures uplink { OnOk result (Consumes (S.left source.old) (S.left source.new) (head_octets (magic_of format.Uplink))) }
     ensures well { OnOk result (S.has_failed source.new ≡ false) }
@@ -215,8 +216,8 @@ fn print_to<S: Source, K: Sink>(
     print_end(settings, summary, &mut text, sink)
 }
 
-/// Tells why the log of a file of this name wasn't printed whole.
-fn print_fault<E: Sink>(alloc: Global, name: &str, fault: &LogFault, err: &mut E)
+/// Tells why the log of a file of this name wasn't printed whole, or another view of that log.
+pub fn print_log_fault<E: Sink>(alloc: Global, name: &str, fault: &LogFault, err: &mut E)
     requires err { E.has_failed err.old ≡ false }
     ensures error { E.has_failed err.new ≡ false → PutsError (E.held err.old) (E.held err.new) }
     ensures told { E.has_failed err.new ≡ false → part.TellsLogFault fault.now (E.held err.old) (E.held err.new) }
@@ -274,7 +275,7 @@ pub fn print_log<S: Source, K: Sink, E: Sink>(
         Ok(()) => SUCCESS,
         Err(LogFault::Output) => FAILURE,
         Err(fault) => {
-            print_fault(alloc, name, &fault, err);
+            print_log_fault(alloc, name, &fault, err);
             FAILURE
         }
     }

@@ -27,7 +27,7 @@ const HEAD: [&[u8]; 19] = [
 ];
 
 /// How many letters the details of an entry have at most: those of a received record have its octets in digits.
-const DETAILS: usize = 2 * BODY_LIMIT + 40;
+pub(crate) const DETAILS: usize = 2 * BODY_LIMIT + 40;
 
 /// A text of at most 40 letters, which a cell holds.
 type Cell = ArrayString<40>;

@@ -2,6 +2,8 @@
 #![tactic(auto)]
 
 #[cfg(test)]
+mod page_tests;
+#[cfg(test)]
 mod recordings;
 #[cfg(test)]
 mod tests;

@@ -263,10 +263,10 @@ fn objects(rt: HostRuntime) -> Result<(), Fail> {
         \"wrong\":null,\"checked\":null,\"end\":null,\"details\":\"4 octets: port 1 -> 2, status 5\"}\n\
         {\"start\":0.00,\"seconds\":0.96,\"frame\":0,\"slot\":1,\"kind\":\"group call\",\"from\":2,\"to\":1,\"group\":true,\
         \"options\":0,\"late\":false,\"bursts\":16,\"places\":12,\"filled\":2,\"blocks\":null,\"missing\":null,\"wrong\":0,\
-        \"checked\":750,\"end\":\"terminator\",\"details\":\"\"}\n\
+        \"checked\":750,\"end\":\"terminator\",\"details\":null}\n\
         {\"start\":1.32,\"seconds\":0.36,\"frame\":22,\"slot\":1,\"kind\":\"group call\",\"from\":3,\"to\":1,\"group\":true,\
         \"options\":128,\"late\":true,\"bursts\":6,\"places\":6,\"filled\":0,\"blocks\":null,\"missing\":null,\"wrong\":0,\
-        \"checked\":128,\"end\":\"lost\",\"details\":\"\"}\n\
+        \"checked\":128,\"end\":\"lost\",\"details\":null}\n\
         {\"frames\":40,\"calls\":2,\"packets\":1,\"controls\":0,\"repeated\":23,\"received\":1}\n",
     )?;
     expect(

@@ -1,13 +1,17 @@
 -- What a command line gives for an option.
-use Rattle.std.specs.Prelude.{◌≡◌, ◌<◌, ◌^◌, ℕ, Bool, true, false, [], Option, Some, None, codes}
+use Rattle.std.specs.Prelude.{◌≡◌, ◌<◌, ◌^◌, ℕ, Bool, true, false, List, [], Option, Some, None, codes, option_map}
 use Rattle.std.specs.Prelude.{unwrap_or}
 use Rattle.std.specs.Str.Parse.{IsNumeral, digits_value, without_leading_plus}
-use Rattle.clap.specs.Words.{first_value, one_text, Text}
+use Rattle.clap.specs.Words.{first_value, matched_of, one_text, raw_values, Text}
 use Rattle.clap.specs.declared.parser.matches.Found.{Found}
 
 -- the text that an option was given, or has where it is left out
 abbrev pub text_of : Found → Text → Text
 text_of found option = unwrap_or (first_value found option) []
+
+-- the texts that an option was given, in their order; none where it is left out
+abbrev pub texts_of : Found → Text → List Text
+texts_of found option = unwrap_or (option_map raw_values (matched_of found option)) []
 
 -- the number of so many bits that the text of an option spells
 abbrev pub IsNumberOf : ℕ → Found → Text → ℕ → Type 0

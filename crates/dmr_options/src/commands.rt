@@ -14,6 +14,7 @@ pub enum Listed {
     Slot,
     Show,
     Log,
+    Compare,
     Import,
     Export,
 }
@@ -29,6 +30,7 @@ impl Listed {
             "slot" => Some(Listed::Slot),
             "show" => Some(Listed::Show),
             "log" => Some(Listed::Log),
+            "compare" => Some(Listed::Compare),
             "import" => Some(Listed::Import),
             "export" => Some(Listed::Export),
             _ => None,
@@ -44,6 +46,7 @@ impl Listed {
             Listed::Slot => "slot",
             Listed::Show => "show",
             Listed::Log => "log",
+            Listed::Compare => "compare",
             Listed::Import => "import",
             Listed::Export => "export",
         }
@@ -56,6 +59,7 @@ impl Listed {
             Listed::Slot => "Says what one burst is",
             Listed::Show => "Lists what a file holds",
             Listed::Log => "Lists what a repeater repeats: who calls whom",
+            Listed::Compare => "Tells where two files differ",
             Listed::Import => "Makes a file of a run from another format",
             Listed::Export => "Writes a file of a run in another format",
         }

@@ -1,4 +1,9 @@
 -- How runs over files end.
+use Rattle.std.specs.Prelude.{◌≡◌, List, length}
+use Rattle.dmr_record.specs.Outgoing.{Sending}
+use Rattle.dmr_record.specs.declared.fault.RecordFault.TheVariants.{Read}
+use Rattle.dmr_repeater.specs.Causes.{IfOutgoing}
+use Rattle.dmr_repeater.specs.Runs.{from_frame}
 use Rattle.dmr_repeater.specs.declared.fault.RunFault.{RunFault}
 use Rattle.dmr_repeater.specs.declared.summary.Summary.{Summary}
 use Rattle.dmr_program.specs.declared.run_end.RunEnd.{RunEnd}
@@ -24,3 +29,10 @@ IsRefused _ = ⊥
 abbrev pub IfTerminal : RunEnd → (Stream → Type 0) → Type 0
 IfTerminal (Terminal stream) P = P stream
 IfTerminal _ P = Unit {0}
+
+-- How a run ends over an outgoing list of these records, no more than may be and in their order. Where it was done, those of frames
+-- that it hasn't are counted as not offered. Where it met a fault of the list, a read of it failed.
+abbrev pub EndsOver : List Sending → RunEnd → Type 0
+EndsOver sendings (Done summary) = summary.unoffered ≡ length (from_frame summary.frames sendings)
+EndsOver sendings (Fault fault) = IfOutgoing fault (λ shown. shown ≡ Read)
+EndsOver sendings _ = Unit {0}

@@ -1,8 +1,10 @@
 //! What a run reads and writes where a file may be left out.
 ghost use Rattle.std.specs.Prelude.{◌≡◌, ℕ, List, Option, Some, None, []};
 ghost use Rattle.dmr_record.specs.Outgoing.{outgoing_file};
-ghost use Rattle.dmr_program.specs.Devices.{file_contents, list_left};
+ghost use Rattle.dmr_program.specs.Devices.{file_contents, list_left, list_opened};
 
+use crate::opening::file_if_any;
+use dmr_files::Open;
 use std::io::{self, Read, Write};
 
 /// The octets of an outgoing list without a record: its head.
@@ -26,6 +28,13 @@ impl<I> OutgoingList<I> {
             Some(file) => OutgoingList::File(file),
             None => OutgoingList::Octets(NO_DATAGRAMS),
         }
+    }
+
+    /// The list of this open file, or one without datagrams where there is none.
+    pub(crate) fn of_open(open: Option<Open<I>>) -> OutgoingList<I>
+        ensures octets { (left : I → Option (List ℕ)) → list_left left result ≡ list_opened left open }
+    {
+        OutgoingList::of(file_if_any(open))
     }
 }
 

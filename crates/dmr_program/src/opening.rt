@@ -1,5 +1,5 @@
 //! The files of a run, opened and told apart.
-ghost use Rattle.std.specs.Prelude.{◌≡◌, ◌↔◌, false, true, IsTrue, IfOk, IfErr, IfSome};
+ghost use Rattle.std.specs.Prelude.{◌≡◌, ◌↔◌, false, true, None, Some, IsTrue, IfOk, IfErr, IfSome};
 ghost use Rattle.dmr_files.specs.Identity.{clashes};
 ghost use Rattle.dmr_program.specs.Apart.{IsApart, clashes_if_any, is_any_live};
 ghost use Rattle.dmr_program.specs.Summary.{is_sent_out};
@@ -52,7 +52,10 @@ pub(crate) fn are_live(uplink: &Identity, outgoing: &Option<Identity>) -> bool
 }
 
 /// An open file, where there is one.
-pub(crate) fn file_if_any<F>(open: Option<Open<F>>) -> Option<F> {
+pub(crate) fn file_if_any<F>(open: Option<Open<F>>) -> Option<F>
+    ensures none { open ≡ None → result ≡ None }
+    ensures some { (given : Open F) → open ≡ Some given → result ≡ Some given.file }
+{
     match open {
         Some(open) => Some(open.file),
         None => None,
@@ -89,6 +92,7 @@ fn open_input_if_any<S: System>(
     place: Option<Place<'_>>,
     stream: Stream,
 ) -> Result<Option<Open<S::Input>>, Unopened>
+    ensures none { place ≡ None → IfOk result (λ open. open ≡ None) }
     ensures named { IfErr result (λ e. e.stream ≡ stream) }
 {
     match place {
@@ -207,7 +211,10 @@ fn empty_outputs<S: System>(
 pub(crate) fn open_files<S: System>(
     system: &S,
     places: &Places<'_>,
-) -> Result<Opened<S::Input, S::Output>, Unopened> {
+) -> Result<Opened<S::Input, S::Output>, Unopened>
+    // An outgoing list that is left out isn't opened.
+    ensures unlisted { places.now.outgoing ≡ None → IfOk result (λ files. files.outgoing ≡ None) }
+{
     let standard = system.standard_files().in_use(places.take_output());
     let uplink = open_input(system, places.uplink, Stream::Uplink)?;
     let outgoing = open_input_if_any(system, places.outgoing, Stream::Outgoing)?;

@@ -1,7 +1,11 @@
 //! A run over files at their places, with buffers between.
-ghost use Rattle.std.specs.Prelude.{◌≡◌, ◌≤◌, ◌+◌, ◌^◌, true, Ok, IfOk, IfErr};
+ghost use Rattle.std.specs.Prelude.{◌≡◌, ◌≤◌, ◌+◌, ◌^◌, true, List, [], None, Ok, IfOk, IfErr};
+ghost use Rattle.dmr_record.specs.Outgoing.{Sending};
 ghost use Rattle.dmr_repeater.specs.Causes.{is_of_its_stream};
-ghost use Rattle.dmr_program.specs.Ending.{IfDone, IfFault, IsRefused, IfTerminal};
+ghost use Rattle.dmr_repeater.specs.Runs.{HasOutgoing};
+ghost use Rattle.dmr_program.specs.Devices.{list_opened};
+ghost use Rattle.dmr_program.specs.Ending.{EndsOver, IfDone, IfFault, IsRefused, IfTerminal};
+ghost use Rattle.dmr_program.specs.RunEnd.{end_of};
 ghost use Rattle.dmr_program.specs.Summary.{is_sent_out};
 
 use crate::devices::{OutgoingList, ReceivedFile};
@@ -31,6 +35,8 @@ pub fn run_places<S: System>(
     ensures terminal { IfTerminal result (λ stream. is_sent_out places.now stream ≡ true) }
     // The settings are none that are refused.
     ensures set { IsRefused result → ⊥ }
+    // Without an outgoing list the run is one over a list that has no record.
+    ensures unlisted { places.now.outgoing ≡ None → EndsOver [] result }
 {
     if let Some(stream) = sent_to_terminal(system, places) {
         return RunEnd::Terminal(stream);
@@ -51,6 +57,8 @@ fn run_files<I: Read + Drop, O: Write + Drop>(
     ensures few { IfDone result (λ summary. summary.frames ≤ 2 ^ 20 + 6) }
     ensures kind { IfFault result (λ fault. is_of_its_stream fault ≡ true) }
     ensures set { IsRefused result → ⊥ }
+    ensures listed { (sendings : List Sending) → HasOutgoing sendings (list_opened I.remaining files.outgoing)
+        → EndsOver sendings result }
 {
     let capacity = kept_back(files.is_live());
     let Opened {
@@ -64,7 +72,7 @@ fn run_files<I: Read + Drop, O: Write + Drop>(
         config,
         capacity,
         uplink.file,
-        OutgoingList::of(file_if_any(outgoing)),
+        OutgoingList::of_open(outgoing),
         downlink.file,
         ReceivedFile::of(file_if_any(received)),
     ))
@@ -83,6 +91,8 @@ fn run_buffered<U: Read + Drop, O: Read + Drop, D: Write + Drop, R: Write + Drop
 ) -> Result<Summary, RunFault>
     ensures few { IfOk result (λ summary. summary.frames ≤ 2 ^ 20 + 6) }
     ensures kind { IfErr result (λ e. is_of_its_stream e ≡ true) }
+    ensures listed { (sendings : List Sending) → HasOutgoing sendings (O.remaining outgoing)
+        → EndsOver sendings (end_of result) }
 {
     let mut uplink = with_memory(buffered_source(alloc, uplink))?;
     let mut outgoing = with_memory(buffered_source(alloc, outgoing))?;

@@ -1,7 +1,11 @@
 //! A run over files at their places that is watched, so that more can be told of how it ended.
-ghost use Rattle.std.specs.Prelude.{◌≡◌, ◌≤◌, ◌+◌, ◌^◌, true, false, IfOk, IfErr};
+ghost use Rattle.std.specs.Prelude.{◌≡◌, ◌≤◌, ◌+◌, ◌^◌, true, false, List, [], None, IfOk, IfErr};
+ghost use Rattle.dmr_record.specs.Outgoing.{Sending};
 ghost use Rattle.dmr_repeater.specs.Causes.{is_of_its_stream};
-ghost use Rattle.dmr_program.specs.Ending.{IfDone, IfFault, IsRefused, IfTerminal};
+ghost use Rattle.dmr_repeater.specs.Runs.{HasOutgoing};
+ghost use Rattle.dmr_program.specs.Devices.{list_opened};
+ghost use Rattle.dmr_program.specs.Ending.{EndsOver, IfDone, IfFault, IsRefused, IfTerminal};
+ghost use Rattle.dmr_program.specs.RunEnd.{end_of};
 ghost use Rattle.dmr_program.specs.Summary.{is_sent_out};
 
 use crate::devices::{OutgoingList, ReceivedFile};
@@ -36,6 +40,7 @@ pub(crate) fn run_places_watched<S: System>(
     ensures kind { IfFault result.end (λ fault. is_of_its_stream fault ≡ true) }
     ensures terminal { IfTerminal result.end (λ stream. is_sent_out places.now stream ≡ true) }
     ensures set { IsRefused result.end → ⊥ }
+    ensures unlisted { places.now.outgoing ≡ None → EndsOver [] result.end }
 {
     if let Some(stream) = sent_to_terminal(system, places) {
         return WatchedEnd {
@@ -62,6 +67,8 @@ fn run_files_watched<I: Read + Drop, O: Write + Drop>(
     ensures few { IfDone result.end (λ summary. summary.frames ≤ 2 ^ 20 + 6) }
     ensures kind { IfFault result.end (λ fault. is_of_its_stream fault ≡ true) }
     ensures set { IsRefused result.end → ⊥ }
+    ensures listed { (sendings : List Sending) → HasOutgoing sendings (list_opened I.remaining files.outgoing)
+        → EndsOver sendings result.end }
 {
     let capacity = kept_back(files.is_live());
     let Opened {
@@ -75,7 +82,7 @@ fn run_files_watched<I: Read + Drop, O: Write + Drop>(
         config,
         capacity,
         uplink.file,
-        OutgoingList::of(file_if_any(outgoing)),
+        OutgoingList::of_open(outgoing),
         downlink.file,
         ReceivedFile::of(file_if_any(received)),
     ) {
@@ -104,6 +111,7 @@ fn watched_input<R: Read + Drop>(
     colour: u8,
 ) -> Result<WatchedInput<R>, RunFault>
     ensures well { IfOk result (λ input. ⟦<WatchedInput<R> as Source>⟧.has_failed input ≡ false) }
+    ensures octets { IfOk result (λ input. ⟦<WatchedInput<R> as Source>⟧.left input ≡ R.remaining reader) }
     ensures fault { IfErr result (λ e. e ≡ RunFault.Memory) }
 {
     let source = with_memory(buffered_source(alloc, KeptReader::new(reader)))?;
@@ -171,6 +179,7 @@ fn end_with(
 ) -> Result<Summary, RunFault>
     ensures few { IfOk end (λ summary. summary.frames ≤ 2 ^ 20 + 6) → IfOk result (λ summary. summary.frames ≤ 2 ^ 20 + 6) }
     ensures kind { IfErr end (λ e. is_of_its_stream e ≡ true) → IfErr result (λ e. is_of_its_stream e ≡ true) }
+    ensures listed { (sendings : List Sending) → EndsOver sendings (end_of end) → EndsOver sendings (end_of result) }
 {
     let summary = end?;
     with_octets(downlink, Stream::Downlink)?;
@@ -191,6 +200,8 @@ fn run_watched<U: Read + Drop, O: Read + Drop, D: Write + Drop, R: Write + Drop>
     ensures few { IfOk result (λ watched. IfOk watched.0 (λ summary. summary.frames ≤ 2 ^ 20 + 6)) }
     ensures kind { IfOk result (λ watched. IfErr watched.0 (λ e. is_of_its_stream e ≡ true)) }
     ensures memory { IfErr result (λ e. e ≡ RunFault.Memory) }
+    ensures listed { (sendings : List Sending) → HasOutgoing sendings (O.remaining outgoing)
+        → IfOk result (λ watched. EndsOver sendings (end_of watched.0)) }
 {
     let colour = config.colour;
     let mut uplink = watched_input(alloc, uplink, FileFormat::Uplink, colour)?;

@@ -1,6 +1,7 @@
 //! What is printed of files, and where.
 mod carrying;
 mod command_line;
+mod comparing;
 mod logging;
 mod text;
 

@@ -1,4 +1,4 @@
-//! The calls that this project was asked for, each by its name and in its shape, on values from outside.
+//! The public calls that programs are written against, each by its name and in its shape, on values from outside.
 #![tactic(auto)]
 
 #[cfg(test)]

@@ -55,10 +55,10 @@ no_number c n word letter e =
     let first = small.0 in
     omega (arith, first, letter)
 
-frames_no_number : (n : ℕ) → codes "frames" ≡ decimal n → ⊥
+pub frames_no_number : (n : ℕ) → codes "frames" ≡ decimal n → ⊥
 frames_no_number n e = no_number 102 n (codes "rames") (omega arith) e
 
-records_no_number : (n : ℕ) → codes "records" ≡ decimal n → ⊥
+pub records_no_number : (n : ℕ) → codes "records" ≡ decimal n → ⊥
 records_no_number n e = no_number 114 n (codes "ecords") (omega arith) e
 
 -- the first letter of the first word
@@ -66,13 +66,13 @@ abbrev letter : List (List ℕ) → ℕ
 letter ((c ∷ word) ∷ words) = c
 letter _ = 0
 
-frames_no_records : (words : List (List ℕ)) → BeginsWith (codes "frames") words → BeginsWith (codes "records") words → ⊥
+pub frames_no_records : (words : List (List ℕ)) → BeginsWith (codes "frames") words → BeginsWith (codes "records") words → ⊥
 frames_no_records words (rest, e) (rest', e') = let same : 102 ≡ 114 = ap letter (sym e ∙ e') in omega (arith, same)
 
-one : (m n : ℕ) → m < 2 ^ 32 → n < 2 ^ 32 → decimal m ≡ decimal n → m ≡ n
+pub one : (m n : ℕ) → m < 2 ^ 32 → n < 2 ^ 32 → decimal m ≡ decimal n → m ≡ n
 one m n few few' e = decimal_injective m n (omega arith) (omega arith) e
 
-slot_few : (slot : ℕ) → IsSlot slot → slot < 2 ^ 32
+pub slot_few : (slot : ℕ) → IsSlot slot → slot < 2 ^ 32
 slot_few slot (inl e) = omega (arith, e)
 slot_few slot (inr e) = omega (arith, e)
 
@@ -82,7 +82,7 @@ pub record IsSame (frame slot frame' slot' : ℕ) (rest rest' : List (List ℕ))
   pub of_slot : slot ≡ slot'
   pub of_rest : rest ≡ rest'
 
-places_same : (words rest rest' : List (List ℕ)) (frame slot frame' slot' : ℕ) → HasPlace words frame slot rest
+pub places_same : (words rest rest' : List (List ℕ)) (frame slot frame' slot' : ℕ) → HasPlace words frame slot rest
     → words ≡ decimal frame' ∷ decimal slot' ∷ rest' → frame' < 2 ^ 32 → slot' < 2 ^ 32 → IsSame frame slot frame' slot' rest rest'
 places_same words rest rest' frame slot frame' slot' has e few few' =
     let line = has.line in

@@ -3,6 +3,7 @@ mod Digits
 mod Hexes
 mod Imported
 mod Numbers
+mod OneFault
 mod OneFile
 mod Plain
 mod Puts

@@ -1,12 +1,12 @@
 //! Laws of texts of files, as the contracts of functions that do nothing.
-ghost use Rattle.std.specs.Prelude.{◌≡◌, ℕ, List, Option, true};
-ghost use Rattle.dmr_words.specs.Lines.{Line, has_short_lines, worded_behind};
+ghost use Rattle.std.specs.Prelude.{◌≡◌, ◌≢◌, ℕ, List, Option, true};
+ghost use Rattle.dmr_words.specs.Lines.{Line, TextState, has_short_lines, last_number, worded_behind};
 ghost use Rattle.dmr_text.specs.Files.{AreRecords, File, HasWholeFrames, file_text};
 ghost use Rattle.dmr_text.specs.Following.{SaysLast, SaysNext};
 ghost use Rattle.dmr_text.specs.Imports.{IsImported, SaysFile};
 ghost use Rattle.dmr_text.specs.Octets.{HasOctets};
 ghost use Rattle.dmr_text.specs.Says.{IsWithinLimit};
-ghost use Rattle.dmr_text.specs.Telling.{ShowsLineFault};
+ghost use Rattle.dmr_text.specs.Telling.{ShowsBreak, ShowsLineFault};
 ghost use Rattle.dmr_text.specs.declared.carried.Carried.{Carried};
 ghost use Rattle.dmr_text.specs.declared.fault.TextFault.{TextFault};
 
@@ -33,4 +33,14 @@ pub fn faults_say_nothing()
         → ¬ SaysNext file words }
     ensures last { (file : File) (fault : TextFault) (words : List (List ℕ)) → ShowsLineFault file fault words
         → ¬ SaysLast file words }
+{}
+
+/// A line behind the records of a file shows one fault at most. So does what stands behind the lines that were told, where there
+/// can be one more. This leaves `Read` out, which a device has and no text.
+pub fn one_fault()
+    ensures line { (file : File) (fault other : TextFault) (words : List (List ℕ)) → ShowsLineFault file fault words
+        → ShowsLineFault file other words → fault ≡ other }
+    ensures breaks { (at_end fault other : TextFault) (state : TextState) → state.number ≢ last_number
+        → ShowsBreak at_end fault state → ShowsBreak at_end other state → fault ≢ TextFault.Read → other ≢ TextFault.Read
+        → fault ≡ other }
 {}

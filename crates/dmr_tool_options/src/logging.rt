@@ -34,10 +34,20 @@ fn json<'a>(alloc: Global) -> Result<Arg<'a>, AllocError> {
         .conflicts_with("csv")
 }
 
+/// Whether a page is asked for, which is in no other form and leaves nothing out.
+fn html<'a>(alloc: Global) -> Result<Arg<'a>, AllocError> {
+    Arg::new(alloc, "html")
+        .long("html")
+        .help("A page: a picture of each minute, and a table")
+        .action(ArgAction::SetTrue)
+        .conflicts_with_all(&["csv", "json", "slot", "from", "to"])
+}
+
 /// The recording of `log`, its settings, its form, and the lines that are asked for.
 fn log<'a>(alloc: Global) -> Result<Vec<Arg<'a>>, AllocError> {
     let colour = colour(alloc)?;
     let json = json(alloc)?;
+    let html = html(alloc)?;
     Ok(vec![in alloc;
         word(
             alloc,
@@ -50,6 +60,7 @@ fn log<'a>(alloc: Global) -> Result<Vec<Arg<'a>>, AllocError> {
         start(alloc),
         csv(alloc),
         json,
+        html,
         slot(alloc),
         from(alloc),
         to(alloc),

@@ -26,12 +26,29 @@ with a terminator; lost, where nothing is repeated behind it; cut, where another
 burst is; or with the end of the recording. It is late where it begins with a\n\
 place. A packet has how many of its blocks came. [wrong: 21 of 263 bits] tells\n\
 how many bits were wrong, of those that codes cover.\n\n\
---csv has a row for each line, behind one that names the columns. Where the\n\
-recording is a pipe, each line is printed as soon as it is known.\n\n\
+--csv has a row for each line, behind one that names the columns. --html has a\n\
+page for a browser or for paper: a picture of both slots for each minute, and a\n\
+table of what ended in it. Where the recording is a pipe, each line is printed\n\
+as soon as it is known, and each minute as soon as it is over.\n\n\
 Status 0: the recording is whole; 1: it is at fault, which is told on standard\n\
 error with the octet at which its record begins; 2: the command line.\n\n\
 Example:\n  dmrgate log uplink.dmru --llid 1 --start 2026-01-31T12:00:00Z --csv\n\n\
-The lines and the columns are described in docs/protocol.md.";
+The lines, the columns and the page are described in docs/protocol.md.";
+
+/// What help says behind the options of `compare`.
+pub(crate) const ABOUT_COMPARISONS: &str =
+    "Two files of one kind are compared, slot by slot or record by record. Each place\n\
+where they differ has two lines, which say what `dmrgate show` shows there, or\n\
+`silence`. Brackets behind the second have how many bits of CACH and burst\n\
+differ, or how many octets of a record. The last line counts places: those that\n\
+are the same, those that differ, and those that one of the two has alone.\n\n\
+A shift may be negative. Frames in front of those that are compared aren't\n\
+counted. Lists have no shift. `--ignore` may be given twice: other repeaters\n\
+announce calls otherwise, and some correct vocoder bits.\n\n\
+Status 0: the files are the same, of what isn't ignored; 1: they differ; 2: the\n\
+command line, or a file is at fault, which is told on standard error.\n\n\
+Example:\n  dmrgate compare expected.dmrd got.dmrd --ignore cach\n\n\
+The lines are described in docs/protocol.md.";
 
 /// What help says behind the files of `export text`.
 pub(crate) const ABOUT_EXPORTED_TEXTS: &str =

@@ -1,20 +1,25 @@
 -- What the words of a command line ask for.
-use Rattle.std.specs.Prelude.{◌≡◌, Bool, true, false, [], Option, Some, None, codes, option_map}
+use Rattle.std.specs.Prelude.{◌≡◌, ℕ, Bool, true, false, [], Option, Some, None, codes, option_map}
 use Rattle.clap.specs.Words.{Text, found_of, rows_of, subcommand_name_of, subcommand_rows_of}
 use Rattle.clap.specs.declared.parser.matches.ArgMatches.{ArgMatches}
 use Rattle.clap.specs.declared.parser.matches.Found.{Found}
+use Rattle.dmr_compare.specs.Status.{trouble}
 use Rattle.dmr_files.specs.Place.{IsNamed, is_standard}
+use Rattle.dmr_lines.specs.Status.{failure}
 use Rattle.dmr_options.specs.Found.{IsFlagOf, text_of}
 use Rattle.dmr_show.specs.declared.filter.Filter.{Filter}
 use Rattle.dmr_show.specs.declared.form.Form.{Form}
 use Rattle.dmr_show.specs.declared.form.Form.TheVariants as form_variant
+use Rattle.dmr_tools.specs.Comparison.{IsComparisonOf, shares_input}
 use Rattle.dmr_tools.specs.Filters.{IsFilterOf, is_backwards}
-use Rattle.dmr_tools.specs.LogRequest.{AreLogSettings}
+use Rattle.dmr_tools.specs.LogRequest.{AreLogSettings, ArePageSettings}
+use Rattle.dmr_tools.specs.declared.comparison.Comparison.{Comparison}
 use Rattle.dmr_tools.specs.declared.request.Format.{Format}
 use Rattle.dmr_tools.specs.declared.request.Format.TheVariants as format_variant
 use Rattle.dmr_tools.specs.declared.request.PairPlaces.{PairPlaces}
 use Rattle.dmr_tools.specs.declared.request.Request.{Request}
-use Rattle.dmr_tools.specs.declared.request.Request.TheVariants.{Show, Backwards, Log, LogRefused, Import, Export, Elsewhere}
+use Rattle.dmr_tools.specs.declared.request.Request.TheVariants.{Show, Backwards, Log, LogPage, LogRefused, Import, Export}
+use Rattle.dmr_tools.specs.declared.request.Request.TheVariants.{Compare, SharedInput, Elsewhere}
 
 -- a strip where it is asked for, JSON where that alone is, and else a listing
 abbrev pub form_by : Bool → Bool → Form
@@ -55,13 +60,16 @@ abbrev pub NamesFormat : ArgMatches → Type 0
 NamesFormat given = (format : Format) × (subcommand_name_of given ≡ Some (format_name format))
 
 -- What a command with these options asks for: `show` for a listing, which is refused where it begins beyond its end; `log` for a
--- log, or for one that is refused; `import` for a file from another format, and `export` for one in it; and any other what isn't
--- done here.
+-- log, for its page, or for one that is refused; `compare` for a comparison, which is refused where both files would be standard
+-- input; `import` for a file from another format, and `export` for one in it; and any other what isn't done here.
 abbrev pub IsAskedOfTools : Option (Text × ArgMatches) → Request → Type 0
 IsAskedOfTools None (Show name form filter) = ⊥
 IsAskedOfTools None Backwards = ⊥
 IsAskedOfTools None (Log name settings) = ⊥
+IsAskedOfTools None (LogPage name settings) = ⊥
 IsAskedOfTools None (LogRefused refusal) = ⊥
+IsAskedOfTools None (Compare comparison) = ⊥
+IsAskedOfTools None SharedInput = ⊥
 IsAskedOfTools None (Import format places) = ⊥
 IsAskedOfTools None (Export format places) = ⊥
 IsAskedOfTools None (Elsewhere name) = name.now ≡ []
@@ -73,19 +81,30 @@ IsAskedOfTools (Some command) Backwards =
 IsAskedOfTools (Some command) (Log name settings) =
     (command.0 ≡ codes "log") × (name.now ≡ text_of (found_of command.1) (codes "uplink"))
     × AreLogSettings (found_of command.1) settings × (is_backwards settings.filter ≡ false)
+    × IsFlagOf (found_of command.1) (codes "html") false
+IsAskedOfTools (Some command) (LogPage name settings) =
+    (command.0 ≡ codes "log") × (name.now ≡ text_of (found_of command.1) (codes "uplink"))
+    × ArePageSettings (found_of command.1) settings
 IsAskedOfTools (Some command) (LogRefused refusal) = command.0 ≡ codes "log"
+IsAskedOfTools (Some command) (Compare comparison) =
+    (command.0 ≡ codes "compare") × IsComparisonOf (found_of command.1) comparison × (shares_input comparison ≡ false)
+IsAskedOfTools (Some command) SharedInput =
+    (command.0 ≡ codes "compare")
+    × ((comparison : Comparison) × IsComparisonOf (found_of command.1) comparison × (shares_input comparison ≡ true))
 IsAskedOfTools (Some command) (Import format places) =
     (command.0 ≡ codes "import") × IsCarriedBetween command.1 format places
 IsAskedOfTools (Some command) (Export format places) =
     (command.0 ≡ codes "export") × IsCarriedBetween command.1 format places
 IsAskedOfTools (Some command) (Elsewhere name) =
-    (command.0 ≡ codes "show" → ⊥) × (command.0 ≡ codes "log" → ⊥) × (command.0 ≡ codes "import" → NamesFormat command.1 → ⊥)
-    × (command.0 ≡ codes "export" → NamesFormat command.1 → ⊥) × (name.now ≡ command.0)
+    (command.0 ≡ codes "show" → ⊥) × (command.0 ≡ codes "log" → ⊥) × (command.0 ≡ codes "compare" → ⊥)
+    × (command.0 ≡ codes "import" → NamesFormat command.1 → ⊥) × (command.0 ≡ codes "export" → NamesFormat command.1 → ⊥)
+    × (name.now ≡ command.0)
 
 -- A file is to be listed, or what is repeated of it.
 abbrev pub IsShow : Request → Type 0
 IsShow (Show name form filter) = Unit {0}
 IsShow (Log name settings) = Unit {0}
+IsShow (LogPage name settings) = Unit {0}
 IsShow request = ⊥
 
 -- A file is to be carried from another format, or to it.
@@ -94,10 +113,17 @@ IsCarrying (Import format places) = Unit {0}
 IsCarrying (Export format places) = Unit {0}
 IsCarrying request = ⊥
 
--- Something is to be done here: no command of another program, and no listing or log that is refused.
+-- Two files are to be compared.
+abbrev pub IsComparison : Request → Type 0
+IsComparison (Compare comparison) = Unit {0}
+IsComparison request = ⊥
+
+-- Something is to be done here: no command of another program, and nothing that is refused.
 abbrev pub IsTool : Request → Type 0
 IsTool (Show name form filter) = Unit {0}
 IsTool (Log name settings) = Unit {0}
+IsTool (LogPage name settings) = Unit {0}
+IsTool (Compare comparison) = Unit {0}
 IsTool (Import format places) = Unit {0}
 IsTool (Export format places) = Unit {0}
 IsTool request = ⊥
@@ -107,3 +133,8 @@ abbrev pub is_to_output : Request → Bool
 is_to_output (Import format places) = is_standard places.output
 is_to_output (Export format places) = is_standard places.output
 is_to_output request = false
+
+-- the exit status where what is printed can't be printed
+abbrev pub unwritten_status : Request → ℕ
+unwritten_status (Compare comparison) = trouble
+unwritten_status request = failure

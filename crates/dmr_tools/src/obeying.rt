@@ -1,38 +1,33 @@
 //! Doing what the words of a command line ask for.
 ghost use Rattle.std.specs.Prelude.{◌≡◌, ◌≤◌, ◌⊎◌, false, true};
+ghost use Rattle.dmr_compare.specs.Status.{trouble};
 ghost use Rattle.dmr_lines.specs.Line.{PutsError, PutsLine};
 ghost use Rattle.dmr_lines.specs.Status.{failure, success, usage};
 ghost use Rattle.dmr_show.specs.Showing.{TellsFault};
+ghost use Rattle.dmr_tools.specs.Comparing as comparing;
+ghost use Rattle.dmr_tools.specs.Comparing.{TellsTrouble};
 ghost use Rattle.dmr_tools.specs.Listed as listed;
-ghost use Rattle.dmr_tools.specs.Request.{IsCarrying, IsTool, IsShow, is_to_output};
+ghost use Rattle.dmr_tools.specs.Request.{IsCarrying, IsComparison, IsTool, IsShow, is_to_output, unwritten_status};
 
 use crate::carrying::{Direction, carry_file};
+use crate::comparing::compare_files;
+use crate::opening::print_unopened;
 use crate::request::{LogRefusal, Request, request_of};
-use dmr_files::{Open, OpenFault, Place, System, open_source};
-use dmr_lines::{FAILURE, ToldName, USAGE, line_of, print_error};
+use dmr_files::{Open, Place, System, open_source};
+use dmr_lines::{FAILURE, USAGE, line_of, print_error};
 use dmr_log_forms::{LogSettings, print_log};
+use dmr_log_page::{PageSettings, print_page};
 use dmr_options::{print_answer, print_elsewhere};
 use dmr_record::Sink;
-use dmr_show::{Filter, Form, print_want_of_memory, show};
+use dmr_show::{Filter, Form, show};
 use std::alloc::Global;
 use std::convert::AsStr;
 
 /// What is told of lines that are asked for from one on that is beyond the last.
 const BACKWARDS: &str = "--from is beyond --to";
 
-/// Tells that a file can't be opened.
-fn print_cannot_open<E: Sink>(alloc: Global, name: &str, err: &mut E)
-    requires err { E.has_failed err.old ≡ false }
-    ensures error { E.has_failed err.new ≡ false → PutsError (E.held err.old) (E.held err.new) }
-{
-    let name = ToldName(name);
-    match format!(in alloc; "{name}: cannot open") {
-        Ok(text) => {
-            let _failure = print_error(err, line_of(text.as_str()), FAILURE);
-        }
-        Err(_) => print_want_of_memory(err),
-    }
-}
+/// What is told of a comparison of standard input with itself.
+const SHARED_INPUT: &str = "A and B can't both be standard input";
 
 /// Shows the file of this name in a form, as far as it can be read.
 fn show_file<S: System, K: Sink, E: Sink>(
@@ -63,12 +58,8 @@ fn show_file<S: System, K: Sink, E: Sink>(
             let is_live = identity.is_live();
             show(alloc, name, form, filter, is_live, &mut file, out, err)
         }
-        Err(OpenFault::CannotOpen) => {
-            print_cannot_open(alloc, name, err);
-            FAILURE
-        }
-        Err(OpenFault::Memory) => {
-            print_want_of_memory(err);
+        Err(fault) => {
+            print_unopened(alloc, name, fault, err);
             FAILURE
         }
     }
@@ -99,12 +90,40 @@ fn log_file<S: System, K: Sink, E: Sink>(
 {
     match open_source(system, alloc, Place::named(name)) {
         Ok(Open { mut file, .. }) => print_log(alloc, name, &settings, &mut file, out, err),
-        Err(OpenFault::CannotOpen) => {
-            print_cannot_open(alloc, name, err);
+        Err(fault) => {
+            print_unopened(alloc, name, fault, err);
             FAILURE
         }
-        Err(OpenFault::Memory) => {
-            print_want_of_memory(err);
+    }
+}
+
+/// Prints the page of the recording of this name, as far as it can be read.
+fn page_file<S: System, K: Sink, E: Sink>(
+    alloc: Global,
+    system: &S,
+    name: &str,
+    settings: PageSettings,
+    out: &mut K,
+    err: &mut E,
+) -> u8
+    requires out { K.has_failed out.old ≡ false }
+    requires err { E.has_failed err.old ≡ false }
+    ensures whole { result ≡ success → listed.IsSomePagePut settings (K.held out.old) (K.held out.new) }
+    ensures fault { result ≡ failure → K.has_failed out.new ≡ false
+        → TellsFault result (K.has_failed out.new) (E.has_failed err.new) (E.held err.old) (E.held err.new) }
+    ensures part { result ≡ failure → K.has_failed out.new ≡ false
+        → listed.IsSomePagePutInPart settings (K.held out.old) (K.held out.new) }
+    ensures alone { (err.new ≡ err.old)
+        ⊎ TellsFault result (K.has_failed out.new) (E.has_failed err.new) (E.held err.old) (E.held err.new) }
+    ensures success { result ≡ success → err.new ≡ err.old }
+    ensures status { result ≤ 1 }
+    ensures out_failed { K.has_failed out.new ≡ true → result ≡ failure }
+    ensures err_failed { E.has_failed err.new ≡ true → result ≡ failure }
+{
+    match open_source(system, alloc, Place::named(name)) {
+        Ok(Open { mut file, .. }) => print_page(alloc, name, &settings, &mut file, out, err),
+        Err(fault) => {
+            print_unopened(alloc, name, fault, err);
             FAILURE
         }
     }
@@ -150,11 +169,21 @@ fn fulfil<S: System, K: Sink, E: Sink>(
     // Where standard output is what is written, all that is printed goes to the second.
     ensures beside { is_to_output request.entry ≡ true → out.new ≡ out.old }
     ensures beside_line { is_to_output request.entry ≡ true → result ≡ success → PutsLine (E.held err.old) (E.held err.new) }
+    // Where two files are compared whole, that goes to the first, and the status tells whether they are the same.
+    ensures compared { result ≤ 1
+        → comparing.IsComparisonPrinted request.entry result (K.held out.old) (K.held out.new) }
+    // Else they are compared in part, and why that stopped is told to the second.
+    ensures compared_in_part { result ≡ trouble → K.has_failed out.new ≡ false
+        → comparing.IsComparisonPrintedInPart request.entry (K.held out.old) (K.held out.new) }
+    ensures trouble { IsComparison request.entry → result ≡ trouble → K.has_failed out.new ≡ false
+        → TellsTrouble result (K.has_failed out.new) (E.has_failed err.new) (E.held err.old) (E.held err.new) }
+    ensures comparison { IsComparison request.entry → (err.new ≡ err.old)
+        ⊎ TellsTrouble result (K.has_failed out.new) (E.has_failed err.new) (E.held err.old) (E.held err.new) }
     ensures success { result ≡ success → is_to_output request.entry ≡ false → err.new ≡ err.old }
-    ensures usage { result ≡ usage → out.new ≡ out.old }
+    ensures usage { (IsComparison request.entry → ⊥) → result ≡ usage → out.new ≡ out.old }
     ensures status { result ≤ 2 }
-    ensures out_failed { K.has_failed out.new ≡ true → result ≡ failure }
-    ensures err_failed { E.has_failed err.new ≡ true → result ≡ failure }
+    ensures out_failed { K.has_failed out.new ≡ true → result ≡ unwritten_status request.entry }
+    ensures err_failed { E.has_failed err.new ≡ true → result ≡ unwritten_status request.entry }
 {
     match request {
         Request::Show { name, form, filter } => show_file(
@@ -168,7 +197,10 @@ fn fulfil<S: System, K: Sink, E: Sink>(
         }
         Request::Backwards => print_error(err, BACKWARDS, USAGE),
         Request::Log { name, settings } => log_file(alloc, system, name, settings, out, err),
+        Request::LogPage { name, settings } => page_file(alloc, system, name, settings, out, err),
         Request::LogRefused(refusal) => print_error(err, line_of(refusal_text(refusal)), USAGE),
+        Request::Compare(comparison) => compare_files(alloc, system, &comparison, out, err),
+        Request::SharedInput => print_error(err, SHARED_INPUT, USAGE),
         Request::Elsewhere(_) => print_elsewhere(err),
     }
 }
@@ -186,12 +218,15 @@ pub fn obey<T: AsStr, S: System, K: Sink, E: Sink>(
     // What is printed goes to one of the two, which of them the status tells, but where what is written goes to standard output. A
     // listing that ends at a fault goes to the first, and its line of error to the second.
     ensures alone { (out.new ≡ out.old) ⊎ (err.new ≡ err.old)
-        ⊎ TellsFault result (K.has_failed out.new) (E.has_failed err.new) (E.held err.old) (E.held err.new) }
+        ⊎ TellsFault result (K.has_failed out.new) (E.has_failed err.new) (E.held err.old) (E.held err.new)
+        ⊎ TellsTrouble result (K.has_failed out.new) (E.has_failed err.new) (E.held err.old) (E.held err.new) }
     ensures success { result ≡ success → (err.new ≡ err.old) ⊎ ((out.new ≡ out.old) × PutsLine (E.held err.old) (E.held err.new)) }
-    ensures usage { result ≡ usage → out.new ≡ out.old }
+    // The status of mistakes in the words is also that of two files that can't be compared to their ends.
+    ensures usage { result ≡ usage → K.has_failed out.new ≡ false → (out.new ≡ out.old)
+        ⊎ TellsTrouble result (K.has_failed out.new) (E.has_failed err.new) (E.held err.old) (E.held err.new) }
     ensures status { result ≤ 2 }
-    ensures out_failed { K.has_failed out.new ≡ true → result ≡ failure }
-    ensures err_failed { E.has_failed err.new ≡ true → result ≡ failure }
+    ensures out_failed { K.has_failed out.new ≡ true → (result ≡ failure) ⊎ (result ≡ trouble) }
+    ensures err_failed { E.has_failed err.new ≡ true → (result ≡ failure) ⊎ (result ≡ trouble) }
 {
     match request_of(alloc, words) {
         Ok(request) => fulfil(alloc, request, system, out, err),

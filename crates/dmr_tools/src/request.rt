@@ -1,5 +1,5 @@
 //! What the words of a command line ask for.
-ghost use Rattle.std.specs.Prelude.{◌≡◌, Some, IfSome, IfNone, codes, option_map};
+ghost use Rattle.std.specs.Prelude.{◌≡◌, false, Some, IfSome, IfNone, codes, option_map};
 ghost use Rattle.clap.specs.Words.{found_of};
 ghost use Rattle.dmr_files.specs.Place.{IsNamed};
 ghost use Rattle.dmr_options.specs.Found.{IsNumberOf, text_of};
@@ -8,9 +8,11 @@ ghost use Rattle.dmr_tools.specs.Filters.{IsFilterOf, is_backwards};
 ghost use Rattle.dmr_tools.specs.Request.{IsAskedOfTools, IsFormOf, form_by};
 ghost use Rattle.dmr_tools.specs.Request.{ArePairPlaces, IsCarriedBetween, NamesFormat};
 
+use crate::comparison::Comparison;
 use clap::{ArgMatches, Error};
 use dmr_files::Place;
 use dmr_log_forms::{LogForm, LogSettings, StartTime};
+use dmr_log_page::PageSettings;
 use dmr_options::{Listed, flag_of, given_text_of, text_of};
 use dmr_show::{Filter, Form};
 use dmr_tool_options::tool_commands;
@@ -56,8 +58,17 @@ pub enum Request<'a> {
         name: &'a str,
         settings: LogSettings,
     },
+    /// To print the log of the recording of this name as a page.
+    LogPage {
+        name: &'a str,
+        settings: PageSettings,
+    },
     /// To print a log with settings that are refused.
     LogRefused(LogRefusal),
+    /// To compare two files.
+    Compare(Comparison<'a>),
+    /// To compare standard input with itself.
+    SharedInput,
     /// To make a file of what is in a format.
     Import {
         format: Format,
@@ -167,6 +178,27 @@ fn log_settings_of(log: &ArgMatches<'_>) -> LogSettings
     }
 }
 
+/// What a command line of `log` asks for, with these settings: a page where it asks for one, which has no other form and leaves
+/// nothing out.
+fn log_of<'a>(log: &ArgMatches<'a>, settings: LogSettings) -> Request<'a>
+    requires settings { AreLogSettings (found_of log.now) settings }
+    requires forwards { is_backwards settings.filter ≡ false }
+    ensures asked { IsAskedOfTools (Some (record { 0 = codes "log"; 1 = log.now })) result }
+{
+    let name = text_of(log, "uplink");
+    if flag_of(log, "html") {
+        return Request::LogPage {
+            name,
+            settings: PageSettings {
+                colour: settings.colour,
+                address: settings.address,
+                start: settings.start,
+            },
+        };
+    }
+    Request::Log { name, settings }
+}
+
 /// What a command line of `log` asks for.
 fn log_request<'a>(log: &ArgMatches<'a>) -> Request<'a>
     ensures asked { IsAskedOfTools (Some (record { 0 = codes "log"; 1 = log.now })) result }
@@ -175,24 +207,23 @@ fn log_request<'a>(log: &ArgMatches<'a>) -> Request<'a>
     if is_backwards(&settings.filter) {
         return Request::LogRefused(LogRefusal::Backwards);
     }
-    let name = text_of(log, "uplink");
     let Some(text) = given_text_of(log, "start") else {
-        return Request::Log { name, settings };
+        return log_of(log, settings);
     };
     match StartTime::read(text) {
-        Some(start) => Request::Log {
-            name,
-            settings: LogSettings {
+        Some(start) => log_of(
+            log,
+            LogSettings {
                 start: Some(start),
                 ..settings
             },
-        },
+        ),
         None => Request::LogRefused(LogRefusal::Time),
     }
 }
 
 /// The place that a word of a command line names.
-fn place_of<'a>(matches: &ArgMatches<'a>, word: &str) -> Place<'a>
+pub(crate) fn place_of<'a>(matches: &ArgMatches<'a>, word: &str) -> Place<'a>
     ensures place { IsNamed (text_of (found_of matches.now) word.now) result }
 {
     Place::named(text_of(matches, word))
@@ -218,6 +249,17 @@ fn carried_by<'a>(given: &ArgMatches<'a>) -> Option<(Format, PairPlaces<'a>)>
         // Not reached, since a format is required, and there is no other.
         _ => None,
     }
+}
+
+/// What a command line of `compare` asks for.
+fn compare_request<'a>(compare: &ArgMatches<'a>) -> Request<'a>
+    ensures asked { IsAskedOfTools (Some (record { 0 = codes "compare"; 1 = compare.now })) result }
+{
+    let comparison = Comparison::of(compare);
+    if comparison.shares_input() {
+        return Request::SharedInput;
+    }
+    Request::Compare(comparison)
 }
 
 /// What a command line of `import` asks for.
@@ -255,6 +297,7 @@ pub(crate) fn request_by<'a>(command: Option<(&'a str, &ArgMatches<'a>)>) -> Req
     match listed {
         Listed::Show => show_request(given),
         Listed::Log => log_request(given),
+        Listed::Compare => compare_request(given),
         Listed::Import => import_request(given),
         Listed::Export => export_request(given),
         Listed::Run | Listed::Slot => Request::Elsewhere(name),

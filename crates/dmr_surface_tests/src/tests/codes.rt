@@ -9,6 +9,7 @@ use dmr_codes::{
 use dmr_embedded::{embed, extract, short_lc};
 use dmr_rs::{Octet, rs_correct, rs_parity};
 use dmr_test_values::{CALL_FIELDS, GROUP_CALL, IDLE_BLOCK, IDLE_BURST};
+use std::ops::{Add, Mul};
 
 #[test]
 fn bits(rt: HostRuntime) {
@@ -99,6 +100,14 @@ fn parity_of_a_group_call(rt: HostRuntime) {
     assert!(rt; high * Octet::from(2) == Octet::from(0x1D));
     assert!(rt; high + Octet::from(0x81) == Octet::from(1));
     assert_eq!(rt; u8::from(high), 0x80);
+}
+
+// By their names, which are those of the operators. What 2 times is 1 is 0x8E.
+#[test]
+fn octets_of_the_field(rt: HostRuntime) {
+    let (left, right) = (Octet::from(0x53), Octet::from(0xCA));
+    assert!(rt; left.add(right) == Octet::from(0x99));
+    assert!(rt; Octet::from(0x8E).mul(Octet::from(2)) == Octet::from(1));
 }
 
 #[test]

@@ -1,15 +1,16 @@
 //! Devices and records, a run from file to file, and what the program prints of it.
 ghost use Rattle.std.specs.Prelude.{◌≡◌, false};
 
-use dmr_gateway::Config;
+use dmr_gateway::{Config, ConfigFault};
 use dmr_program::{RunEnd, print_end, print_slot};
 use dmr_record::{
-    DOWNLINK_MAGIC, DeviceFault, FromRead, ReceivedKind, Sink, Source, ToWrite, UPLINK_MAGIC,
-    read_frame, read_head, read_outgoing, write_head, write_received, write_slot,
+    DOWNLINK_MAGIC, DeviceFault, FromRead, ReceivedKind, RecordFault, Sink, Source, ToWrite,
+    UPLINK_MAGIC, read_frame, read_head, read_outgoing, write_head, write_received, write_slot,
 };
-use dmr_repeater::{RunFault, Summary, run};
+use dmr_repeater::{RunFault, Stream, Summary, run};
 use dmr_test_values::{EMPTY_DATAGRAM, ONE_CSBK, REPEATED_CSBK};
 use std::alloc::Global;
+use std::process::Abort;
 
 /// An uplink of one frame: a control signalling block in slot 1, and silence in slot 2.
 const UPLINK: [u8; 43] = [
@@ -126,6 +127,18 @@ fn received_status(rt: HostRuntime) {
     assert!(rt; written == *b"\x03\0\0\0\x06\x01\x02\0\0\x03\0\x04\x01\x02\0\x05");
 }
 
+// In frame 88 of slot 2, from 2, an octet of either kind.
+#[test]
+fn received_octets(rt: HostRuntime) {
+    let mut written = [0xEE; 26];
+    let mut sink = ToWrite::new(&mut written[..]);
+    let datagram = write_received(&mut sink, 88, 2, ReceivedKind::Datagram, 2, &[0x45]);
+    let short = write_received(&mut sink, 88, 2, ReceivedKind::ShortData, 2, &[0x41]);
+    assert!(rt; datagram.is_ok() && short.is_ok());
+    let records = b"\x03\0\0\0\x58\x02\0\0\0\x02\0\x01\x45\x03\0\0\0\x58\x02\x01\0\0\x02\0\x01\x41";
+    assert!(rt; written == *records);
+}
+
 /// What a run answers: `run` with no more than its `requires`.
 pub(crate) fn answer_of<U: Source, O: Source, D: Sink, R: Sink>(
     alloc: Global,
@@ -173,6 +186,52 @@ fn end_of_a_run(rt: HostRuntime) {
         "frames 7 repeated 1 received 0 delivered 0 sent 0 given-up 0 refused 0 unoffered 0\n";
     assert!(rt; output.into_inner().as_slice() == line.as_bytes());
     assert!(rt; errors.into_inner().as_slice().is_empty());
+}
+
+/// An end that is no success has this status and this line, and nothing is printed as output.
+fn expect_error(rt: &impl Abort, alloc: Global, end: &RunEnd, status: u8, line: &[u8]) {
+    let mut output = ToWrite::new(Vec::new(alloc));
+    let mut errors = ToWrite::new(Vec::new(alloc));
+    assert_eq!(rt; print_end(end, &mut output, &mut errors), status);
+    assert!(rt; output.into_inner().as_slice().is_empty());
+    assert!(rt; errors.into_inner().as_slice() == line);
+}
+
+/// Faults of a run, and what is printed of them.
+const FAULTS: [(RunFault, &[u8]); 4] = [
+    (RunFault::Memory, b"error: out of memory\n"),
+    (
+        RunFault::File(Stream::Outgoing, RecordFault::FrameOrder),
+        b"error: outgoing: frame order\n",
+    ),
+    (
+        RunFault::File(Stream::Downlink, RecordFault::Write),
+        b"error: downlink: write failed\n",
+    ),
+    (
+        RunFault::File(Stream::Received, RecordFault::Write),
+        b"error: received: write failed\n",
+    ),
+];
+
+#[test]
+fn faults_of_a_run(rt: HostRuntime) {
+    for (fault, line) in FAULTS {
+        expect_error(&rt, rt.alloc(), &RunEnd::Fault(fault), 1, line);
+    }
+}
+
+// What ends a run before it begins: a file that can't be opened, and settings.
+#[test]
+fn runs_that_do_not_begin(rt: HostRuntime) {
+    let alloc = rt.alloc();
+    let missing = RunEnd::CannotOpen(Stream::Outgoing);
+    expect_error(&rt, alloc, &missing, 1, b"error: outgoing: cannot open\n");
+    let hang = RunEnd::Setting(ConfigFault::Hang);
+    let line = b"error: call hang is longer than channel hang\n";
+    expect_error(&rt, alloc, &hang, 2, line);
+    let colour = RunEnd::Setting(ConfigFault::Colour);
+    expect_error(&rt, alloc, &colour, 2, b"error: bad setting\n");
 }
 
 #[test]

@@ -1,7 +1,9 @@
 //! Headers, blocks, packets and datagrams, a receiver and a sender, and the gateway.
 ghost use Rattle.std.specs.Prelude.{Some, IsTrue, option_copied};
 ghost use Rattle.dmr_arq.specs.Fit.{FitsPlace, IsOfferedPacket};
+ghost use Rattle.dmr_data.specs.Header.{IsFitHeader};
 
+use arrayvec::ArrayVec;
 use dmr_arq::{
     Answer, Busy, GateBurst, Joined, Outcome, Receiver, ReceiverOut, Route, Sender, Verdict,
 };
@@ -10,8 +12,8 @@ use dmr_bptc::{bptc_decode, bptc_encode};
 use dmr_burst::{Burst, data_type};
 use dmr_checks::{Mask, seal};
 use dmr_data::{
-    Block, Blocks, Confirmed, Header, Octets, Packet, Rate, Response, block_info, block_read,
-    header_info, header_read, join_packet, split_packet,
+    Block, Blocks, Confirmed, Header, Octets, Packet, Rate, Response, ShortData, Status,
+    Unconfirmed, block_info, block_read, header_info, header_read, join_packet, split_packet,
 };
 use dmr_gateway::{Config, Gateway, Received};
 use dmr_ip::{Datagram, FORM_LIMIT, compress, expand};
@@ -36,6 +38,59 @@ fn acknowledgement(rt: HostRuntime) {
     let wanted = seal(&[0x01, 0x40, 0, 0, 2, 0, 0, 1, 0, 0x08], Mask::Header);
     assert!(rt; octets == wanted);
     assert!(rt; header_read(&bptc_encode(&message)) == Ok(header));
+}
+
+/// A header is written as these octets, sealed, and read from them.
+fn is_header_of(header: &Header, octets: &[u8; 10]) -> bool
+    requires fit { IsFitHeader header.now }
+{
+    let message = header_info(header);
+    let written: [u8; 12] = message.octets();
+    written == seal(octets, Mask::Header) && header_read(&bptc_encode(&message)) == Ok(*header)
+}
+
+// One block with a pad octet, from 1 to 2, for the compressed datagrams of SAP 3.
+#[test]
+fn header_without_confirmation(rt: HostRuntime) {
+    let header = Header::Unconfirmed(Unconfirmed {
+        group: false,
+        wanted: false,
+        pad: 1,
+        sap: 3,
+        destination: 2,
+        source: 1,
+        full: true,
+        blocks: 1,
+        fragment: 0,
+    });
+    assert!(rt; is_header_of(&header, &[0x02, 0x31, 0, 0, 2, 0, 0, 1, 0x81, 0]));
+}
+
+// Two blocks of format 10, from 3 to 1, of which the last octet is padding. Then a status.
+#[test]
+fn headers_of_short_data(rt: HostRuntime) {
+    let short = Header::ShortData(ShortData {
+        group: false,
+        wanted: false,
+        blocks: 2,
+        destination: 1,
+        source: 3,
+        data_format: 10,
+        resynchronize: false,
+        full: true,
+        bit_padding: 8,
+    });
+    assert!(rt; is_header_of(&short, &[0x0D, 0xA2, 0, 0, 1, 0, 0, 3, 0x29, 8]));
+    let status = Header::Status(Status {
+        group: false,
+        wanted: false,
+        destination: 1,
+        source: 3,
+        source_port: 1,
+        destination_port: 2,
+        status: 5,
+    });
+    assert!(rt; is_header_of(&status, &[0x0E, 0xA0, 0, 0, 1, 0, 0, 3, 0x28, 0x05]));
 }
 
 // Each begins with the 7 bits of its serial and the masked check.
@@ -72,7 +127,10 @@ fn packet_of_a_block(rt: HostRuntime) {
     });
     assert!(rt; packet.blocks == blocks);
     let is_joined = match join_packet(&DATAGRAM_BLOCK, 1) {
-        Ok(body) => body.into_array_vec().as_slice() == FORM.as_slice(),
+        Ok(body) => {
+            let body: ArrayVec<u8, 3044> = body.into_array_vec();
+            body.as_slice() == FORM.as_slice()
+        }
         Err(_) => false,
     };
     assert!(rt; is_joined);
@@ -83,7 +141,7 @@ fn compressed_datagram(rt: HostRuntime) {
     assert!(rt; FORM_LIMIT == 1381);
     let datagram = Datagram::parse(&EMPTY_DATAGRAM).expect(&rt, "it is a datagram");
     assert!(rt; datagram.octets() == EMPTY_DATAGRAM.as_slice());
-    let form = compress(&datagram, 1, 2, false).expect(&rt, "it has a form");
+    let form: ArrayVec<u8, 1381> = compress(&datagram, 1, 2, false).expect(&rt, "it has a form");
     assert!(rt; form.as_slice() == FORM.as_slice());
     let again = expand(&FORM, 1, 2, false).expect(&rt, "it is a form");
     assert!(rt; again.octets() == EMPTY_DATAGRAM.as_slice());
@@ -163,6 +221,48 @@ fn packet_received(rt: HostRuntime) {
     assert!(rt; receiver.open().is_none());
 }
 
+/// What the receiver gives at the end of a try that doesn't complete the packet.
+fn asked_again(verdict: Verdict, flags: u128) -> ReceiverOut {
+    ReceiverOut {
+        delivered: None,
+        answer: Some(Answer {
+            from: 1,
+            to: 2,
+            sap: 4,
+            number: 0,
+            verdict,
+            flags,
+        }),
+    }
+}
+
+// All of its octets are there, but its check doesn't seal them.
+#[test]
+fn packet_that_fails_its_check(rt: HostRuntime) {
+    let block = Block {
+        serial: Some(0),
+        octets: Octets::from_slice(&[7, 0, 0, 0, 0, 0, 0, 0, 0, 0]),
+    };
+    let mut receiver = Receiver::new(1);
+    receiver.header(&Header::Confirmed(FROM_2_TO_1));
+    let failed = asked_again(Verdict::Failed, 0);
+    assert!(rt; placed(&mut receiver, Some(&block)) == Some(failed));
+}
+
+// Of two blocks the second one is lost, so that the flag of the first one alone is set.
+#[test]
+fn packet_with_a_lost_block(rt: HostRuntime) {
+    let packet = split_packet(&[7; 11], Rate::Half, true);
+    let mut receiver = Receiver::new(1);
+    receiver.header(&Header::Confirmed(Confirmed {
+        blocks: 2,
+        ..FROM_2_TO_1
+    }));
+    assert!(rt; placed(&mut receiver, packet.blocks.get(0)).is_some());
+    let lost = asked_again(Verdict::Selective, 1);
+    assert!(rt; placed(&mut receiver, None) == Some(lost));
+}
+
 /// To radio 2, as an IP datagram.
 const ROUTE: Route = Route {
     destination: 2,
@@ -206,6 +306,21 @@ fn packet_sent(rt: HostRuntime) {
         flags: 0,
     });
     assert!(rt; sender.outcome() == Some(Outcome::Delivered));
+}
+
+// Each of its four tries is cut behind the first preamble.
+#[test]
+fn packet_given_up(rt: HostRuntime) {
+    let mut sender = Sender::new(1);
+    assert!(rt; sender.offer(packet_of(7), ROUTE) == Ok(()));
+    let route = ROUTE;
+    for _ in 0..4u8 {
+        assert!(rt; sender.outcome().is_none());
+        expect_burst(&rt, &mut sender, GateBurst::Preamble { left: 3, route });
+        sender.cut();
+    }
+    assert!(rt; sender.outcome() == Some(Outcome::GivenUp));
+    assert!(rt; sender.next_burst().is_none());
 }
 
 /// A data burst of colour code 1 that holds these octets.

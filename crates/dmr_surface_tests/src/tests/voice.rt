@@ -1,11 +1,13 @@
 //! The header of a call: heard, decided by its track, and sent by its line and the channel.
 ghost use Rattle.dmr_hearing.specs.Fit.{IsFitHeard};
 
-use dmr_burst::{Burst, data_type, read_info};
+use dmr_bits::Bits;
+use dmr_burst::{Burst, Emb, data_type, read_info};
 use dmr_link::FullLc;
 use dmr_slot::{Channel, SlotLine, SlotOut};
-use dmr_test_values::{CALL_HEADER, CALL_TERMINATOR, IDLE_BURST};
+use dmr_test_values::{CALL_HEADER, CALL_TERMINATOR, IDLE_BURST, ONE_CSBK, PRINTED_VOICE_BURST};
 use dmr_voice::{DataBurst, Heard, Role, VoiceOut, VoiceTrack, hear};
+use std::alloc::AllocError;
 use std::test::Fail;
 
 /// A call to talk group 1 from radio 2, no option set.
@@ -56,6 +58,39 @@ fn header_of_a_call(rt: HostRuntime) {
     assert!(rt; out == repeated);
 }
 
+// The four octets AB, CD, EF and 01 stand at its embedded field, and A5 and 5A at both ends of its vocoder bits.
+#[test]
+fn fields_of_a_voice_burst(rt: HostRuntime) {
+    let mut octets = PRINTED_VOICE_BURST;
+    (octets[0], octets[32]) = (0xA5, 0x5A);
+    (octets[14], octets[15], octets[16]) = (0x3A, 0xBC, 0xDE);
+    (octets[17], octets[18]) = (0xF0, 0x19);
+    let voice = heard(Some(&octets));
+    let emb = Emb {
+        colour: 1,
+        pi: false,
+        lcss: 1,
+    };
+    assert!(rt; voice.emb == Some(emb) && voice.data_burst == None && !voice.voice);
+    assert_eq!(rt; voice.embedded, 0xABCD_EF01);
+    let ends = Bits::<216>::zero()
+        .with_field(0, 8, 0xA5)
+        .with_field(208, 8, 0x5A);
+    assert!(rt; voice.vocoder == ends);
+}
+
+#[test]
+fn control_block_outside_a_call(rt: HostRuntime) {
+    let (block, silence) = (heard(Some(&ONE_CSBK)), heard(None));
+    let mut track = VoiceTrack::new(1);
+    let window = [block, silence, silence, silence, silence, silence];
+    let repeated = VoiceOut::Repeat {
+        burst: data(data_type::CSBK, &ONE_CSBK),
+        role: Role::Other,
+    };
+    assert!(rt; track.step(&window) == repeated);
+}
+
 /// What a line gives that repeats nothing and that no call holds.
 const FREE: SlotOut = SlotOut {
     repeated: None,
@@ -66,7 +101,8 @@ const FREE: SlotOut = SlotOut {
 // It is heard in frame 0 of the uplink and repeated in frame 6 of the downlink. A terminator holds the slot behind it.
 #[test]
 fn header_in_its_line(rt: HostRuntime) -> Result<(), Fail> {
-    let mut line = SlotLine::new(rt.alloc(), 1, 3)?;
+    let made: Result<SlotLine, AllocError> = SlotLine::new(rt.alloc(), 1, 3);
+    let mut line = made?;
     for frame in 0..6u8 {
         let slot = if frame == 1 { Some(CALL_HEADER) } else { None };
         let out = line.push(slot.as_ref());
