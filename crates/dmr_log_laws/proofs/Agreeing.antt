@@ -21,7 +21,7 @@ use Rattle.dmr_log_laws.proofs.Pushes.{as_in_a_run, bursts_of_outs}
 use Rattle.dmr_log_laws.proofs.SameFile.{handed_1, handed_2}
 use Rattle.dmr_log_laws.proofs.Sending.{run_repeats}
 use Rattle.dmr_log_laws.proofs.Whole.{IsSlotOfLog, slots_of_log}
-use Rattle.dmr_log_laws.specs.WholeLogs.{AgreesWithRuns, EachBurstIsInOneEntry, TellsWholeLogs, burst_total, entries_of}
+use Rattle.dmr_log_laws.specs.WholeLogs.{AgreesWithRuns, EachBurstIsInOneEntry, TellsWholeLogs, burst_total, entries_told}
 use Rattle.dmr_log_laws.specs.WholeLogs.{recorded_in_slot_1, recorded_in_slot_2, repeated_in, told_of_slot_1, told_of_slot_2}
 
 -- 1. What is told of whole recordings.
@@ -62,14 +62,14 @@ few_frames n m few e = omega (arith, few, e)
 
 shared_out : EachBurstIsInOne → (colour : ℕ) (slots : List (Option (List ℕ))) (told : List SlotTold) (bursts : List (Option Burst))
     → length slots ≤ frame_limit → IsSlotLog colour slots told bursts
-    → AreSharedOut 0 (repeated_in (length slots) told) (entries_of told)
+    → AreSharedOut 0 (repeated_in (length slots) told) (entries_told told)
 shared_out each_burst_is_in_one colour slots told bursts few so =
     subst (λ (l : List Transmission). AreSharedOut 0 (repeated_in (length slots) told) l) (sym so.all)
     (subst (λ (l : List Repeated). AreSharedOut 0 l (so.ended ++ option_to_list so.last)) so.repeats
     (each_burst_is_in_one so.frames so.ended so.last (few_frames (length slots) (length so.frames) few so.long) so.followed))
 
 bursts_told : AllBurstsAreTold → (colour : ℕ) (slots : List (Option (List ℕ))) (told : List SlotTold) (bursts : List (Option Burst))
-    → length slots ≤ frame_limit → IsSlotLog colour slots told bursts → burst_total (entries_of told) ≡ count_by is_some bursts
+    → length slots ≤ frame_limit → IsSlotLog colour slots told bursts → burst_total (entries_told told) ≡ count_by is_some bursts
 bursts_told all_bursts_are_told colour slots told bursts few so =
     ap burst_total so.all
     ∙ all_bursts_are_told so.frames so.ended so.last (few_frames (length slots) (length so.frames) few so.long) so.followed
@@ -108,10 +108,10 @@ each_burst_is_in_one_entry law colour gateway frames told log few whole =
     let both = slots_of_log colour gateway frames told log whole in
     let one = recorded_long_1 frames in
     let two = recorded_long_2 frames in (
-      subst (λ (n : ℕ). AreSharedOut 0 (repeated_in n (told_of_slot_1 told)) (entries_of (told_of_slot_1 told))) one
+      subst (λ (n : ℕ). AreSharedOut 0 (repeated_in n (told_of_slot_1 told)) (entries_told (told_of_slot_1 told))) one
           (shared_out law colour (recorded_in_slot_1 frames) (told_of_slot_1 told) both.bursts_1 (omega (arith, few, one))
           (slot_log_of colour _ _ _ both.slot_1)),
-      subst (λ (n : ℕ). AreSharedOut 0 (repeated_in n (told_of_slot_2 told)) (entries_of (told_of_slot_2 told))) two
+      subst (λ (n : ℕ). AreSharedOut 0 (repeated_in n (told_of_slot_2 told)) (entries_told (told_of_slot_2 told))) two
           (shared_out law colour (recorded_in_slot_2 frames) (told_of_slot_2 told) both.bursts_2 (omega (arith, few, two))
           (slot_log_of colour _ _ _ both.slot_2)),
     )

@@ -20,7 +20,7 @@ use Rattle.dmr_log_laws.proofs.Followed.{passed_long, slot_log, told_to_repeat}
 use Rattle.dmr_log_laws.proofs.Growing.{IsNoCall, repeats_of}
 use Rattle.dmr_log_laws.proofs.Whole.{IsSlotOfLog, slots_of_log}
 use Rattle.dmr_log_laws.specs.CallEntries.{AreCallsTold, CallsAreTold, CallsOfSlotAreTold}
-use Rattle.dmr_log_laws.specs.WholeLogs.{entries_of, recorded_in_slot_1, recorded_in_slot_2, repeated_in, told_of_slot_1}
+use Rattle.dmr_log_laws.specs.WholeLogs.{entries_told, recorded_in_slot_1, recorded_in_slot_2, repeated_in, told_of_slot_1}
 use Rattle.dmr_log_laws.specs.WholeLogs.{told_of_slot_2}
 
 -- what is told of the frames of a recording is what is told behind the first five, without the end
@@ -76,7 +76,7 @@ pub record AreSlotFrames (colour : ℕ) (cs : List Cell) (told : List SlotTold) 
   pub shown : AreShown colour cs (repeats_of frames)
   pub followed : AreFollowed None 0 frames ended last
   pub below : length frames < 2 ^ 32
-  pub all : ended ++ option_to_list last ≡ entries_of told
+  pub all : ended ++ option_to_list last ≡ entries_told told
 
 -- each slot of a log has them
 pub slot_frames : (colour : ℕ) (slots : List (Option (List ℕ))) (told : List SlotTold) (bursts : List (Option Burst)) (lead : ℕ)
@@ -98,7 +98,7 @@ slot_frames colour slots told bursts lead ts few s well recorded =
       shown = subst (AreShown colour (sent_list colour lead ts)) same shown;
       followed = so.followed;
       below = few_frames (length slots) (length so.frames) few so.long;
-      all = sym (ap entries_of s.told_is ∙ so.all);
+      all = sym (ap entries_told s.told_is ∙ so.all);
     }
 
 -- the calls of a slot are told

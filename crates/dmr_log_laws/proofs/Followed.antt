@@ -30,7 +30,7 @@ use Rattle.dmr_slot.specs.declared.line.SlotOut.{SlotOut}
 use Rattle.dmr_voice.specs.declared.track.Track.TheVariants.{Idle}
 use Rattle.dmr_log_laws.proofs.Pushes.{bursts_of_outs}
 use Rattle.dmr_log_laws.proofs.Slots.{ArePassed, counted_cons}
-use Rattle.dmr_log_laws.specs.WholeLogs.{entries_of, repeated_in}
+use Rattle.dmr_log_laws.specs.WholeLogs.{entries_told, repeated_in}
 
 -- 1. What repeats a burst.
 
@@ -105,7 +105,7 @@ pub record IsFollowedSo (current : Option Transmission) (n : ℕ) (told : List S
     (last : Option Transmission) : Type 0 where
   pub frames : List RepeatedFrame
   pub repeats : map (λ (frame : RepeatedFrame). frame.0) frames ≡ told_to_repeat told
-  pub followed : AreFollowed current n frames (entries_of told) last
+  pub followed : AreFollowed current n frames (entries_told told) last
   pub counted : count_by is_burst (told_to_repeat told) ≡ count_by is_some bursts
 
 one_more_counted : (t : Repeated) (b : Option Burst) (ts : List Repeated) (bs : List (Option Burst)) → is_burst t ≡ is_some b
@@ -137,7 +137,7 @@ followed_so track n m (slot ∷ slots) (t ∷ told) (b ∷ bursts) after at (nex
       followed = (
         t.ended,
         next.current,
-        entries_of told,
+        entries_told told,
         subst (λ (k : ℕ). IsStep track.current k t.repeated checks t.ended next.current) here p.step,
         refl,
         more.followed,
@@ -247,17 +247,17 @@ first_waits colour n x window track slot slots (t ∷ told) (b ∷ bursts) after
 
 -- 5. A whole slot.
 
-ended_none : (t : SlotTold) (told : List SlotTold) → t.ended ≡ None → entries_of (t ∷ told) ≡ entries_of told
+ended_none : (t : SlotTold) (told : List SlotTold) → t.ended ≡ None → entries_told (t ∷ told) ≡ entries_told told
 ended_none t told e =
-    ap (λ (x : Option Ended). option_to_list (option_map (λ (y : Ended). y.transmission) x) ++ entries_of told) e
+    ap (λ (x : Option Ended). option_to_list (option_map (λ (y : Ended). y.transmission) x) ++ entries_told told) e
 
-entries_append : (xs ys : List SlotTold) → entries_of (xs ++ ys) ≡ entries_of xs ++ entries_of ys
+entries_append : (xs ys : List SlotTold) → entries_told (xs ++ ys) ≡ entries_told xs ++ entries_told ys
 entries_append [] ys = refl
 entries_append (t ∷ xs) ys =
     let here = option_to_list (option_map (λ (y : Ended). y.transmission) t.ended) in
-    ap (λ (l : List Transmission). here ++ l) (entries_append xs ys) ∙ sym (append_assoc here (entries_of xs) (entries_of ys))
+    ap (λ (l : List Transmission). here ++ l) (entries_append xs ys) ∙ sym (append_assoc here (entries_told xs) (entries_told ys))
 
-entries_at_end : (current : Option Transmission) → entries_of (told_at_end (ended_with current) ∷ []) ≡ option_to_list current
+entries_at_end : (current : Option Transmission) → entries_told (told_at_end (ended_with current) ∷ []) ≡ option_to_list current
 entries_at_end None = refl
 entries_at_end (Some t) = refl
 
@@ -284,7 +284,7 @@ pub record IsSlotLog (colour : ℕ) (slots : List (Option (List ℕ))) (told : L
   pub ended : List Transmission
   pub last : Option Transmission
   pub followed : AreFollowed None 0 frames ended last
-  pub all : entries_of told ≡ ended ++ option_to_list last
+  pub all : entries_told told ≡ ended ++ option_to_list last
   pub counted : count_by is_burst (map (λ (frame : RepeatedFrame). frame.0) frames) ≡ count_by is_some bursts
 
 slot_log_of : (colour : ℕ) (slots rest : List (Option (List ℕ))) (t u v w x : SlotTold) (told : List SlotTold)
@@ -298,8 +298,8 @@ slot_log_of colour slots rest t u v w x told bursts track after same none no_t n
     let long = passed_long track 5 rest told bursts after passed in
     let end = told_at_end (ended_with after.current) in
     let whole : List SlotTold = told ++ end ∷ [] in
-    let all : entries_of (told ++ end ∷ []) ≡ entries_of told ++ option_to_list after.current =
-    entries_append told (end ∷ []) ∙ ap (λ (l : List Transmission). entries_of told ++ l) (entries_at_end after.current) in
+    let all : entries_told (told ++ end ∷ []) ≡ entries_told told ++ option_to_list after.current =
+    entries_append told (end ∷ []) ∙ ap (λ (l : List Transmission). entries_told told ++ l) (entries_at_end after.current) in
     let front : take (length slots) (told ++ end ∷ []) ≡ told =
     ap (λ (n : ℕ). take n (told ++ end ∷ [])) (sym (long ∙ same)) ∙ take-append_seam told (end ∷ []) in
     let count = none_counted bursts in
@@ -311,9 +311,9 @@ slot_log_of colour slots rest t u v w x told bursts track after same none no_t n
       repeats = so.repeats ∙ ap told_to_repeat (sym front);
       long = sym (length-map so.frames (λ (frame : RepeatedFrame). frame.0)) ∙ ap length so.repeats
           ∙ length-map told (λ (s : SlotTold). s.repeated) ∙ long ∙ same;
-      ended = entries_of told;
+      ended = entries_told told;
       last = after.current;
-      followed = subst (λ (c : Option Transmission). AreFollowed c 0 so.frames (entries_of told) after.current) none so.followed;
+      followed = subst (λ (c : Option Transmission). AreFollowed c 0 so.frames (entries_told told) after.current) none so.followed;
       all = ended_none t (u ∷ v ∷ w ∷ x ∷ whole) no_t ∙ ended_none u (v ∷ w ∷ x ∷ whole) no_u ∙ ended_none v (w ∷ x ∷ whole) no_v
           ∙ ended_none w (x ∷ whole) no_w ∙ ended_none x whole no_x ∙ all;
       counted = ap (count_by is_burst) so.repeats ∙ so.counted ∙ sym counts;

@@ -14,7 +14,7 @@ use Rattle.dmr_log.specs.declared.transmission.CallStage.{CallStage}
 use Rattle.dmr_log.specs.declared.transmission.CallStage.TheVariants as stage
 use Rattle.dmr_log.specs.declared.transmission.Subject.TheVariants as subject
 use Rattle.dmr_log.specs.declared.transmission.Transmission.{Transmission as Entry}
-use Rattle.dmr_log_laws.specs.WholeLogs.{IsWholeLog, entries_of, recorded_in_slot_1, recorded_in_slot_2, told_of_slot_1}
+use Rattle.dmr_log_laws.specs.WholeLogs.{IsWholeLog, entries_told, recorded_in_slot_1, recorded_in_slot_2, told_of_slot_1}
 use Rattle.dmr_log_laws.specs.WholeLogs.{told_of_slot_2}
 use Rattle.dmr_record.specs.Head.{frame_limit}
 use Rattle.dmr_voice.specs.CallMeaning.{Cell, Ending, Silenced, Superframe, Terminated, Transmission, VoiceCall, HeadersAlone}
@@ -106,7 +106,7 @@ AreCallsTold colour frame (t ∷ ts) told =
 abbrev pub CallsOfSlotAreTold : ℕ → List (Option (List ℕ)) → List SlotTold → Type 0
 CallsOfSlotAreTold colour slots told =
     (lead : ℕ) (ts : List (Transmission × ℕ)) → IsWellFormed colour ts →
-    IsDamagedRecordingOf colour (sent_list colour lead ts) slots → AreCallsTold colour lead ts (entries_of told)
+    IsDamagedRecordingOf colour (sent_list colour lead ts) slots → AreCallsTold colour lead ts (entries_told told)
 
 -- So it is in both slots of a recording.
 abbrev pub CallsAreTold : Type 0

@@ -13,7 +13,7 @@ use Rattle.dmr_log.specs.declared.slot_log.SlotTold.{SlotTold}
 use Rattle.dmr_log.specs.declared.transmission.Packet.{Packet}
 use Rattle.dmr_log.specs.declared.transmission.Subject.TheVariants as subject
 use Rattle.dmr_log.specs.declared.transmission.Transmission.{Transmission as Entry}
-use Rattle.dmr_log_laws.specs.WholeLogs.{IsWholeLog, entries_of, recorded_in_slot_1, recorded_in_slot_2, told_of_slot_1}
+use Rattle.dmr_log_laws.specs.WholeLogs.{IsWholeLog, entries_told, recorded_in_slot_1, recorded_in_slot_2, told_of_slot_1}
 use Rattle.dmr_log_laws.specs.WholeLogs.{told_of_slot_2}
 use Rattle.dmr_record.specs.Head.{frame_limit}
 use Rattle.dmr_voice.specs.CallMeaning.{Block, Transmission, DataTry, cells, sent_list}
@@ -64,7 +64,7 @@ AreTriesTold colour frame (t ∷ ts) told =
 abbrev pub TriesOfSlotAreTold : ℕ → List (Option (List ℕ)) → List SlotTold → Type 0
 TriesOfSlotAreTold colour slots told =
     (lead : ℕ) (ts : List (Transmission × ℕ)) → IsWellFormed colour ts →
-    IsDamagedRecordingOf colour (sent_list colour lead ts) slots → AreTriesTold colour lead ts (entries_of told)
+    IsDamagedRecordingOf colour (sent_list colour lead ts) slots → AreTriesTold colour lead ts (entries_told told)
 
 -- So it is in both slots of a recording.
 abbrev pub TriesAreTold : Type 0

@@ -49,9 +49,9 @@ abbrev pub told_of_slot_2 : List FrameTold → List SlotTold
 told_of_slot_2 told = map (λ (t : FrameTold). t.slot_2) told
 
 -- The entries of a slot: the transmissions that are told to have ended, in that order.
-abbrev pub entries_of : List SlotTold → List Transmission
-entries_of [] = []
-entries_of (t ∷ told) = option_to_list (option_map (λ (e : Ended). e.transmission) t.ended) ++ entries_of told
+abbrev pub entries_told : List SlotTold → List Transmission
+entries_told [] = []
+entries_told (t ∷ told) = option_to_list (option_map (λ (e : Ended). e.transmission) t.ended) ++ entries_told told
 
 -- What a slot repeats in each frame of a recording of so many frames. The first five frames that are taken decide on none.
 abbrev pub repeated_in : ℕ → List SlotTold → List Repeated
@@ -74,8 +74,8 @@ abbrev pub EachBurstIsInOneEntry : Type 0
 EachBurstIsInOneEntry =
     (colour : ℕ) (gateway : Option Gate) (frames : RecordedFrames) (told : List FrameTold) (log : LogState) →
     length frames ≤ frame_limit → IsWholeLog colour gateway frames told log →
-    AreSharedOut 0 (repeated_in (length frames) (told_of_slot_1 told)) (entries_of (told_of_slot_1 told))
-    × AreSharedOut 0 (repeated_in (length frames) (told_of_slot_2 told)) (entries_of (told_of_slot_2 told))
+    AreSharedOut 0 (repeated_in (length frames) (told_of_slot_1 told)) (entries_told (told_of_slot_1 told))
+    × AreSharedOut 0 (repeated_in (length frames) (told_of_slot_2 told)) (entries_told (told_of_slot_2 told))
 
 -- 3. A run over the same file.
 
@@ -97,5 +97,5 @@ AgreesWithRuns =
     (uplink : List UplinkSlots) (sendings : List Sending) (repeated : ℕ) (counts : Counts) (old new : Files) →
     length frames ≤ frame_limit → IsWholeLog s.colour gateway frames told log → IsSameFile frames uplink →
     WritesFiles s sendings uplink repeated counts old new →
-    (burst_total (entries_of (told_of_slot_1 told)) + burst_total (entries_of (told_of_slot_2 told)) ≡ repeated)
+    (burst_total (entries_told (told_of_slot_1 told)) + burst_total (entries_told (told_of_slot_2 told)) ≡ repeated)
     × (log.counts.repeated ≡ repeated)
