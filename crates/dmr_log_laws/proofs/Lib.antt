@@ -1,0 +1,17 @@
+pub mod Agreeing
+pub mod CallShapes
+pub mod Calls
+pub mod CallsTold
+pub mod Decided
+pub mod Examples
+pub mod Followed
+pub mod Growing
+pub mod Headers
+pub mod Pushes
+pub mod SameFile
+pub mod Sending
+pub mod Shapes
+pub mod Slots
+pub mod Tries
+pub mod TriesTold
+pub mod Whole

@@ -1,0 +1,3 @@
+pub mod CallEntries
+pub mod TryEntries
+pub mod WholeLogs
