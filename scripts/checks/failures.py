@@ -30,6 +30,8 @@ ANSWERED = [
     ["show", "nowhere"], ["show", "long.dmri"], ["show", "long.dmri", "--json"], ["show", "long.dmri", "--strip"],
     ["log", "one.dmru"], ["log", "one.dmru", "--csv"], ["log", "one.dmru", "--json", "--llid", 1], ["log", "cut.dmru"],
     ["log", "nowhere"], ["log", "long.dmri"], ["log", "one.dmru", "--start", "now"], ["log", "--help"],
+    ["compare", "one.dmru", "one.dmru"], ["compare", "one.dmru", "cut.dmru"], ["compare", "long.dmri", "long.dmri"],
+    ["compare", "one.dmru", "nowhere"], ["compare", "--help"],
     ["export", "text", "one.dmru", "-"], ["export", "text", "cut.dmru", "-"], ["export", "text", "long.dmri", "made"],
     ["export", "text", "nowhere", "made"], ["export", "text", "one.dmru", "one.dmru"],
     ["import", "text", "one.txt", "-"], ["import", "text", "cut.txt", "-"], ["import", "text", "one.txt", "made"],
