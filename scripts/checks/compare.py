@@ -196,7 +196,7 @@ def check_lists(report):
             continue
         listed = report.call("show", file).out.decode().splitlines()[1]
         for name, other, ending in (
-            ("two octets", first[:-1] + bytes([first[-1] ^ 1]), "1 octets"),
+            ("another octet", first[:-1] + bytes([first[-1] ^ 1]), "1 octets"),
             ("fewer octets", first[: head - 2] + (len(first) - head - 1).to_bytes(2, "big") + first[head:-1], "1 octets"),
             ("another slot", first[:5] + bytes([3 - first[5]]) + first[6:], None),
         ):
