@@ -1,4 +1,7 @@
 //! What an object has of a control signalling block.
+ghost use Rattle.std.specs.Prelude.{Some};
+ghost use Rattle.dmr_json.specs.ControlBlocks.{activation_object, meaning_key, preamble_object};
+
 use crate::values::Hex;
 use dmr_csbk::{BsDownAct, ControlMeaning, Csbk, Preamble};
 use std::fmt;
@@ -12,6 +15,8 @@ pub(crate) struct ControlBlock(pub(crate) Csbk);
 struct PreambleObject(Preamble);
 
 impl fmt::Display for PreambleObject {
+    ghost output = { λ preamble. Some (preamble_object preamble.0) };
+
     fn fmt<W: fmt::Write>(&self, f: &mut fmt::Formatter<W>) -> fmt::Result {
         let preamble = self.0;
         let data = u8::from(preamble.packet);
@@ -31,6 +36,8 @@ impl fmt::Display for PreambleObject {
 struct ActivationObject(BsDownAct);
 
 impl fmt::Display for ActivationObject {
+    ghost output = { λ request. Some (activation_object request.0) };
+
     fn fmt<W: fmt::Write>(&self, f: &mut fmt::Formatter<W>) -> fmt::Result {
         let request = self.0;
         write!(f, "{{\"bs\":{},\"source\":{}}}", request.bs, request.source)
@@ -42,6 +49,8 @@ impl fmt::Display for ActivationObject {
 struct MeaningKey(ControlMeaning);
 
 impl fmt::Display for MeaningKey {
+    ghost output = { λ meaning. Some (meaning_key meaning.0) };
+
     fn fmt<W: fmt::Write>(&self, f: &mut fmt::Formatter<W>) -> fmt::Result {
         match self.0 {
             ControlMeaning::BsDownAct(request) => {

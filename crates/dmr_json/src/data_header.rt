@@ -1,4 +1,10 @@
 //! What an object has of a data header.
+ghost use Rattle.std.specs.Prelude.{◌≡◌, Some};
+ghost use Rattle.std.specs.Fmt.{WritesOnOk};
+ghost use Rattle.dmr_data.specs.declared.header.Header.TheVariants as format;
+ghost use Rattle.dmr_json.specs.DataHeaders.{confirmed_object, header_object, response_object, unconfirmed_object, way_keys};
+ghost use Rattle.dmr_listing.specs.HeaderTexts.{header_way};
+
 use dmr_data::{Confirmed, Header, Response, ShortData, Status, Unconfirmed};
 use dmr_listing::Way;
 use std::fmt;
@@ -12,6 +18,9 @@ pub(crate) struct DataHeader(pub(crate) Header);
 struct WayKeys(Way);
 
 impl fmt::Display for WayKeys {
+    ghost output = { λ way. Some (way_keys way.0) };
+
+    #[tactic(auto, unfolding(crate::specs::DataHeaders::way_keys))]
     fn fmt<W: fmt::Write>(&self, f: &mut fmt::Formatter<W>) -> fmt::Result {
         let WayKeys(way) = self;
         let group = u8::from(way.to_group);
@@ -28,7 +37,10 @@ fn write_response<W: fmt::Write>(
     way: &WayKeys,
     response: &Response,
     f: &mut fmt::Formatter<W>,
-) -> fmt::Result {
+) -> fmt::Result
+    requires way { way.now.0 ≡ header_way (format.Response response.now) }
+    ensures text { WritesOnOk W.write_str_gives f.old result (response_object response.now) f.new }
+{
     write!(f, "{{\"format\":1,{way},\"sap\":{},", response.sap)?;
     write!(
         f,
@@ -46,7 +58,10 @@ fn write_unconfirmed<W: fmt::Write>(
     way: &WayKeys,
     header: &Unconfirmed,
     f: &mut fmt::Formatter<W>,
-) -> fmt::Result {
+) -> fmt::Result
+    requires way { way.now.0 ≡ header_way (format.Unconfirmed header.now) }
+    ensures text { WritesOnOk W.write_str_gives f.old result (unconfirmed_object header.now) f.new }
+{
     write!(f, "{{\"format\":2,{way},\"sap\":{},", header.sap)?;
     write!(f, "\"blocks\":{},\"pad\":{}}}", header.blocks, header.pad)
 }
@@ -55,7 +70,10 @@ fn write_confirmed<W: fmt::Write>(
     way: &WayKeys,
     header: &Confirmed,
     f: &mut fmt::Formatter<W>,
-) -> fmt::Result {
+) -> fmt::Result
+    requires way { way.now.0 ≡ header_way (format.Confirmed header.now) }
+    ensures text { WritesOnOk W.write_str_gives f.old result (confirmed_object header.now) f.new }
+{
     write!(f, "{{\"format\":3,{way},\"sap\":{},", header.sap)?;
     write!(f, "\"number\":{},", header.number)?;
     write!(f, "\"blocks\":{},\"pad\":{}}}", header.blocks, header.pad)
@@ -93,6 +111,8 @@ fn write_status<W: fmt::Write>(
 }
 
 impl fmt::Display for DataHeader {
+    ghost output = { λ header. header_object header.0 };
+
     fn fmt<W: fmt::Write>(&self, f: &mut fmt::Formatter<W>) -> fmt::Result {
         let way = WayKeys(Way::of_header(&self.0));
         match &self.0 {

@@ -1,4 +1,7 @@
 //! What a listing ends with, by whose absence a cut one is known.
+ghost use Rattle.std.specs.Prelude.{Some};
+ghost use Rattle.dmr_json.specs.Records.{list_end};
+
 use std::fmt;
 
 /// The last object of a recording.
@@ -24,6 +27,8 @@ pub struct ListEnd {
 }
 
 impl fmt::Display for ListEnd {
+    ghost output = { λ end. Some (list_end end.records) };
+
     fn fmt<W: fmt::Write>(&self, f: &mut fmt::Formatter<W>) -> fmt::Result {
         let records = self.records;
         write!(f, "{{\"records\":{records}}}")

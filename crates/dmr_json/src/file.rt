@@ -1,4 +1,7 @@
 //! What a listing begins with.
+ghost use Rattle.std.specs.Prelude.{◌≡◌, Some};
+ghost use Rattle.dmr_json.specs.Records.{file_name, file_object};
+
 use dmr_record::FileFormat;
 use std::fmt;
 
@@ -10,7 +13,9 @@ pub struct FileObject {
 }
 
 /// The name of a format.
-fn name_of(format: FileFormat) -> &'static str {
+fn name_of(format: FileFormat) -> &'static str
+    ensures value { result.now ≡ file_name format }
+{
     match format {
         FileFormat::Uplink => "uplink",
         FileFormat::Downlink => "downlink",
@@ -20,6 +25,8 @@ fn name_of(format: FileFormat) -> &'static str {
 }
 
 impl fmt::Display for FileObject {
+    ghost output = { λ file. Some (file_object file.format) };
+
     fn fmt<W: fmt::Write>(&self, f: &mut fmt::Formatter<W>) -> fmt::Result {
         let name = name_of(self.format);
         write!(f, "{{\"file\":\"{name}\",\"version\":1}}")

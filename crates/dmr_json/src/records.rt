@@ -1,4 +1,7 @@
 //! The objects of the two lists.
+ghost use Rattle.std.specs.Prelude.{◌≡◌, Some};
+ghost use Rattle.dmr_json.specs.Records as spec;
+
 use crate::place::PlaceKeys;
 use crate::values::Hex;
 use dmr_record::{Outgoing, Received, ReceivedKind};
@@ -46,7 +49,9 @@ impl fmt::Display for OutgoingObject<'_> {
 }
 
 /// What came.
-fn kind_name(kind: ReceivedKind) -> &'static str {
+fn kind_name(kind: ReceivedKind) -> &'static str
+    ensures value { result.now ≡ spec.kind_text kind }
+{
     match kind {
         ReceivedKind::Datagram => "datagram",
         ReceivedKind::ShortData => "short data",
@@ -55,6 +60,8 @@ fn kind_name(kind: ReceivedKind) -> &'static str {
 }
 
 impl fmt::Display for ReceivedObject<'_> {
+    ghost output = { λ object. Some (spec.received_object object.record object.octets.now) };
+
     fn fmt<W: fmt::Write>(&self, f: &mut fmt::Formatter<W>) -> fmt::Result {
         let place = Place {
             frame: self.record.frame,

@@ -1,4 +1,7 @@
 //! Values that several objects have.
+ghost use Rattle.std.specs.Prelude.{Some};
+ghost use Rattle.dmr_json.specs.Values.{hex};
+
 use dmr_listing::Digits;
 use std::fmt;
 
@@ -7,6 +10,8 @@ use std::fmt;
 pub(crate) struct Hex<'a>(pub(crate) &'a [u8]);
 
 impl fmt::Display for Hex<'_> {
+    ghost output = { λ octets. Some (hex octets.0.now) };
+
     fn fmt<W: fmt::Write>(&self, f: &mut fmt::Formatter<W>) -> fmt::Result {
         let digits = Digits(self.0);
         write!(f, "\"{digits}\"")

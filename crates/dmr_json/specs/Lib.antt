@@ -1,0 +1,4 @@
+pub mod ControlBlocks
+pub mod DataHeaders
+pub mod Records
+pub mod Values
