@@ -1,5 +1,5 @@
 -- How a run ends over an outgoing list of known records.
-use Rattle.std.proofs.Common.{◌≡◌, true, ℕ, List, [], length, Option, Some, None, Result, Ok, Err, refl, sym, ap, ◌∙◌, inl, inr}
+use Rattle.std.proofs.Common.{◌≡◌, true, ℕ, List, [], length, Option, Some, None, Result, Ok, Err, refl, sym, ap, ◌∙◌, inl, inr, arith}
 use Rattle.std.specs.Prelude.{IfErr}
 use Rattle.dmr_files.specs.declared.system.Open.{Open}
 use Rattle.dmr_record.specs.Faults.{is_device_fault}
@@ -48,12 +48,12 @@ ends_over s (Err (File Received fault)) a z sendings left found has = tt
 
 -- a list that is left out has no record
 pub has_none : (left : KnownOctets) → left ≡ Some (outgoing_file []) → HasOutgoing [] left
-has_none left has = record { each = tt; order = tt; few = search rules; has = has }
+has_none left has = record { each = tt; order = tt; few = omega arith; has = has }
 
 -- the list of an open file, or of none
-pub opened : {I : Type 0} (left : I → Option (List ℕ)) (list : OutgoingList I) (open : Option (Open I)) (file : Option I)
-    → (open ≡ None → file ≡ None) → ((given : Open I) → open ≡ Some given → file ≡ Some given.file)
+pub of_opened : {I : Type 0} (left : I → Option (List ℕ)) (list : OutgoingList I) (opened : Option (Open I)) (file : Option I)
+    → (opened ≡ None → file ≡ None) → ((given : Open I) → opened ≡ Some given → file ≡ Some given.file)
     → (file ≡ None → list_left left list ≡ Some (outgoing_file []))
-    → ((given : I) → file ≡ Some given → list_left left list ≡ left given) → list_left left list ≡ list_opened left open
-opened left list None file none some empty full = empty (none refl)
-opened left list (Some open) file none some empty full = full open.file (some open refl)
+    → ((given : I) → file ≡ Some given → list_left left list ≡ left given) → list_left left list ≡ list_opened left opened
+of_opened left list None file none some empty full = empty (none refl)
+of_opened left list (Some opened) file none some empty full = full opened.file (some opened refl)

@@ -15,7 +15,7 @@ list_left left (Octets octets) = Some octets.now
 -- What a run has of an outgoing list that may be left out: what the open file has, and without one the outgoing file that has no
 -- record.
 abbrev pub list_opened : {I : Type 0} → (I → Option (List ℕ)) → Option (Open I) → Option (List ℕ)
-list_opened left (Some open) = left open.file
+list_opened left (Some opened) = left opened.file
 list_opened left None = Some (outgoing_file [])
 
 -- What a received file holds; nothing is known where it is kept nowhere.

@@ -31,10 +31,10 @@ impl<I> OutgoingList<I> {
     }
 
     /// The list of this open file, or one without datagrams where there is none.
-    pub(crate) fn of_open(open: Option<Open<I>>) -> OutgoingList<I>
-        ensures octets { (left : I → Option (List ℕ)) → list_left left result ≡ list_opened left open }
+    pub(crate) fn of_open(opened: Option<Open<I>>) -> OutgoingList<I>
+        ensures octets { (left : I → Option (List ℕ)) → list_left left result ≡ list_opened left opened }
     {
-        OutgoingList::of(file_if_any(open))
+        OutgoingList::of(file_if_any(opened))
     }
 }
 

@@ -52,12 +52,12 @@ pub(crate) fn are_live(uplink: &Identity, outgoing: &Option<Identity>) -> bool
 }
 
 /// An open file, where there is one.
-pub(crate) fn file_if_any<F>(open: Option<Open<F>>) -> Option<F>
-    ensures none { open ≡ None → result ≡ None }
-    ensures some { (given : Open F) → open ≡ Some given → result ≡ Some given.file }
+pub(crate) fn file_if_any<F>(opened: Option<Open<F>>) -> Option<F>
+    ensures none { opened ≡ None → result ≡ None }
+    ensures some { (given : Open F) → opened ≡ Some given → result ≡ Some given.file }
 {
-    match open {
-        Some(open) => Some(open.file),
+    match opened {
+        Some(opened) => Some(opened.file),
         None => None,
     }
 }
@@ -92,7 +92,7 @@ fn open_input_if_any<S: System>(
     place: Option<Place<'_>>,
     stream: Stream,
 ) -> Result<Option<Open<S::Input>>, Unopened>
-    ensures none { place ≡ None → IfOk result (λ open. open ≡ None) }
+    ensures none { place.entry ≡ None → IfOk result (λ found. found ≡ None) }
     ensures named { IfErr result (λ e. e.stream ≡ stream) }
 {
     match place {

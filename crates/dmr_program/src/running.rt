@@ -1,5 +1,5 @@
 //! A run over files at their places, with buffers between.
-ghost use Rattle.std.specs.Prelude.{◌≡◌, ◌≤◌, ◌+◌, ◌^◌, true, List, [], None, Ok, IfOk, IfErr};
+ghost use Rattle.std.specs.Prelude.{◌≡◌, ◌≤◌, ◌+◌, ◌^◌, true, false, List, [], None, Ok, IfOk, IfErr};
 ghost use Rattle.dmr_record.specs.Outgoing.{Sending};
 ghost use Rattle.dmr_repeater.specs.Causes.{is_of_its_stream};
 ghost use Rattle.dmr_repeater.specs.Runs.{HasOutgoing};
@@ -13,7 +13,7 @@ use crate::opening::{Opened, file_if_any, open_files, sent_to_terminal};
 use crate::run_end::RunEnd;
 use dmr_command::Places;
 use dmr_files::{System, buffered_sink, buffered_source, kept_back, write_out};
-use dmr_record::{DeviceFault, RecordFault};
+use dmr_record::{DeviceFault, RecordFault, Sink, Source};
 use dmr_repeater::{RunFault, Stream, Summary, run};
 use dmr_settings::Config;
 use std::alloc::{AllocError, Global};
@@ -78,6 +78,26 @@ fn run_files<I: Read + Drop, O: Write + Drop>(
     ))
 }
 
+/// Runs over these devices as dmr_repeater does. Its clauses say what shows in how the run ended, and the list that it is over.
+pub(crate) fn run_over<U: Source, O: Source, D: Sink, R: Sink>(
+    alloc: Global,
+    config: Config,
+    uplink: &mut U,
+    outgoing: &mut O,
+    downlink: &mut D,
+    received: &mut R,
+) -> Result<Summary, RunFault>
+    requires uplink { U.has_failed uplink.old ≡ false }
+    requires outgoing { O.has_failed outgoing.old ≡ false }
+    requires downlink { D.has_failed downlink.old ≡ false }
+    requires received { R.has_failed received.old ≡ false }
+    ensures few { IfOk result (λ summary. summary.frames ≤ 2 ^ 20 + 6) }
+    ensures kind { IfErr result (λ e. is_of_its_stream e ≡ true) }
+    ensures listed { (sendings : List Sending) → HasOutgoing sendings (O.left outgoing.old) → EndsOver sendings (end_of result) }
+{
+    run(alloc, config, uplink, outgoing, downlink, received)
+}
+
 /// Runs over readers and writers, each behind a buffer, that of a writer with this capacity. What is written before a fault is
 /// written out too, and the fault of the run goes before one of writing out.
 fn run_buffered<U: Read + Drop, O: Read + Drop, D: Write + Drop, R: Write + Drop>(
@@ -98,7 +118,7 @@ fn run_buffered<U: Read + Drop, O: Read + Drop, D: Write + Drop, R: Write + Drop
     let mut outgoing = with_memory(buffered_source(alloc, outgoing))?;
     let mut downlink = with_memory(buffered_sink(alloc, capacity, downlink))?;
     let mut received = with_memory(buffered_sink(alloc, capacity, received))?;
-    let end = run(
+    let end = run_over(
         alloc,
         config,
         &mut uplink,

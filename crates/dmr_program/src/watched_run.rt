@@ -12,11 +12,11 @@ use crate::devices::{OutgoingList, ReceivedFile};
 use crate::more::{More, Passed, Watched};
 use crate::opening::{Opened, file_if_any, open_files, sent_to_terminal};
 use crate::run_end::RunEnd;
-use crate::running::{with_memory, with_octets};
+use crate::running::{run_over, with_memory, with_octets};
 use dmr_command::Places;
 use dmr_files::{System, buffered_sink, buffered_source, kept_back};
 use dmr_record::{DeviceFault, FileFormat, FromRead, Sink, Source, ToWrite};
-use dmr_repeater::{RunFault, Stream, Summary, run};
+use dmr_repeater::{RunFault, Stream, Summary};
 use dmr_settings::Config;
 use dmr_watch::{Ear, KeptReader, WatchedSource, WatchedWriter};
 use std::alloc::Global;
@@ -208,7 +208,7 @@ fn run_watched<U: Read + Drop, O: Read + Drop, D: Write + Drop, R: Write + Drop>
     let mut outgoing = watched_input(alloc, outgoing, FileFormat::Outgoing, colour)?;
     let mut downlink = watched_output(alloc, capacity, downlink, FileFormat::Downlink)?;
     let mut received = watched_output(alloc, capacity, received, FileFormat::Received)?;
-    let end = run(
+    let end = run_over(
         alloc,
         config,
         &mut uplink,
