@@ -1,5 +1,6 @@
 -- How a run ends over an outgoing list of known records.
-use Rattle.std.proofs.Common.{◌≡◌, true, ℕ, List, [], length, Option, Some, None, Result, Ok, Err, refl, sym, ap, ◌∙◌, inl, inr, arith}
+use Rattle.std.proofs.Common.{◌≡◌, true, ℕ, List, [], length, Option, Some, None, Result, Ok, Err}
+use Rattle.std.proofs.Common.{refl, sym, ap, ◌∙◌, inl, inr, arith}
 use Rattle.std.specs.Prelude.{IfErr}
 use Rattle.dmr_files.specs.declared.system.Open.{Open}
 use Rattle.dmr_record.specs.Faults.{is_device_fault}
