@@ -40,7 +40,11 @@ fn html<'a>(alloc: Global) -> Result<Arg<'a>, AllocError> {
         .long("html")
         .help("A page: a picture of each minute, and a table")
         .action(ArgAction::SetTrue)
-        .conflicts_with_all(&["csv", "json", "slot", "from", "to"])
+        .conflicts_with("csv")?
+        .conflicts_with("json")?
+        .conflicts_with("slot")?
+        .conflicts_with("from")?
+        .conflicts_with("to")
 }
 
 /// The recording of `log`, its settings, its form, and the lines that are asked for.
