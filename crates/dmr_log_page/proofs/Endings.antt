@@ -93,17 +93,17 @@ pub page_whole : {settings : PageSettings} {address : ℕ} {log last : LogState}
     → IsAtEnd left_new → PutsText behind held_new → IsPagePut settings left_old left_new held_old held_new
 page_whole {settings = settings} {log = log} {last = last} {left = left} {left_new = left_new} {before = before} {behind = behind}
     same_address same_log uplink head minutes all end = record {
-  left = _;
-  before = _;
-  behind = _;
-  last = _;
-  uplink = uplink;
-  head = head;
-  minutes = subst (λ (s : LogState). AreMinutesPut (unwrap_or settings.address 0) s last left left_new before behind) same_log
-      (subst (λ (n : ℕ). AreMinutesPut n log last left left_new before behind) same_address minutes);
-  end = end;
-  all = all;
-}
+      left = _;
+      before = _;
+      behind = _;
+      last = _;
+      uplink = uplink;
+      head = head;
+      minutes = subst (λ (s : LogState). AreMinutesPut (unwrap_or settings.address 0) s last left left_new before behind) same_log
+          (subst (λ (n : ℕ). AreMinutesPut n log last left left_new before behind) same_address minutes);
+      end = end;
+      all = all;
+    }
 
 -- what holds anyhow holds at an Ok
 pub at_ok : {T E X : Type 0} (r : Result T E) → X → OnOk r X

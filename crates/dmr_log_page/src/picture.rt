@@ -9,7 +9,7 @@ use dmr_recording::Place;
 use std::fmt;
 
 /// How many frames a row has: those of 30 s.
-pub(crate) const ROW_FRAMES: usize = 500;
+const ROW_FRAMES: usize = 500;
 
 /// How far apart the frames of a row are, in hundredths of a unit, and where the first begins.
 const STEP: u64 = 192;
