@@ -28,14 +28,14 @@ const TEXT: usize = 65536;
 /// Prints what a log tells of an uplink, whose head was read: all minutes.
 fn print_minutes<S: Source, K: Sink>(
     printing: PagePrinting,
-    minute: Minute,
+    minute: &mut Minute,
     log: &mut Log,
     source: &mut S,
     text: &mut String,
     sink: &mut K,
 ) -> Result<LogSummary, LogFault>
     requires begin { log.old.taken ≡ 0 }
-    requires none { entries_of minute.rows.items ≡ [] }
+    requires none { entries_of minute.old.rows.items ≡ [] }
     requires source { S.has_failed source.old ≡ false }
     requires sink { K.has_failed sink.old ≡ false }
     ensures put { part.AreMinutesPutByEnd result printing.address log.old log.new
@@ -85,7 +85,7 @@ fn print_to<S: Source, K: Sink>(
     ensures failed { K.has_failed sink.new ≡ has_sink_failed result }
 {
     let mut log = new_log(alloc, settings.colour, settings.address)?;
-    let Ok(minute) = Minute::new(alloc) else {
+    let Ok(mut minute) = Minute::new(alloc) else {
         return Err(LogFault::Memory);
     };
     let Ok(mut text) = String::with_capacity(alloc, TEXT) else {
@@ -97,7 +97,7 @@ fn print_to<S: Source, K: Sink>(
         start: settings.start,
         address: settings.address.unwrap_or(0),
     };
-    let summary = print_minutes(printing, minute, &mut log, source, &mut text, sink)?;
+    let summary = print_minutes(printing, &mut minute, &mut log, source, &mut text, sink)?;
     let end = PageEnd {
         summary,
         has_gateway: settings.address.is_some(),

@@ -287,7 +287,7 @@ impl MinutePicture<'_> {
 
 impl fmt::Display for MinutePicture<'_> {
     fn fmt<W: fmt::Write>(&self, f: &mut fmt::Formatter<W>) -> fmt::Result {
-        let height = 106 * self.shown();
+        let height = self.shown().saturating_mul(106);
         if height == 0 {
             return Ok(());
         }
