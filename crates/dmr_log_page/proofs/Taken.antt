@@ -1,15 +1,24 @@
 -- What a printer of a page has taken of all that is told.
-use Rattle.std.proofs.Common.{◌≡◌, ℕ, List, [], ◌∷◌, ◌++◌, Option, subst}
+use Rattle.std.proofs.Common.{◌≡◌, ℕ, List, [], ◌∷◌, ◌++◌, Option, ap, subst}
 use Rattle.dmr_log.specs.RecordingLogs.{AreFramesTaken, IsLoggedUpToFault, IsRestTold, RecordedFrames}
 use Rattle.dmr_log.specs.declared.log.FrameTold.{FrameTold}
 use Rattle.dmr_log.specs.declared.log.LogState.{LogState}
 use Rattle.dmr_log_forms.proofs.Told.{given_to_part}
+use Rattle.dmr_log_forms.specs.declared.columns.EntryColumns.{EntryColumns}
 use Rattle.dmr_log_page.specs.Minutes.{PageState, PutsMinute, TakesTold}
 use Rattle.dmr_log_page.specs.Pages.{AreMinutesPut, begun_page}
 use Rattle.dmr_log_page.specs.Part.{AreMinutesPutUpToFault}
 use Rattle.dmr_log_page.specs.declared.printer.PagePrinting.{PagePrinting}
 use Rattle.dmr_recording.specs.Recordings.{RecordedSlot}
 use Rattle.dmr_recording.specs.declared.fault_line.FaultLine.{FaultLine}
+
+-- a page of which this is put, and whose minute has these entries so far
+abbrev pub page_with : Option (List ℕ) → List EntryColumns → PageState
+page_with held entries = record { held = held; entries = entries }
+
+-- where it has none, no minute of it is put
+pub begun_with : (held : Option (List ℕ)) {entries : List EntryColumns} → entries ≡ [] → page_with held entries ≡ begun_page held
+begun_with held none = ap (page_with held) none
 
 -- how a printer that is set so takes what is told
 abbrev pub takes : PagePrinting → PageState → FrameTold → PageState → Type 0

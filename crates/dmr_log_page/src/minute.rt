@@ -5,7 +5,7 @@ ghost use Rattle.dmr_log_forms.specs.Printed.{shown_ended, shown_of, shown_recor
 ghost use Rattle.dmr_log_page.specs.Minutes.{begins_minute, entries_of, everything};
 
 use crate::clock::DayAndTime;
-use crate::picture::{MinutePicture, PictureRow, ROW_FRAMES, SlotRow};
+use crate::picture::{MinutePicture, PictureRow, SlotRow};
 use crate::row::TableRow;
 use crate::slot_minute::{FRAMES, SlotMinute};
 use dmr_gateway::Received;
@@ -28,6 +28,9 @@ pub(crate) struct Minute {
     /// What ended in it and was received in it, in order.
     rows: Vec<TableRow>,
 }
+
+/// Which frame of a minute begins its second row.
+const SECOND_ROW: u32 = 500;
 
 /// Whether a frame is the first of a minute.
 pub(crate) fn begins_minute(frame: u32) -> bool
@@ -189,8 +192,8 @@ impl Minute {
         };
         let second = PictureRow {
             start,
-            slot_1: self.slot_row(1, ROW_FRAMES),
-            slot_2: self.slot_row(2, ROW_FRAMES),
+            slot_1: self.slot_row(1, SECOND_ROW),
+            slot_2: self.slot_row(2, SECOND_ROW),
         };
         MinutePicture {
             rows: [first, second],
@@ -198,7 +201,7 @@ impl Minute {
     }
 
     /// A row of a slot, from this frame of the minute on.
-    fn slot_row(&self, slot: u8, from: usize) -> SlotRow<'_> {
+    fn slot_row(&self, slot: u8, from: u32) -> SlotRow<'_> {
         let minute = if slot == 1 {
             &self.slot_1
         } else {
@@ -206,8 +209,8 @@ impl Minute {
         };
         SlotRow {
             slot,
-            first: self.first.saturating_add(from as u32),
-            from,
+            first: self.first.saturating_add(from),
+            from: from as usize,
             minute,
         }
     }

@@ -3,7 +3,7 @@ ghost use Rattle.std.specs.Prelude.{◌≡◌, ◌≤◌, ◌⊎◌, [], false, 
 ghost use Rattle.std.specs.Io.KnownBytes.{IsAtEnd};
 ghost use Rattle.dmr_lines.specs.Status.{failure, success};
 ghost use Rattle.dmr_log_forms.specs.Faults.{has_sink_failed};
-ghost use Rattle.dmr_log_forms.specs.Part as log;
+ghost use Rattle.dmr_log_forms.specs.Part as forms;
 ghost use Rattle.dmr_log_forms.specs.declared.fault.LogFault.{LogFault as Fault};
 ghost use Rattle.dmr_log_page.specs.Minutes.{entries_of};
 ghost use Rattle.dmr_log_page.specs.Pages as spec;
@@ -28,21 +28,21 @@ const TEXT: usize = 65536;
 /// Prints what a log tells of an uplink, whose head was read: all minutes.
 fn print_minutes<S: Source, K: Sink>(
     printing: PagePrinting,
-    minute: Minute,
+    minute: &mut Minute,
     log: &mut Log,
     source: &mut S,
     text: &mut String,
     sink: &mut K,
 ) -> Result<LogSummary, LogFault>
     requires begin { log.old.taken ≡ 0 }
-    requires none { entries_of minute.rows.items ≡ [] }
+    requires none { entries_of minute.old.rows.items ≡ [] }
     requires source { S.has_failed source.old ≡ false }
     requires sink { K.has_failed sink.old ≡ false }
     ensures put { part.AreMinutesPutByEnd result printing.address log.old log.new
         (S.left source.old) (S.left source.new) (K.held sink.old) (K.held sink.new) }
     ensures end { OnOk result (IsAtEnd (S.left source.new)) }
     ensures well { OnOk result (S.has_failed source.new ≡ false) }
-    ensures source { IfErr result (λ e. log.HasReadFailed e (S.has_failed source.new)) }
+    ensures source { IfErr result (λ e. forms.HasReadFailed e (S.has_failed source.new)) }
     ensures failed { K.has_failed sink.new ≡ has_sink_failed result }
 {
     let mut printer = PagePrinter {
@@ -78,14 +78,14 @@ fn print_to<S: Source, K: Sink>(
     requires sink { K.has_failed sink.old ≡ false }
     ensures put { part.IsPagePutByEnd result settings.now (S.left source.old) (S.left source.new)
         (K.held sink.old) (K.held sink.new) }
-    ensures range { log.IsOutOfRange settings.now.colour settings.now.address → (result ≡ Err LogFault.Range)
+    ensures range { forms.IsOutOfRange settings.now.colour settings.now.address → (result ≡ Err LogFault.Range)
         × IsUntouched (S.left source.old) (S.left source.new) (K.held sink.old) (K.held sink.new) }
     ensures well { OnOk result (S.has_failed source.new ≡ false) }
-    ensures source { IfErr result (λ e. log.HasReadFailed e (S.has_failed source.new)) }
+    ensures source { IfErr result (λ e. forms.HasReadFailed e (S.has_failed source.new)) }
     ensures failed { K.has_failed sink.new ≡ has_sink_failed result }
 {
     let mut log = new_log(alloc, settings.colour, settings.address)?;
-    let Ok(minute) = Minute::new(alloc) else {
+    let Ok(mut minute) = Minute::new(alloc) else {
         return Err(LogFault::Memory);
     };
     let Ok(mut text) = String::with_capacity(alloc, TEXT) else {
@@ -97,7 +97,7 @@ fn print_to<S: Source, K: Sink>(
         start: settings.start,
         address: settings.address.unwrap_or(0),
     };
-    let summary = print_minutes(printing, minute, &mut log, source, &mut text, sink)?;
+    let summary = print_minutes(printing, &mut minute, &mut log, source, &mut text, sink)?;
     let end = PageEnd {
         summary,
         has_gateway: settings.address.is_some(),
@@ -130,10 +130,10 @@ pub fn print_page<S: Source, K: Sink, E: Sink>(
     // Then this fault is told, the page is printed up to it, and the source has failed where that is the fault.
     ensures up_to { result ≡ failure → K.has_failed out.new ≡ false → (fault : Fault)
         × part.IsPagePutUpTo fault settings.now (S.left source.old) (S.left source.new) (K.held out.old) (K.held out.new)
-        × log.HasReadFailed fault (S.has_failed source.new)
-        × (E.has_failed err.new ≡ false → log.TellsLogFault fault (E.held err.old) (E.held err.new)) }
+        × forms.HasReadFailed fault (S.has_failed source.new)
+        × (E.has_failed err.new ≡ false → forms.TellsLogFault fault (E.held err.old) (E.held err.new)) }
     // A setting that is out of its range is found before anything is read.
-    ensures range { log.IsOutOfRange settings.now.colour settings.now.address → (result ≡ failure)
+    ensures range { forms.IsOutOfRange settings.now.colour settings.now.address → (result ≡ failure)
         × IsUntouched (S.left source.old) (S.left source.new) (K.held out.old) (K.held out.new) }
     ensures alone { (err.new ≡ err.old)
         ⊎ TellsFault result (K.has_failed out.new) (E.has_failed err.new) (E.held err.old) (E.held err.new) }

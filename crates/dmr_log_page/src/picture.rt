@@ -9,7 +9,7 @@ use dmr_recording::Place;
 use std::fmt;
 
 /// How many frames a row has: those of 30 s.
-pub(crate) const ROW_FRAMES: usize = 500;
+const ROW_FRAMES: usize = 500;
 
 /// How far apart the frames of a row are, in hundredths of a unit, and where the first begins.
 const STEP: u64 = 192;
@@ -287,7 +287,7 @@ impl MinutePicture<'_> {
 
 impl fmt::Display for MinutePicture<'_> {
     fn fmt<W: fmt::Write>(&self, f: &mut fmt::Formatter<W>) -> fmt::Result {
-        let height = 106 * self.shown();
+        let height = self.shown().saturating_mul(106);
         if height == 0 {
             return Ok(());
         }

@@ -142,7 +142,7 @@ pub(crate) struct PagePrinter<'a, K> {
     pub(crate) sink: &'a mut K,
     pub(crate) printing: PagePrinting,
     /// The minute that isn't over yet.
-    pub(crate) minute: Minute,
+    pub(crate) minute: &'a mut Minute,
     /// Memory was refused, and nothing more is printed.
     pub(crate) is_refused: bool,
     /// What is printed next.
@@ -153,21 +153,21 @@ impl<K: Sink> PagePrinter<'_, K> {
     /// Prints the last minute.
     pub(crate) fn print_last(&mut self) -> Result<(), LogFault>
         requires sink { K.has_failed self.old.sink.now ≡ false }
-        ensures last { OnOk result (spec.PutsMinute (spec.entries_of self.old.minute.rows.items)
+        ensures last { OnOk result (spec.PutsMinute (spec.entries_of self.old.minute.now.rows.items)
             (K.held self.old.sink.now) (K.held self.new.sink.now)) }
         ensures fault { IfErr result IsPrintFault }
         ensures failed { K.has_failed self.new.sink.now ≡ has_sink_failed result }
         ensures kept { self.new.sink.ghost_name ≡ self.old.sink.ghost_name }
     {
-        print_minute(self.printing.start, &self.minute, self.text, self.sink)
+        print_minute(self.printing.start, self.minute, self.text, self.sink)
     }
 }
 
 impl<K: Sink> LogLines for PagePrinter<'_, K> {
     ghost Takes = { λ old told new. (new.printing ≡ old.printing)
         × spec.TakesTold old.printing.address
-        (record { held = K.held old.sink.now; entries = spec.entries_of old.minute.rows.items }) told
-        (record { held = K.held new.sink.now; entries = spec.entries_of new.minute.rows.items }) };
+        (record { held = K.held old.sink.now; entries = spec.entries_of old.minute.now.rows.items }) told
+        (record { held = K.held new.sink.now; entries = spec.entries_of new.minute.now.rows.items }) };
 
     ghost Refuses = { λ old told new. new.is_refused ≡ true → K.has_failed new.sink.now ≡ false };
 
@@ -176,10 +176,7 @@ impl<K: Sink> LogLines for PagePrinter<'_, K> {
     ghost kept = { λ printer. printer.sink.ghost_name };
 
     fn put(&mut self, told: &FrameTold) -> Result<(), DeviceFault> {
-        match self
-            .printing
-            .take(told, &mut self.minute, self.text, self.sink)
-        {
+        match self.printing.take(told, self.minute, self.text, self.sink) {
             Ok(()) => Ok(()),
             Err(LogFault::Output) => Err(DeviceFault),
             Err(_) => {

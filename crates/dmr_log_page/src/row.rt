@@ -163,20 +163,26 @@ pub(crate) struct TableCells {
     end: Cell,
 }
 
+/// Writes a cell behind what stands in front of it.
+fn write_cell(head: &str, cell: &Cell, text: &mut String) -> Result<(), AllocError>
+    ensures written { OnOk result (string_bytes text.new ≡ string_bytes text.old ++ (head.now ++ cell.now.bytes)) }
+{
+    text.push_str(head)?;
+    text.push_str(cell.as_str())
+}
+
 /// Writes a cell with a number.
 fn write_number(cell: &Cell, text: &mut String) -> Result<(), AllocError>
     ensures written { OnOk result (string_bytes text.new ≡ string_bytes text.old ++ spec.number_octets cell.now.bytes) }
 {
-    text.push_str("<td class=\"n\">")?;
-    text.push_str(cell.as_str())
+    write_cell("<td class=\"n\">", cell, text)
 }
 
 /// Writes a cell with a text.
 fn write_text(cell: &Cell, text: &mut String) -> Result<(), AllocError>
     ensures written { OnOk result (string_bytes text.new ≡ string_bytes text.old ++ spec.text_octets cell.now.bytes) }
 {
-    text.push_str("<td>")?;
-    text.push_str(cell.as_str())
+    write_cell("<td>", cell, text)
 }
 
 impl TableCells {
