@@ -43,7 +43,8 @@ read_unsaid why.NotUplink failed fault = absurd fault
 read_unsaid why.Range failed fault = absurd fault
 
 -- the same of the source, of a call that may have failed so
-pub read_by_end : {T : Type 0} (r : Result T LogFault) (failed : Bool) → IfErr r IsPrintFault → IfErr r (λ e. HasReadFailed e failed)
+pub read_by_end : {T : Type 0} (r : Result T LogFault) (failed : Bool) → IfErr r IsPrintFault
+    → IfErr r (λ e. HasReadFailed e failed)
 read_by_end (Ok x) failed fault = tt
 read_by_end (Err e) failed fault = read_unsaid e failed fault
 
