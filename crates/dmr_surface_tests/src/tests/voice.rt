@@ -81,14 +81,16 @@ fn fields_of_a_voice_burst(rt: HostRuntime) {
 
 #[test]
 fn control_block_outside_a_call(rt: HostRuntime) {
-    let (block, silence) = (heard(Some(&ONE_CSBK)), heard(None));
+    let block = heard(Some(&ONE_CSBK));
+    let silence = heard(None);
     let mut track = VoiceTrack::new(1);
     let window = [block, silence, silence, silence, silence, silence];
     let repeated = VoiceOut::Repeat {
         burst: data(data_type::CSBK, &ONE_CSBK),
         role: Role::Other,
     };
-    assert!(rt; track.step(&window) == repeated);
+    let out = track.step(&window);
+    assert!(rt; out == repeated);
 }
 
 /// What a line gives that repeats nothing and that no call holds.
