@@ -5,7 +5,7 @@ use dmr_bits::Bits;
 use dmr_burst::{Burst, Emb, data_type, read_info};
 use dmr_link::FullLc;
 use dmr_slot::{Channel, SlotLine, SlotOut};
-use dmr_test_values::{CALL_HEADER, CALL_TERMINATOR, IDLE_BURST, ONE_CSBK, PRINTED_VOICE_BURST};
+use dmr_test_values::{CALL_HEADER, CALL_TERMINATOR, IDLE_BURST, PRINTED_VOICE_BURST};
 use dmr_voice::{DataBurst, Heard, Role, VoiceOut, VoiceTrack, hear};
 use std::alloc::AllocError;
 use std::test::Fail;
@@ -77,20 +77,6 @@ fn fields_of_a_voice_burst(rt: HostRuntime) {
         .with_field(0, 8, 0xA5)
         .with_field(208, 8, 0x5A);
     assert!(rt; voice.vocoder == ends);
-}
-
-#[test]
-fn control_block_outside_a_call(rt: HostRuntime) {
-    let block = heard(Some(&ONE_CSBK));
-    let silence = heard(None);
-    let mut track = VoiceTrack::new(1);
-    let window = [block, silence, silence, silence, silence, silence];
-    let repeated = VoiceOut::Repeat {
-        burst: data(data_type::CSBK, &ONE_CSBK),
-        role: Role::Other,
-    };
-    let out = track.step(&window);
-    assert!(rt; out == repeated);
 }
 
 /// What a line gives that repeats nothing and that no call holds.
