@@ -39,6 +39,7 @@ Commands:
   slot     Says what one burst is
   show     Lists what a file holds
   log      Lists what a repeater repeats: who calls whom
+  damage   Turns bits of a recording, within the limits or at a rate
   compare  Tells where two files differ
   import   Makes a file of a run from another format
   export   Writes a file of a run in another format
@@ -169,6 +170,44 @@ Example:
   dmrgate log uplink.dmru --llid 1 --start 2026-01-31T12:00:00Z --csv
 
 The lines, the columns and the page are described in docs/protocol.md.
+""",
+    "damage": """Turns bits of a recording, within the limits or at a rate
+
+Usage: dmrgate damage [OPTIONS] <IN> <OUT>
+
+Arguments:
+  <IN>   The uplink recording; - is standard input
+  <OUT>  The damaged one, to write; - is standard output
+
+Options:
+      --seed <N>    Another number, other damage [default: 0]
+      --colour <N>  The colour code, 0 to 15 [default: 1]
+      --errors <N>  Turns each bit with N in 10000
+      --loss <N>    Leaves each burst out with N in 10000
+  -h, --help        Print help
+
+Without rates, damage stays within the limits of a repeater of this colour code.
+Each part of a burst that it repeats becomes the word that it reads as, with as
+many wrong bits as are sure to be undone. Vocoder bits stay, and so does all
+that no code covers. So a run writes the same downlink for both recordings.
+
+With --errors or --loss each bit of each burst is turned, and each burst is left
+out, with so many in 10000. Where one of both is given, the other is 0. Nothing
+is promised then of what a run makes of it: 500 errors are a bit error rate of
+5 %, at which sensitivity is measured.
+
+One seed gives one file. The last line counts frames, bursts, those that were
+changed, those that were left out, and bits that were turned. Where the input is
+a pipe, each frame is written as soon as it is decided.
+
+Status 0: done, and that line is on standard output, or on standard error where
+the recording goes to standard output; 1: a fault, which is told on standard
+error; 2: the command line.
+
+Example:
+  dmrgate damage uplink.dmru damaged.dmru --seed 7
+
+What is drawn, and in which order, is described in docs/protocol.md.
 """,
     "compare": """Tells where two files differ
 
@@ -341,7 +380,8 @@ def check_manual(report, wanted, version):
     report.expect("the manual's options", options_in(plain) == wanted, options_in(plain) ^ wanted)
     report.expect("the manual's version", f'"{version}"' in text, version)
     told = dict(re.findall(r"^\.BI (--[a-z-]+) .*\n.*; (\d+) where it is left out\.$", plain, re.MULTILINE))
-    defaults = defaults_in(report.call("run", "--help").out.decode())
+    helps = (report.call(name, "--help").out.decode() for name in ("run", "damage"))
+    defaults = {option: value for text in helps for option, value in defaults_in(text).items()}
     report.expect("the manual's defaults", told == defaults, told)
     if shutil.which("groff"):
         ran = subprocess.run(["groff", "-man", "-ww", "-Tascii", "-z", report.top / MANUAL], capture_output=True, text=True)
@@ -355,8 +395,8 @@ def offered(report, *words):
     return set(ran.stdout.split())
 
 
-def check_completions(report, top, run, slot, show, log, compare, carrying):
-    commands = {"run", "slot", "show", "log", "compare", "import", "export"}
+def check_completions(report, top, run, slot, show, log, damage, compare, carrying):
+    commands = {"run", "slot", "show", "log", "damage", "compare", "import", "export"}
     for words, wanted in (
         (["dmrgate", ""], {*commands, "help"} | top),
         (["dmrgate", "-"], top),
@@ -384,6 +424,14 @@ def check_completions(report, top, run, slot, show, log, compare, carrying):
         (["dmrgate", "log", "READ"], {"README.md"}),
         (["dmrgate", "log", "--start", ""], set()),
         (["dmrgate", "log", "--", "READ"], {"README.md"}),
+        (["dmrgate", "damage", "-"], damage),
+        (["dmrgate", "damage", "READ"], {"README.md"}),
+        (["dmrgate", "damage", "README.md", "CHANGE"], {"CHANGELOG.md"}),
+        (["dmrgate", "damage", "--c"], {"--colour"}),
+        (["dmrgate", "damage", "--seed", ""], set()),
+        (["dmrgate", "damage", "--errors", ""], set()),
+        (["dmrgate", "damage", "--loss="], set()),
+        (["dmrgate", "damage", "--", "READ"], {"README.md"}),
         (["dmrgate", "compare", "-"], compare),
         (["dmrgate", "compare", "READ"], {"README.md"}),
         (["dmrgate", "compare", "README.md", "CHANGE"], {"CHANGELOG.md"}),
@@ -405,9 +453,9 @@ def check_completions(report, top, run, slot, show, log, compare, carrying):
         report.expect(f"bash offers for {words}", had == wanted, had ^ wanted)
     text = (report.top / ZSH).read_text()
     begin = text.index("    run)")
-    parts = [text[:begin], *re.split(r"^    (?:slot|show|log|compare|import \| export|help)\)$", text[begin:], flags=re.MULTILINE)]
-    names = "the program", "run", "slot", "show", "log", "compare", "import and export"
-    for name, part, wanted in zip(names, parts, (top, run, slot, show, log, compare, carrying)):
+    parts = [text[:begin], *re.split(r"^    (?:slot|show|log|damage|compare|import \| export|help)\)$", text[begin:], flags=re.MULTILINE)]
+    names = "the program", "run", "slot", "show", "log", "damage", "compare", "import and export"
+    for name, part, wanted in zip(names, parts, (top, run, slot, show, log, damage, compare, carrying)):
         report.expect(f"zsh's options of {name}", options_in(part) == wanted, options_in(part) ^ wanted)
         is_so = name == "the program" or part.count("_arguments -S ") == 1
         report.expect(f"zsh offers no option of {name} behind --", is_so, part)
@@ -417,7 +465,7 @@ def check_completions(report, top, run, slot, show, log, compare, carrying):
     everywhere = {"--help"}
     marks = (
         ("the program", "__fish_use_subcommand", top), ("run", "from run'", run), ("show", "from show'", show),
-        ("log", "from log'", log), ("compare", "from compare'", compare),
+        ("log", "from log'", log), ("damage", "from damage'", damage), ("compare", "from compare'", compare),
     )
     for name, mark, wanted in marks:
         had = everywhere | {f"--{word}" for line in lines if mark in line for word in re.findall(r" -l ([a-z-]+)", line)}
@@ -519,15 +567,15 @@ def check_readme(report):
 def check(report):
     check_alike(report)
     options = check_help(report)
-    commands = "", "run", "slot", "show", "log", "compare", "import text"
-    top, run, slot, show, log, compare, carrying = (options[it] for it in commands)
+    commands = "", "run", "slot", "show", "log", "damage", "compare", "import text"
+    top, run, slot, show, log, damage, compare, carrying = (options[it] for it in commands)
     ran = report.call("--version")
     version = ran.out.decode().strip()
     is_version = re.fullmatch(r"dmrgate \d+\.\d+\.\d+", version) and ran.status == 0 and ran.err == b""
     report.expect("the version", is_version, ran)
     short = report.call("-V")
     report.expect("-V is --version", (short.status, short.out, short.err) == (ran.status, ran.out, ran.err), short)
-    check_manual(report, top | run | slot | show | log | compare, version)
+    check_manual(report, top | run | slot | show | log | damage | compare, version)
     check_examples(report)
-    check_completions(report, top, run, slot, show, log, compare, carrying)
+    check_completions(report, top, run, slot, show, log, damage, compare, carrying)
     check_readme(report)

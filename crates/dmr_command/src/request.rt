@@ -143,9 +143,12 @@ pub(crate) fn request_by<'a>(command: Option<(&'a str, &ArgMatches<'a>)>) -> Req
     match listed {
         Listed::Run => run_request(given),
         Listed::Slot => Request::Slot(text_of(given, "burst")),
-        Listed::Show | Listed::Log | Listed::Compare | Listed::Import | Listed::Export => {
-            Request::Elsewhere(name)
-        }
+        Listed::Show
+        | Listed::Log
+        | Listed::Damage
+        | Listed::Compare
+        | Listed::Import
+        | Listed::Export => Request::Elsewhere(name),
     }
 }
 

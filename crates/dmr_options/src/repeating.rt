@@ -115,9 +115,10 @@ pub fn repeating_commands<'a>(alloc: Global) -> Result<Command<'a>, AllocError> 
     let slot = slot_command(alloc)?;
     let show = bare_command(alloc, Listed::Show);
     let log = bare_command(alloc, Listed::Log);
+    let damage = bare_command(alloc, Listed::Damage);
     let compare = bare_command(alloc, Listed::Compare);
     let import = bare_command(alloc, Listed::Import);
     let export = bare_command(alloc, Listed::Export);
-    let commands = vec![in alloc; run, slot, show, log, compare, import, export]?;
+    let commands = vec![in alloc; run, slot, show, log, damage, compare, import, export]?;
     command(alloc, commands)
 }

@@ -35,6 +35,25 @@ error with the octet at which its record begins; 2: the command line.\n\n\
 Example:\n  dmrgate log uplink.dmru --llid 1 --start 2026-01-31T12:00:00Z --csv\n\n\
 The lines, the columns and the page are described in docs/protocol.md.";
 
+/// What help says behind the options of `damage`.
+pub(crate) const ABOUT_DAMAGE: &str =
+    "Without rates, damage stays within the limits of a repeater of this colour code.\n\
+Each part of a burst that it repeats becomes the word that it reads as, with as\n\
+many wrong bits as are sure to be undone. Vocoder bits stay, and so does all\n\
+that no code covers. So a run writes the same downlink for both recordings.\n\n\
+With --errors or --loss each bit of each burst is turned, and each burst is left\n\
+out, with so many in 10000. Where one of both is given, the other is 0. Nothing\n\
+is promised then of what a run makes of it: 500 errors are a bit error rate of\n\
+5 %, at which sensitivity is measured.\n\n\
+One seed gives one file. The last line counts frames, bursts, those that were\n\
+changed, those that were left out, and bits that were turned. Where the input is\n\
+a pipe, each frame is written as soon as it is decided.\n\n\
+Status 0: done, and that line is on standard output, or on standard error where\n\
+the recording goes to standard output; 1: a fault, which is told on standard\n\
+error; 2: the command line.\n\n\
+Example:\n  dmrgate damage uplink.dmru damaged.dmru --seed 7\n\n\
+What is drawn, and in which order, is described in docs/protocol.md.";
+
 /// What help says behind the options of `compare`.
 pub(crate) const ABOUT_COMPARISONS: &str =
     "Two files of one kind are compared, slot by slot or record by record. Each place\n\
