@@ -1,9 +1,10 @@
--- What is written where a file is carried.
+-- What is written where one file is made of another.
 use Rattle.std.specs.Prelude.{Bool, true, false}
 use Rattle.dmr_tools.specs.declared.carrying.Direction.{Direction}
-use Rattle.dmr_tools.specs.declared.carrying.Direction.TheVariants.{Import, Export}
+use Rattle.dmr_tools.specs.declared.carrying.Direction.TheVariants.{Import, Export, Damage}
 
 -- a file of a run is written, and no text
 abbrev pub is_to_octets : Direction → Bool
 is_to_octets (Import format) = true
 is_to_octets (Export format) = false
+is_to_octets (Damage settings) = true

@@ -1,4 +1,4 @@
-//! A file of a run, carried from another format or to it.
+//! A file of a run, carried from another format or to it, or with wrong bits.
 ghost use Rattle.std.specs.Prelude.{◌≡◌, ◌≤◌, ◌⊎◌, false, true};
 ghost use Rattle.dmr_files.specs.Place.{is_standard};
 ghost use Rattle.dmr_lines.specs.Line.{PutsError, PutsLine};
@@ -7,6 +7,7 @@ ghost use Rattle.dmr_tools.specs.Carrying.{is_to_octets};
 
 use crate::request::{Format, PairPlaces};
 use arrayvec::ArrayString;
+use dmr_damage::{DamageEnd, DamageSettings, Damaged, damage_recording};
 use dmr_files::{
     BufferedPair, PairFault, Place, System, is_sent_to_terminal, open_buffered, write_out,
 };
@@ -18,13 +19,15 @@ use dmr_text::{Carried, ExportEnd, ImportEnd, LineFault, export_text, import_tex
 use std::alloc::Global;
 use std::fmt::{self, Write};
 
-/// Which way a file is carried.
+/// How one file is made of another.
 #[derive(Clone, Copy)]
 pub(crate) enum Direction {
     /// From this format to a file of a run.
     Import(Format),
     /// From a file of a run to this format.
     Export(Format),
+    /// From a recording to one with wrong bits, by these settings.
+    Damage(DamageSettings),
 }
 
 impl Direction {
@@ -33,7 +36,7 @@ impl Direction {
         ensures octets { result ≡ is_to_octets self }
     {
         match self {
-            Direction::Import(_) => true,
+            Direction::Import(_) | Direction::Damage(_) => true,
             Direction::Export(_) => false,
         }
     }
@@ -52,6 +55,8 @@ pub(crate) enum CarryFault {
     File(FaultLine),
     /// The text is at fault.
     Text(LineFault),
+    /// The input is no recording of an uplink.
+    NotUplink,
     /// The output can't be written.
     Write,
     /// There is no memory.
@@ -64,6 +69,16 @@ impl From<PairFault> for CarryFault {
             PairFault::Input => CarryFault::NoInput,
             PairFault::Output => CarryFault::NoOutput,
             PairFault::Memory => CarryFault::Memory,
+        }
+    }
+}
+
+impl From<DamageEnd> for CarryFault {
+    fn from(end: DamageEnd) -> CarryFault {
+        match end {
+            DamageEnd::File(fault) => CarryFault::File(fault),
+            DamageEnd::NotUplink => CarryFault::NotUplink,
+            DamageEnd::Output => CarryFault::Write,
         }
     }
 }
@@ -84,6 +99,24 @@ impl From<ImportEnd> for CarryFault {
             ImportEnd::Text(fault) => CarryFault::Text(fault),
             ImportEnd::Output => CarryFault::Write,
             ImportEnd::Memory => CarryFault::Memory,
+        }
+    }
+}
+
+/// What was done where one file was made of another.
+#[derive(Clone, Copy, Drop)]
+pub(crate) enum Done {
+    /// It was carried from a format, or to one.
+    Carried(Carried),
+    /// It was written with wrong bits.
+    Damaged(Damaged),
+}
+
+impl fmt::Display for Done {
+    fn fmt<W: fmt::Write>(&self, f: &mut fmt::Formatter<W>) -> fmt::Result {
+        match self {
+            Done::Carried(carried) => carried.fmt(f),
+            Done::Damaged(damaged) => damaged.fmt(f),
         }
     }
 }
@@ -109,36 +142,40 @@ impl fmt::Display for ToldFault<'_> {
             CarryFault::Terminal => write!(f, "{output}: standard output is a terminal"),
             CarryFault::File(fault) => write!(f, "{input}: {fault}"),
             CarryFault::Text(fault) => write!(f, "{input}: {fault}"),
+            CarryFault::NotUplink => write!(f, "{input}: not an uplink"),
             CarryFault::Write => write!(f, "{output}: write failed"),
             CarryFault::Memory => write!(f, "out of memory"),
         }
     }
 }
 
-/// Carries a file from a source to a sink.
+/// Makes one file of another, from a source to a sink.
 fn carry_between<S: Source, K: Sink>(
     alloc: Global,
     direction: Direction,
     source: &mut S,
     sink: &mut K,
-) -> Result<Carried, CarryFault>
+) -> Result<Done, CarryFault>
     requires source { S.has_failed source.old ≡ false }
     requires sink { K.has_failed sink.old ≡ false }
 {
     match direction {
-        Direction::Import(Format::Text) => Ok(import_text(alloc, source, sink)?),
-        Direction::Export(Format::Text) => Ok(export_text(alloc, source, sink)?),
+        Direction::Import(Format::Text) => Ok(Done::Carried(import_text(alloc, source, sink)?)),
+        Direction::Export(Format::Text) => Ok(Done::Carried(export_text(alloc, source, sink)?)),
+        Direction::Damage(settings) => {
+            Ok(Done::Damaged(damage_recording(&settings, source, sink)?))
+        }
     }
 }
 
-/// Carries the file at one place to the other. What is written before a fault is written out too, and that fault goes before one of
+/// Makes the file at one place of that at the other. What is written before a fault is written out too, and that fault goes before one of
 /// writing out.
 fn carry<S: System>(
     alloc: Global,
     system: &S,
     direction: Direction,
     places: PairPlaces<'_>,
-) -> Result<Carried, CarryFault> {
+) -> Result<Done, CarryFault> {
     if direction.is_to_octets() && is_sent_to_terminal(system, places.output) {
         return Err(CarryFault::Terminal);
     }
@@ -148,9 +185,9 @@ fn carry<S: System>(
     } = open_buffered(system, alloc, places.input, places.output)?;
     let end = carry_between(alloc, direction, &mut source, &mut sink);
     let written = write_out(sink);
-    let carried = end?;
+    let done = end?;
     match written {
-        Ok(_) => Ok(carried),
+        Ok(_) => Ok(done),
         Err(_) => Err(CarryFault::Write),
     }
 }
@@ -173,9 +210,9 @@ fn print_fault<E: Sink>(alloc: Global, fault: &CarryFault, places: PairPlaces<'_
     }
 }
 
-/// Prints what was carried, and answers the exit status: to the first sink, or to the second where the output is standard output.
-fn print_carried<K: Sink, E: Sink>(
-    carried: &Carried,
+/// Prints what was done, and answers the exit status: to the first sink, or to the second where the output is standard output.
+fn print_done<K: Sink, E: Sink>(
+    done: &Done,
     output: Place<'_>,
     out: &mut K,
     err: &mut E,
@@ -193,7 +230,7 @@ fn print_carried<K: Sink, E: Sink>(
 {
     let mut text = ArrayString::<128>::new();
     // There is room for each text that this can be.
-    let _ = write!(text, "{carried}");
+    let _ = write!(text, "{done}");
     let line = line_of(text.as_str());
     if output.is_standard() {
         print_line(err, line, SUCCESS)
@@ -202,10 +239,10 @@ fn print_carried<K: Sink, E: Sink>(
     }
 }
 
-/// Prints how carrying a file ended, and answers the exit status: what was carried, or a fault, which goes to the second sink.
+/// Prints how making a file ended, and answers the exit status: what was done, or a fault, which goes to the second sink.
 fn print_end<K: Sink, E: Sink>(
     alloc: Global,
-    end: &Result<Carried, CarryFault>,
+    end: &Result<Done, CarryFault>,
     places: PairPlaces<'_>,
     out: &mut K,
     err: &mut E,
@@ -224,7 +261,7 @@ fn print_end<K: Sink, E: Sink>(
     ensures err_failed { E.has_failed err.new ≡ true → result ≡ failure }
 {
     match end {
-        Ok(carried) => print_carried(carried, places.output, out, err),
+        Ok(done) => print_done(done, places.output, out, err),
         Err(fault) => {
             print_fault(alloc, fault, places, err);
             FAILURE
@@ -232,7 +269,7 @@ fn print_end<K: Sink, E: Sink>(
     }
 }
 
-/// Carries the file at one place to the other, prints how that ended, and answers the exit status.
+/// Makes the file at one place of that at the other, prints how that ended, and answers the exit status.
 pub(crate) fn carry_file<S: System, K: Sink, E: Sink>(
     alloc: Global,
     system: &S,

@@ -13,6 +13,7 @@ use crate::carrying::{Direction, carry_file};
 use crate::comparing::compare_files;
 use crate::opening::print_unopened;
 use crate::request::{LogRefusal, Request, request_of};
+use dmr_damage::SettingsFault;
 use dmr_files::{Open, Place, System, open_source};
 use dmr_lines::{FAILURE, USAGE, line_of, print_error};
 use dmr_log_forms::{LogSettings, print_log};
@@ -137,6 +138,15 @@ fn refusal_text(refusal: LogRefusal) -> &'static str {
     }
 }
 
+/// What is told of settings of damage that are refused.
+fn damage_refusal_text(fault: SettingsFault) -> &'static str {
+    match fault {
+        SettingsFault::Colour => "--colour is over 15",
+        SettingsFault::Errors => "--errors is over 10000",
+        SettingsFault::Loss => "--loss is over 10000",
+    }
+}
+
 /// Does what is asked for, and answers the exit status.
 fn fulfil<S: System, K: Sink, E: Sink>(
     alloc: Global,
@@ -159,7 +169,7 @@ fn fulfil<S: System, K: Sink, E: Sink>(
         → TellsFault result (K.has_failed out.new) (E.has_failed err.new) (E.held err.old) (E.held err.new) }
     ensures listing { IsShow request.entry → (err.new ≡ err.old)
         ⊎ TellsFault result (K.has_failed out.new) (E.has_failed err.new) (E.held err.old) (E.held err.new) }
-    // Where a file is carried, one line is printed to one of the two: how much it was to the first, a fault to the second.
+    // Where one file is made of another, one line is printed to one of the two: how much it was to the first, a fault to the second.
     ensures carried { IsCarrying request.entry → (out.new ≡ out.old) ⊎ (err.new ≡ err.old) }
     ensures carried_status { IsCarrying request.entry → result ≤ 1 }
     ensures line { IsCarrying request.entry → result ≡ success → is_to_output request.entry ≡ false
@@ -195,11 +205,15 @@ fn fulfil<S: System, K: Sink, E: Sink>(
         Request::Export { format, places } => {
             carry_file(alloc, system, Direction::Export(format), places, out, err)
         }
+        Request::Damage { settings, places } => {
+            carry_file(alloc, system, Direction::Damage(settings), places, out, err)
+        }
         Request::Backwards => print_error(err, BACKWARDS, USAGE),
         Request::Log { name, settings } => log_file(alloc, system, name, settings, out, err),
         Request::LogPage { name, settings } => page_file(alloc, system, name, settings, out, err),
         Request::LogRefused(refusal) => print_error(err, line_of(refusal_text(refusal)), USAGE),
         Request::Compare(comparison) => compare_files(alloc, system, &comparison, out, err),
+        Request::DamageRefused(fault) => print_error(err, line_of(damage_refusal_text(fault)), USAGE),
         Request::SharedInput => print_error(err, SHARED_INPUT, USAGE),
         Request::Elsewhere(_) => print_elsewhere(err),
     }

@@ -9,7 +9,9 @@ ghost use Rattle.dmr_tools.specs.Request.{IsAskedOfTools, IsFormOf, form_by};
 ghost use Rattle.dmr_tools.specs.Request.{ArePairPlaces, IsCarriedBetween, NamesFormat};
 
 use crate::comparison::Comparison;
+use crate::damaging::settings_of;
 use clap::{ArgMatches, Error};
+use dmr_damage::{DamageSettings, SettingsFault};
 use dmr_files::Place;
 use dmr_log_forms::{LogForm, LogSettings, StartTime};
 use dmr_log_page::PageSettings;
@@ -65,6 +67,13 @@ pub enum Request<'a> {
     },
     /// To print a log with settings that are refused.
     LogRefused(LogRefusal),
+    /// To write a recording with wrong bits.
+    Damage {
+        settings: DamageSettings,
+        places: PairPlaces<'a>,
+    },
+    /// To write one by settings that are refused.
+    DamageRefused(SettingsFault),
     /// To compare two files.
     Compare(Comparison<'a>),
     /// To compare standard input with itself.
@@ -229,7 +238,7 @@ pub(crate) fn place_of<'a>(matches: &ArgMatches<'a>, word: &str) -> Place<'a>
     Place::named(text_of(matches, word))
 }
 
-/// The places that stand behind the name of a format.
+/// The places of a command that makes one file of another.
 fn places_of<'a>(files: &ArgMatches<'a>) -> PairPlaces<'a>
     ensures places { ArePairPlaces (found_of files.now) result }
 {
@@ -248,6 +257,20 @@ fn carried_by<'a>(given: &ArgMatches<'a>) -> Option<(Format, PairPlaces<'a>)>
         Some(("text", files)) => Some((Format::Text, places_of(files))),
         // Not reached, since a format is required, and there is no other.
         _ => None,
+    }
+}
+
+/// What a command line of `damage` asks for.
+fn damage_request<'a>(damage: &ArgMatches<'a>) -> Request<'a>
+    ensures asked { IsAskedOfTools (Some (record { 0 = codes "damage"; 1 = damage.now })) result }
+{
+    match settings_of(damage) {
+        Ok(settings) => Request::Damage {
+            settings,
+            places: places_of(damage),
+        },
+        // Not reached, since the parser keeps each number within its range.
+        Err(fault) => Request::DamageRefused(fault),
     }
 }
 
@@ -297,6 +320,7 @@ pub(crate) fn request_by<'a>(command: Option<(&'a str, &ArgMatches<'a>)>) -> Req
     match listed {
         Listed::Show => show_request(given),
         Listed::Log => log_request(given),
+        Listed::Damage => damage_request(given),
         Listed::Compare => compare_request(given),
         Listed::Import => import_request(given),
         Listed::Export => export_request(given),
