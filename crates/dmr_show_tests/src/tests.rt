@@ -2,6 +2,7 @@
 mod carrying;
 mod command_line;
 mod comparing;
+mod damaging;
 mod logging;
 mod text;
 

@@ -6,8 +6,10 @@ use std::io::{self, ErrorKind, Write};
 use std::process::Abort;
 use std::test::Fail;
 
-/// A recording of no frames, and its text.
+/// Recordings of no frames, and the text of the first.
 const RECORDING: &[u8] = b"DMRU\x01\x00\x00\x00";
+
+const DOWNLINK: &[u8] = b"DMRD\x01\x00\x00\x00";
 
 const TEXT: &[u8] = b"dmrgate uplink 1\nframes 0\n";
 
@@ -31,10 +33,10 @@ impl Write for Output {
     }
 }
 
-/// A system with a recording, a text, either of which has two names, and a file behind its standard output.
+/// A system with two recordings, a text, of which the first and the text has two names, and a file behind its standard output.
 #[derive(Drop)]
-struct Few {
-    is_terminal: bool,
+pub(crate) struct Few {
+    pub(crate) is_terminal: bool,
 }
 
 /// The regular file of this number.
@@ -56,6 +58,10 @@ impl System for Few {
             Place::Path("up") => Ok(Open {
                 file: RECORDING,
                 identity: regular(1),
+            }),
+            Place::Path("down") => Ok(Open {
+                file: DOWNLINK,
+                identity: regular(6),
             }),
             Place::Path("text") | Place::Standard => Ok(Open {
                 file: TEXT,
@@ -96,7 +102,7 @@ impl System for Few {
 }
 
 /// These words end with this status, and print so to either sink.
-fn expect_printed(
+pub(crate) fn expect_printed(
     rt: &(impl Abort + AllocGlobal),
     system: &Few,
     words: &[&str],

@@ -1,0 +1,87 @@
+//! The command line of `damage`, over a system of a few files.
+use super::carrying::{Few, expect_printed};
+use dmr_damage::{Damage, DamageSettings};
+use dmr_tools::{Request, request_of};
+use std::test::Fail;
+
+/// The settings that these words ask for, between these places.
+fn settings_asked(
+    rt: &impl AllocGlobal,
+    words: &[&str],
+    input: &str,
+    output: &str,
+) -> Result<DamageSettings, Fail> {
+    match request_of(rt.alloc(), words)? {
+        Request::Damage { settings, places }
+            if places.input.name() == input && places.output.name() == output =>
+        {
+            Ok(settings)
+        }
+        _ => Err(Fail::new("nothing is damaged, or another file")),
+    }
+}
+
+#[test]
+fn damage_that_is_asked_for(rt: HostRuntime) -> Result<(), Fail> {
+    let words = ["dmrgate", "damage", "up", "-"];
+    let plain = DamageSettings::new(Damage::WithinLimits { colour: 1 }, 0)?;
+    assert!(rt; settings_asked(&rt, &words, "up", "-")? == plain);
+    let words = [
+        "dmrgate",
+        "damage",
+        "--colour",
+        "13",
+        "-",
+        "--seed=18446744073709551615",
+        "out",
+    ];
+    let own = DamageSettings::new(Damage::WithinLimits { colour: 13 }, u64::MAX)?;
+    assert!(rt; settings_asked(&rt, &words, "-", "out")? == own);
+    for (option, errors, loss) in [
+        ("--errors=10000", 10_000, 0),
+        ("--errors=0", 0, 0),
+        ("--loss=7", 0, 7),
+    ] {
+        let words = ["dmrgate", "damage", "up", "out", option, "--seed", "5"];
+        let rates = DamageSettings::new(Damage::AtRate { errors, loss }, 5)?;
+        assert!(rt; settings_asked(&rt, &words, "up", "out")? == rates, "{option}");
+    }
+    let words = [
+        "dmrgate", "damage", "up", "out", "--loss", "3", "--errors", "4",
+    ];
+    let rates = DamageSettings::new(Damage::AtRate { errors: 4, loss: 3 }, 0)?;
+    assert!(rt; settings_asked(&rt, &words, "up", "out")? == rates);
+    for more in [
+        ["--colour", "16"].as_slice(),
+        ["--errors", "10001"].as_slice(),
+        ["--loss", "10001"].as_slice(),
+        ["--seed", "18446744073709551616"].as_slice(),
+        ["--colour=1", "--errors=1"].as_slice(),
+        ["--loss=1", "--color=1"].as_slice(),
+    ] {
+        let words = ["dmrgate", "damage", "up", "out", more[0], more[1 % more.len()]];
+        assert!(rt; request_of(rt.alloc(), &words).is_err(), "{more:?}");
+    }
+    Ok(())
+}
+
+#[test]
+fn what_is_printed_of_damage(rt: HostRuntime) {
+    let counts = "frames 0 bursts 0 changed 0 silenced 0 bits 0\n";
+    for (input, output, status, out, err) in [
+        ("up", "out", 0, counts, ""),
+        ("up", "-", 0, "", counts),
+        ("nowhere", "out", 1, "", "error: nowhere: cannot open\n"),
+        ("up", "twin", 1, "", "error: twin: cannot open\n"),
+        ("up", "full", 1, "", "error: full: write failed\n"),
+        ("text", "out", 1, "", "error: text: bad magic at octet 0\n"),
+        ("down", "out", 1, "", "error: down: not an uplink\n"),
+    ] {
+        let words = ["dmrgate", "damage", input, output];
+        expect_printed(&rt, &Few { is_terminal: false }, &words, status, out, err);
+    }
+    // A recording isn't sent to a terminal.
+    let words = ["dmrgate", "damage", "up", "-"];
+    let refused = "error: -: standard output is a terminal\n";
+    expect_printed(&rt, &Few { is_terminal: true }, &words, 1, "", refused);
+}
