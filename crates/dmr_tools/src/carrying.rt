@@ -211,12 +211,7 @@ fn print_fault<E: Sink>(alloc: Global, fault: &CarryFault, places: PairPlaces<'_
 }
 
 /// Prints what was done, and answers the exit status: to the first sink, or to the second where the output is standard output.
-fn print_done<K: Sink, E: Sink>(
-    done: &Done,
-    output: Place<'_>,
-    out: &mut K,
-    err: &mut E,
-) -> u8
+fn print_done<K: Sink, E: Sink>(done: &Done, output: Place<'_>, out: &mut K, err: &mut E) -> u8
     requires out { K.has_failed out.old ≡ false }
     requires err { E.has_failed err.old ≡ false }
     ensures line { is_standard output.entry ≡ false → K.has_failed out.new ≡ false → PutsLine (K.held out.old) (K.held out.new) }

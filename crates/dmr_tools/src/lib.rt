@@ -14,6 +14,7 @@ mod carrying;
 mod comparing;
 mod comparison;
 mod damaging;
+mod listing;
 mod obeying;
 mod opening;
 mod process;

@@ -11,16 +11,13 @@ ghost use Rattle.dmr_tools.specs.Request.{IsCarrying, IsComparison, IsTool, IsSh
 
 use crate::carrying::{Direction, carry_file};
 use crate::comparing::compare_files;
-use crate::opening::print_unopened;
+use crate::listing::{Listing, list_file};
 use crate::request::{LogRefusal, Request, request_of};
 use dmr_damage::SettingsFault;
-use dmr_files::{Open, Place, System, open_source};
-use dmr_lines::{FAILURE, USAGE, line_of, print_error};
-use dmr_log_forms::{LogSettings, print_log};
-use dmr_log_page::{PageSettings, print_page};
+use dmr_files::System;
+use dmr_lines::{USAGE, line_of, print_error};
 use dmr_options::{print_answer, print_elsewhere};
 use dmr_record::Sink;
-use dmr_show::{Filter, Form, show};
 use std::alloc::Global;
 use std::convert::AsStr;
 
@@ -30,108 +27,8 @@ const BACKWARDS: &str = "--from is beyond --to";
 /// What is told of a comparison of standard input with itself.
 const SHARED_INPUT: &str = "A and B can't both be standard input";
 
-/// Shows the file of this name in a form, as far as it can be read.
-fn show_file<S: System, K: Sink, E: Sink>(
-    alloc: Global,
-    system: &S,
-    name: &str,
-    form: Form,
-    filter: Filter,
-    out: &mut K,
-    err: &mut E,
-) -> u8
-    requires out { K.has_failed out.old ≡ false }
-    requires err { E.has_failed err.old ≡ false }
-    ensures whole { result ≡ success → listed.IsSomeShown form filter (K.held out.old) (K.held out.new) }
-    ensures fault { result ≡ failure → K.has_failed out.new ≡ false
-        → TellsFault result (K.has_failed out.new) (E.has_failed err.new) (E.held err.old) (E.held err.new) }
-    ensures part { result ≡ failure → K.has_failed out.new ≡ false
-        → listed.IsSomeShownInPart form filter (K.held out.old) (K.held out.new) }
-    ensures alone { (err.new ≡ err.old)
-        ⊎ TellsFault result (K.has_failed out.new) (E.has_failed err.new) (E.held err.old) (E.held err.new) }
-    ensures success { result ≡ success → err.new ≡ err.old }
-    ensures status { result ≤ 1 }
-    ensures out_failed { K.has_failed out.new ≡ true → result ≡ failure }
-    ensures err_failed { E.has_failed err.new ≡ true → result ≡ failure }
-{
-    match open_source(system, alloc, Place::named(name)) {
-        Ok(Open { mut file, identity }) => {
-            let is_live = identity.is_live();
-            show(alloc, name, form, filter, is_live, &mut file, out, err)
-        }
-        Err(fault) => {
-            print_unopened(alloc, name, fault, err);
-            FAILURE
-        }
-    }
-}
-
-/// Prints the log of the recording of this name, as far as it can be read.
-fn log_file<S: System, K: Sink, E: Sink>(
-    alloc: Global,
-    system: &S,
-    name: &str,
-    settings: LogSettings,
-    out: &mut K,
-    err: &mut E,
-) -> u8
-    requires out { K.has_failed out.old ≡ false }
-    requires err { E.has_failed err.old ≡ false }
-    ensures whole { result ≡ success → listed.IsSomeLogPut settings (K.held out.old) (K.held out.new) }
-    ensures fault { result ≡ failure → K.has_failed out.new ≡ false
-        → TellsFault result (K.has_failed out.new) (E.has_failed err.new) (E.held err.old) (E.held err.new) }
-    ensures part { result ≡ failure → K.has_failed out.new ≡ false
-        → listed.IsSomeLogPutInPart settings (K.held out.old) (K.held out.new) }
-    ensures alone { (err.new ≡ err.old)
-        ⊎ TellsFault result (K.has_failed out.new) (E.has_failed err.new) (E.held err.old) (E.held err.new) }
-    ensures success { result ≡ success → err.new ≡ err.old }
-    ensures status { result ≤ 1 }
-    ensures out_failed { K.has_failed out.new ≡ true → result ≡ failure }
-    ensures err_failed { E.has_failed err.new ≡ true → result ≡ failure }
-{
-    match open_source(system, alloc, Place::named(name)) {
-        Ok(Open { mut file, .. }) => print_log(alloc, name, &settings, &mut file, out, err),
-        Err(fault) => {
-            print_unopened(alloc, name, fault, err);
-            FAILURE
-        }
-    }
-}
-
-/// Prints the page of the recording of this name, as far as it can be read.
-fn page_file<S: System, K: Sink, E: Sink>(
-    alloc: Global,
-    system: &S,
-    name: &str,
-    settings: PageSettings,
-    out: &mut K,
-    err: &mut E,
-) -> u8
-    requires out { K.has_failed out.old ≡ false }
-    requires err { E.has_failed err.old ≡ false }
-    ensures whole { result ≡ success → listed.IsSomePagePut settings (K.held out.old) (K.held out.new) }
-    ensures fault { result ≡ failure → K.has_failed out.new ≡ false
-        → TellsFault result (K.has_failed out.new) (E.has_failed err.new) (E.held err.old) (E.held err.new) }
-    ensures part { result ≡ failure → K.has_failed out.new ≡ false
-        → listed.IsSomePagePutInPart settings (K.held out.old) (K.held out.new) }
-    ensures alone { (err.new ≡ err.old)
-        ⊎ TellsFault result (K.has_failed out.new) (E.has_failed err.new) (E.held err.old) (E.held err.new) }
-    ensures success { result ≡ success → err.new ≡ err.old }
-    ensures status { result ≤ 1 }
-    ensures out_failed { K.has_failed out.new ≡ true → result ≡ failure }
-    ensures err_failed { E.has_failed err.new ≡ true → result ≡ failure }
-{
-    match open_source(system, alloc, Place::named(name)) {
-        Ok(Open { mut file, .. }) => print_page(alloc, name, &settings, &mut file, out, err),
-        Err(fault) => {
-            print_unopened(alloc, name, fault, err);
-            FAILURE
-        }
-    }
-}
-
 /// What is told of settings of a log that are refused.
-fn refusal_text(refusal: LogRefusal) -> &'static str {
+fn log_refusal_text(refusal: LogRefusal) -> &'static str {
     match refusal {
         LogRefusal::Backwards => BACKWARDS,
         LogRefusal::Time => "--start is no time, as 2026-01-31T12:00:00Z",
@@ -196,9 +93,10 @@ fn fulfil<S: System, K: Sink, E: Sink>(
     ensures err_failed { E.has_failed err.new ≡ true → result ≡ unwritten_status request.entry }
 {
     match request {
-        Request::Show { name, form, filter } => show_file(
-            alloc, system, name, form, filter, out, err,
-        ),
+        Request::Show { name, form, filter } => {
+            let listing = Listing::Lines { form, filter };
+            list_file(alloc, system, name, listing, out, err)
+        }
         Request::Import { format, places } => {
             carry_file(alloc, system, Direction::Import(format), places, out, err)
         }
@@ -209,11 +107,19 @@ fn fulfil<S: System, K: Sink, E: Sink>(
             carry_file(alloc, system, Direction::Damage(settings), places, out, err)
         }
         Request::Backwards => print_error(err, BACKWARDS, USAGE),
-        Request::Log { name, settings } => log_file(alloc, system, name, settings, out, err),
-        Request::LogPage { name, settings } => page_file(alloc, system, name, settings, out, err),
-        Request::LogRefused(refusal) => print_error(err, line_of(refusal_text(refusal)), USAGE),
+        Request::Log { name, settings } => {
+            list_file(alloc, system, name, Listing::Log(settings), out, err)
+        }
+        Request::LogPage { name, settings } => {
+            list_file(alloc, system, name, Listing::Page(settings), out, err)
+        }
+        Request::LogRefused(refusal) => print_error(err, line_of(log_refusal_text(refusal)), USAGE),
         Request::Compare(comparison) => compare_files(alloc, system, &comparison, out, err),
-        Request::DamageRefused(fault) => print_error(err, line_of(damage_refusal_text(fault)), USAGE),
+        Request::DamageRefused(fault) => print_error(
+            err,
+            line_of(damage_refusal_text(fault)),
+            USAGE,
+        ),
         Request::SharedInput => print_error(err, SHARED_INPUT, USAGE),
         Request::Elsewhere(_) => print_elsewhere(err),
     }

@@ -33,7 +33,7 @@ impl Write for Output {
     }
 }
 
-/// A system with two recordings, a text, of which the first and the text has two names, and a file behind its standard output.
+/// A system with two recordings and a text, and a file behind its standard output. The first recording and the text have two names.
 #[derive(Drop)]
 pub(crate) struct Few {
     pub(crate) is_terminal: bool,

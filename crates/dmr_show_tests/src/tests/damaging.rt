@@ -51,16 +51,16 @@ fn damage_that_is_asked_for(rt: HostRuntime) -> Result<(), Fail> {
     ];
     let rates = DamageSettings::new(Damage::AtRate { errors: 4, loss: 3 }, 0)?;
     assert!(rt; settings_asked(&rt, &words, "up", "out")? == rates);
-    for more in [
-        ["--colour", "16"].as_slice(),
-        ["--errors", "10001"].as_slice(),
-        ["--loss", "10001"].as_slice(),
-        ["--seed", "18446744073709551616"].as_slice(),
-        ["--colour=1", "--errors=1"].as_slice(),
-        ["--loss=1", "--color=1"].as_slice(),
+    for (first, second) in [
+        ("--colour", "16"),
+        ("--errors", "10001"),
+        ("--loss", "10001"),
+        ("--seed", "18446744073709551616"),
+        ("--colour=1", "--errors=1"),
+        ("--loss=1", "--color=1"),
     ] {
-        let words = ["dmrgate", "damage", "up", "out", more[0], more[1 % more.len()]];
-        assert!(rt; request_of(rt.alloc(), &words).is_err(), "{more:?}");
+        let words = ["dmrgate", "damage", "up", "out", first, second];
+        assert!(rt; request_of(rt.alloc(), &words).is_err(), "{first} {second}");
     }
     Ok(())
 }
