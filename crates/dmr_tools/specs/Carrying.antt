@@ -7,4 +7,4 @@ use Rattle.dmr_tools.specs.declared.carrying.Direction.TheVariants.{Import, Expo
 abbrev pub is_to_octets : Direction → Bool
 is_to_octets (Import format) = true
 is_to_octets (Export format) = false
-is_to_octets (Damage settings) = true
+is_to_octets (Damage damage seed) = true

@@ -6,12 +6,12 @@ use Rattle.clap.specs.declared.parser.matches.Found.{Found}
 use Rattle.dmr_compare.specs.Status.{trouble}
 use Rattle.dmr_files.specs.Place.{IsNamed, is_standard}
 use Rattle.dmr_lines.specs.Status.{failure}
-use Rattle.dmr_options.specs.Found.{IsFlagOf, text_of}
+use Rattle.dmr_options.specs.Found.{IsFlagOf, IsNumberOf, text_of}
 use Rattle.dmr_show.specs.declared.filter.Filter.{Filter}
 use Rattle.dmr_show.specs.declared.form.Form.{Form}
 use Rattle.dmr_show.specs.declared.form.Form.TheVariants as form_variant
 use Rattle.dmr_tools.specs.Comparison.{IsComparisonOf, shares_input}
-use Rattle.dmr_tools.specs.Damaging.{AreDamageSettings}
+use Rattle.dmr_tools.specs.Damaging.{IsDamageOf}
 use Rattle.dmr_tools.specs.Filters.{IsFilterOf, is_backwards}
 use Rattle.dmr_tools.specs.LogRequest.{AreLogSettings, ArePageSettings}
 use Rattle.dmr_tools.specs.declared.comparison.Comparison.{Comparison}
@@ -20,7 +20,7 @@ use Rattle.dmr_tools.specs.declared.request.Format.TheVariants as format_variant
 use Rattle.dmr_tools.specs.declared.request.PairPlaces.{PairPlaces}
 use Rattle.dmr_tools.specs.declared.request.Request.{Request}
 use Rattle.dmr_tools.specs.declared.request.Request.TheVariants.{Show, Backwards, Log, LogPage, LogRefused, Import, Export}
-use Rattle.dmr_tools.specs.declared.request.Request.TheVariants.{Damage, DamageRefused, Compare, SharedInput, Elsewhere}
+use Rattle.dmr_tools.specs.declared.request.Request.TheVariants.{Damage, Compare, SharedInput, Elsewhere}
 
 -- a strip where it is asked for, JSON where that alone is, and else a listing
 abbrev pub form_by : Bool → Bool → Form
@@ -61,7 +61,7 @@ abbrev pub NamesFormat : ArgMatches → Type 0
 NamesFormat given = (format : Format) × (subcommand_name_of given ≡ Some (format_name format))
 
 -- What a command with these options asks for: `show` for a listing, which is refused where it begins beyond its end; `log` for a
--- log, for its page, or for one that is refused; `damage` for a damaged recording, or for one that is refused; `compare` for a comparison, which is refused where both files would be standard
+-- log, for its page, or for one that is refused; `damage` for a recording with wrong bits; `compare` for a comparison, which is refused where both files would be standard
 -- input; `import` for a file from another format, and `export` for one in it; and any other what isn't done here.
 abbrev pub IsAskedOfTools : Option (Text × ArgMatches) → Request → Type 0
 IsAskedOfTools None (Show name form filter) = ⊥
@@ -69,8 +69,7 @@ IsAskedOfTools None Backwards = ⊥
 IsAskedOfTools None (Log name settings) = ⊥
 IsAskedOfTools None (LogPage name settings) = ⊥
 IsAskedOfTools None (LogRefused refusal) = ⊥
-IsAskedOfTools None (Damage settings places) = ⊥
-IsAskedOfTools None (DamageRefused fault) = ⊥
+IsAskedOfTools None (Damage damage seed places) = ⊥
 IsAskedOfTools None (Compare comparison) = ⊥
 IsAskedOfTools None SharedInput = ⊥
 IsAskedOfTools None (Import format places) = ⊥
@@ -89,9 +88,9 @@ IsAskedOfTools (Some command) (LogPage name settings) =
     (command.0 ≡ codes "log") × (name.now ≡ text_of (found_of command.1) (codes "uplink"))
     × ArePageSettings (found_of command.1) settings
 IsAskedOfTools (Some command) (LogRefused refusal) = command.0 ≡ codes "log"
-IsAskedOfTools (Some command) (Damage settings places) =
-    (command.0 ≡ codes "damage") × AreDamageSettings (found_of command.1) settings × ArePairPlaces (found_of command.1) places
-IsAskedOfTools (Some command) (DamageRefused fault) = command.0 ≡ codes "damage"
+IsAskedOfTools (Some command) (Damage damage seed places) =
+    (command.0 ≡ codes "damage") × IsDamageOf (found_of command.1) damage
+    × IsNumberOf 64 (found_of command.1) (codes "seed") seed × ArePairPlaces (found_of command.1) places
 IsAskedOfTools (Some command) (Compare comparison) =
     (command.0 ≡ codes "compare") × IsComparisonOf (found_of command.1) comparison × (shares_input comparison ≡ false)
 IsAskedOfTools (Some command) SharedInput =
@@ -115,7 +114,7 @@ IsShow request = ⊥
 
 -- One file is to be made of another: from another format, or in one, or with wrong bits.
 abbrev pub IsCarrying : Request → Type 0
-IsCarrying (Damage settings places) = Unit {0}
+IsCarrying (Damage damage seed places) = Unit {0}
 IsCarrying (Import format places) = Unit {0}
 IsCarrying (Export format places) = Unit {0}
 IsCarrying request = ⊥
@@ -130,7 +129,7 @@ abbrev pub IsTool : Request → Type 0
 IsTool (Show name form filter) = Unit {0}
 IsTool (Log name settings) = Unit {0}
 IsTool (LogPage name settings) = Unit {0}
-IsTool (Damage settings places) = Unit {0}
+IsTool (Damage damage seed places) = Unit {0}
 IsTool (Compare comparison) = Unit {0}
 IsTool (Import format places) = Unit {0}
 IsTool (Export format places) = Unit {0}
@@ -138,7 +137,7 @@ IsTool request = ⊥
 
 -- What is asked for is to be written to standard output, so that no line is printed there.
 abbrev pub is_to_output : Request → Bool
-is_to_output (Damage settings places) = is_standard places.output
+is_to_output (Damage damage seed places) = is_standard places.output
 is_to_output (Import format places) = is_standard places.output
 is_to_output (Export format places) = is_standard places.output
 is_to_output request = false

@@ -7,7 +7,7 @@ ghost use Rattle.dmr_tools.specs.Carrying.{is_to_octets};
 
 use crate::request::{Format, PairPlaces};
 use arrayvec::ArrayString;
-use dmr_damage::{DamageEnd, DamageSettings, Damaged, damage_recording};
+use dmr_damage::{Damage, DamageEnd, DamageSettings, Damaged, SettingsFault, damage_recording};
 use dmr_files::{
     BufferedPair, PairFault, Place, System, is_sent_to_terminal, open_buffered, write_out,
 };
@@ -26,8 +26,8 @@ pub(crate) enum Direction {
     Import(Format),
     /// From a file of a run to this format.
     Export(Format),
-    /// From a recording to one with wrong bits, by these settings.
-    Damage(DamageSettings),
+    /// From a recording to one with wrong bits, drawn by a seed.
+    Damage { damage: Damage, seed: u64 },
 }
 
 impl Direction {
@@ -36,7 +36,7 @@ impl Direction {
         ensures octets { result ≡ is_to_octets self }
     {
         match self {
-            Direction::Import(_) | Direction::Damage(_) => true,
+            Direction::Import(_) | Direction::Damage { .. } => true,
             Direction::Export(_) => false,
         }
     }
@@ -57,6 +57,8 @@ pub(crate) enum CarryFault {
     Text(LineFault),
     /// The input is no recording of an uplink.
     NotUplink,
+    /// The damage is out of its range, which the parser of the command line lets none be.
+    Settings(SettingsFault),
     /// The output can't be written.
     Write,
     /// There is no memory.
@@ -70,6 +72,12 @@ impl From<PairFault> for CarryFault {
             PairFault::Output => CarryFault::NoOutput,
             PairFault::Memory => CarryFault::Memory,
         }
+    }
+}
+
+impl From<SettingsFault> for CarryFault {
+    fn from(fault: SettingsFault) -> CarryFault {
+        CarryFault::Settings(fault)
     }
 }
 
@@ -142,6 +150,7 @@ impl fmt::Display for ToldFault<'_> {
             CarryFault::Terminal => write!(f, "{output}: standard output is a terminal"),
             CarryFault::File(fault) => write!(f, "{input}: {fault}"),
             CarryFault::Text(fault) => write!(f, "{input}: {fault}"),
+            CarryFault::Settings(fault) => write!(f, "{fault}"),
             CarryFault::NotUplink => write!(f, "{input}: not an uplink"),
             CarryFault::Write => write!(f, "{output}: write failed"),
             CarryFault::Memory => write!(f, "out of memory"),
@@ -162,7 +171,8 @@ fn carry_between<S: Source, K: Sink>(
     match direction {
         Direction::Import(Format::Text) => Ok(Done::Carried(import_text(alloc, source, sink)?)),
         Direction::Export(Format::Text) => Ok(Done::Carried(export_text(alloc, source, sink)?)),
-        Direction::Damage(settings) => {
+        Direction::Damage { damage, seed } => {
+            let settings = DamageSettings::new(damage, seed)?;
             Ok(Done::Damaged(damage_recording(&settings, source, sink)?))
         }
     }

@@ -1,11 +1,11 @@
 //! What a command line of `damage` asks for.
-ghost use Rattle.std.specs.Prelude.{◌≡◌, IfOk, codes};
+ghost use Rattle.std.specs.Prelude.{◌≡◌, codes};
 ghost use Rattle.clap.specs.Words.{found_of};
 ghost use Rattle.dmr_options.specs.Found.{IsGivenBy, IsNumberOf};
 ghost use Rattle.dmr_tools.specs.Damaging as spec;
 
 use clap::ArgMatches;
-use dmr_damage::{Damage, DamageSettings, SettingsFault};
+use dmr_damage::Damage;
 
 /// How many of ten thousand are to be damaged, where that is given.
 fn rate_of(damage: &ArgMatches<'_>, option: &str) -> Option<u16>
@@ -22,7 +22,7 @@ fn colour_of(damage: &ArgMatches<'_>) -> u8
 }
 
 /// The seed, which has a default.
-fn seed_of(damage: &ArgMatches<'_>) -> u64
+pub(crate) fn seed_of(damage: &ArgMatches<'_>) -> u64
     ensures number { IsNumberOf 64 (found_of damage.now) (codes "seed") result }
 {
     damage.get_one::<u64>("seed").unwrap_or(0)
@@ -41,14 +41,13 @@ fn damage_by(errors: Option<u16>, loss: Option<u16>, colour: u8) -> Damage
     }
 }
 
-/// The settings of a command line of `damage`, if they can be met.
-pub(crate) fn settings_of(damage: &ArgMatches<'_>) -> Result<DamageSettings, SettingsFault>
-    ensures settings { IfOk result (λ settings. spec.AreDamageSettings (found_of damage.now) settings) }
+/// The damage that a command line asks for.
+pub(crate) fn damage_of(damage: &ArgMatches<'_>) -> Damage
+    ensures damage { spec.IsDamageOf (found_of damage.now) result }
 {
-    let damage_asked = damage_by(
+    damage_by(
         rate_of(damage, "errors"),
         rate_of(damage, "loss"),
         colour_of(damage),
-    );
-    DamageSettings::new(damage_asked, seed_of(damage))
+    )
 }

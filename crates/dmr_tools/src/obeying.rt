@@ -13,7 +13,6 @@ use crate::carrying::{Direction, carry_file};
 use crate::comparing::compare_files;
 use crate::listing::{Listing, list_file};
 use crate::request::{LogRefusal, Request, request_of};
-use dmr_damage::SettingsFault;
 use dmr_files::System;
 use dmr_lines::{USAGE, line_of, print_error};
 use dmr_options::{print_answer, print_elsewhere};
@@ -32,15 +31,6 @@ fn log_refusal_text(refusal: LogRefusal) -> &'static str {
     match refusal {
         LogRefusal::Backwards => BACKWARDS,
         LogRefusal::Time => "--start is no time, as 2026-01-31T12:00:00Z",
-    }
-}
-
-/// What is told of settings of damage that are refused.
-fn damage_refusal_text(fault: SettingsFault) -> &'static str {
-    match fault {
-        SettingsFault::Colour => "--colour is over 15",
-        SettingsFault::Errors => "--errors is over 10000",
-        SettingsFault::Loss => "--loss is over 10000",
     }
 }
 
@@ -115,12 +105,6 @@ fn fulfil<S: System, K: Sink, E: Sink>(
         }
         Request::LogRefused(refusal) => print_error(err, line_of(log_refusal_text(refusal)), USAGE),
         Request::Compare(comparison) => compare_files(alloc, system, &comparison, out, err),
-        Request::DamageRefused(fault) => print_error(
-            err,
-            line_of(damage_refusal_text(fault)),
-            USAGE,
-        ),
-        Request::SharedInput => print_error(err, SHARED_INPUT, USAGE),
         Request::Elsewhere(_) => print_elsewhere(err),
     }
 }

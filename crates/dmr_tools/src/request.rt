@@ -9,9 +9,9 @@ ghost use Rattle.dmr_tools.specs.Request.{IsAskedOfTools, IsFormOf, form_by};
 ghost use Rattle.dmr_tools.specs.Request.{ArePairPlaces, IsCarriedBetween, NamesFormat};
 
 use crate::comparison::Comparison;
-use crate::damaging::settings_of;
+use crate::damaging::{damage_of, seed_of};
 use clap::{ArgMatches, Error};
-use dmr_damage::{DamageSettings, SettingsFault};
+use dmr_damage::Damage;
 use dmr_files::Place;
 use dmr_log_forms::{LogForm, LogSettings, StartTime};
 use dmr_log_page::PageSettings;
@@ -69,11 +69,10 @@ pub enum Request<'a> {
     LogRefused(LogRefusal),
     /// To write a recording with wrong bits.
     Damage {
-        settings: DamageSettings,
+        damage: Damage,
+        seed: u64,
         places: PairPlaces<'a>,
     },
-    /// To write one by settings that are refused.
-    DamageRefused(SettingsFault),
     /// To compare two files.
     Compare(Comparison<'a>),
     /// To compare standard input with itself.
@@ -264,13 +263,10 @@ fn carried_by<'a>(given: &ArgMatches<'a>) -> Option<(Format, PairPlaces<'a>)>
 fn damage_request<'a>(damage: &ArgMatches<'a>) -> Request<'a>
     ensures asked { IsAskedOfTools (Some (record { 0 = codes "damage"; 1 = damage.now })) result }
 {
-    match settings_of(damage) {
-        Ok(settings) => Request::Damage {
-            settings,
-            places: places_of(damage),
-        },
-        // Not reached, since the parser keeps each number within its range.
-        Err(fault) => Request::DamageRefused(fault),
+    Request::Damage {
+        damage: damage_of(damage),
+        seed: seed_of(damage),
+        places: places_of(damage),
     }
 }
 

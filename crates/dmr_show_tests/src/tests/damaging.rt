@@ -1,22 +1,22 @@
 //! The command line of `damage`, over a system of a few files.
 use super::carrying::{Few, expect_printed};
-use dmr_damage::{Damage, DamageSettings};
+use dmr_damage::Damage;
 use dmr_tools::{Request, request_of};
 use std::test::Fail;
 
-/// The settings that these words ask for, between these places.
-fn settings_asked(
+/// The damage and the seed that these words ask for, between these places.
+fn damage_asked(
     rt: &impl AllocGlobal,
     words: &[&str],
     input: &str,
     output: &str,
-) -> Result<DamageSettings, Fail> {
+) -> Result<(Damage, u64), Fail> {
     match request_of(rt.alloc(), words)? {
-        Request::Damage { settings, places }
-            if places.input.name() == input && places.output.name() == output =>
-        {
-            Ok(settings)
-        }
+        Request::Damage {
+            damage,
+            seed,
+            places,
+        } if places.input.name() == input && places.output.name() == output => Ok((damage, seed)),
         _ => Err(Fail::new("nothing is damaged, or another file")),
     }
 }
@@ -24,8 +24,8 @@ fn settings_asked(
 #[test]
 fn damage_that_is_asked_for(rt: HostRuntime) -> Result<(), Fail> {
     let words = ["dmrgate", "damage", "up", "-"];
-    let plain = DamageSettings::new(Damage::WithinLimits { colour: 1 }, 0)?;
-    assert!(rt; settings_asked(&rt, &words, "up", "-")? == plain);
+    let plain = (Damage::WithinLimits { colour: 1 }, 0);
+    assert!(rt; damage_asked(&rt, &words, "up", "-")? == plain);
     let words = [
         "dmrgate",
         "damage",
@@ -35,22 +35,25 @@ fn damage_that_is_asked_for(rt: HostRuntime) -> Result<(), Fail> {
         "--seed=18446744073709551615",
         "out",
     ];
-    let own = DamageSettings::new(Damage::WithinLimits { colour: 13 }, u64::MAX)?;
-    assert!(rt; settings_asked(&rt, &words, "-", "out")? == own);
+    let own = (Damage::WithinLimits { colour: 13 }, u64::MAX);
+    assert!(rt; damage_asked(&rt, &words, "-", "out")? == own);
     for (option, errors, loss) in [
         ("--errors=10000", 10_000, 0),
         ("--errors=0", 0, 0),
         ("--loss=7", 0, 7),
     ] {
         let words = ["dmrgate", "damage", "up", "out", option, "--seed", "5"];
-        let rates = DamageSettings::new(Damage::AtRate { errors, loss }, 5)?;
-        assert!(rt; settings_asked(&rt, &words, "up", "out")? == rates, "{option}");
+        let rates = (Damage::AtRate { errors, loss }, 5);
+        assert!(rt;
+            damage_asked(&rt, &words, "up", "out")? == rates,
+            "{option}"
+        );
     }
     let words = [
         "dmrgate", "damage", "up", "out", "--loss", "3", "--errors", "4",
     ];
-    let rates = DamageSettings::new(Damage::AtRate { errors: 4, loss: 3 }, 0)?;
-    assert!(rt; settings_asked(&rt, &words, "up", "out")? == rates);
+    let rates = (Damage::AtRate { errors: 4, loss: 3 }, 0);
+    assert!(rt; damage_asked(&rt, &words, "up", "out")? == rates);
     for (first, second) in [
         ("--colour", "16"),
         ("--errors", "10001"),
