@@ -93,8 +93,13 @@ fn fulfil<S: System, K: Sink, E: Sink>(
         Request::Export { format, places } => {
             carry_file(alloc, system, Direction::Export(format), places, out, err)
         }
-        Request::Damage { settings, places } => {
-            carry_file(alloc, system, Direction::Damage(settings), places, out, err)
+        Request::Damage {
+            damage,
+            seed,
+            places,
+        } => {
+            let direction = Direction::Damage { damage, seed };
+            carry_file(alloc, system, direction, places, out, err)
         }
         Request::Backwards => print_error(err, BACKWARDS, USAGE),
         Request::Log { name, settings } => {
@@ -105,6 +110,7 @@ fn fulfil<S: System, K: Sink, E: Sink>(
         }
         Request::LogRefused(refusal) => print_error(err, line_of(log_refusal_text(refusal)), USAGE),
         Request::Compare(comparison) => compare_files(alloc, system, &comparison, out, err),
+        Request::SharedInput => print_error(err, SHARED_INPUT, USAGE),
         Request::Elsewhere(_) => print_elsewhere(err),
     }
 }
