@@ -1,4 +1,4 @@
-"""Recordings with wrong bits: a run repeats the damaged one like the other, rates are drawn as protocol.md has them, and refusals."""
+"""Recordings with wrong bits: what a run makes of them, rates as protocol.md has them, files, refusals, and live."""
 
 import re
 import subprocess
@@ -101,7 +101,8 @@ def check_parts(report):
     for seed in SEEDS:
         made = damaged(report, octets, "--seed", seed)
         told = report.call("show", "-", given=made).out.decode()
-        parts |= {part for bits in re.findall(r"\[wrong: ([^]]*)\]", told) for part in re.findall(r"([A-Za-z][A-Za-z ]*) \d+", bits)}
+        for bits in re.findall(r"\[wrong: ([^]]*)\]", told):
+            parts |= set(re.findall(r"([A-Za-z][A-Za-z ]*) \d+", bits))
         report.expect(f"the strip of seed {seed}", report.call("show", "-", "--strip", given=made).out == strip)
     wanted = {"sync", "slot type", "information", "EMB", "link control"}
     report.expect("each kind of part has wrong bits", parts >= wanted, parts)

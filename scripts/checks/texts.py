@@ -453,7 +453,8 @@ def check_completions(report, top, run, slot, show, log, damage, compare, carryi
         report.expect(f"bash offers for {words}", had == wanted, had ^ wanted)
     text = (report.top / ZSH).read_text()
     begin = text.index("    run)")
-    parts = [text[:begin], *re.split(r"^    (?:slot|show|log|damage|compare|import \| export|help)\)$", text[begin:], flags=re.MULTILINE)]
+    later = r"^    (?:slot|show|log|damage|compare|import \| export|help)\)$"
+    parts = [text[:begin], *re.split(later, text[begin:], flags=re.MULTILINE)]
     names = "the program", "run", "slot", "show", "log", "damage", "compare", "import and export"
     for name, part, wanted in zip(names, parts, (top, run, slot, show, log, damage, compare, carrying)):
         report.expect(f"zsh's options of {name}", options_in(part) == wanted, options_in(part) ^ wanted)

@@ -61,8 +61,9 @@ abbrev pub NamesFormat : ArgMatches → Type 0
 NamesFormat given = (format : Format) × (subcommand_name_of given ≡ Some (format_name format))
 
 -- What a command with these options asks for: `show` for a listing, which is refused where it begins beyond its end; `log` for a
--- log, for its page, or for one that is refused; `damage` for a recording with wrong bits; `compare` for a comparison, which is refused where both files would be standard
--- input; `import` for a file from another format, and `export` for one in it; and any other what isn't done here.
+-- log, for its page, or for one that is refused; `damage` for a recording with wrong bits; `compare` for a comparison, which is
+-- refused where both files would be standard input; `import` for a file from another format, and `export` for one in it; and any
+-- other what isn't done here.
 abbrev pub IsAskedOfTools : Option (Text × ArgMatches) → Request → Type 0
 IsAskedOfTools None (Show name form filter) = ⊥
 IsAskedOfTools None Backwards = ⊥
@@ -102,7 +103,8 @@ IsAskedOfTools (Some command) (Export format places) =
     (command.0 ≡ codes "export") × IsCarriedBetween command.1 format places
 IsAskedOfTools (Some command) (Elsewhere name) =
     (command.0 ≡ codes "show" → ⊥) × (command.0 ≡ codes "log" → ⊥) × (command.0 ≡ codes "damage" → ⊥)
-    × (command.0 ≡ codes "compare" → ⊥) × (command.0 ≡ codes "import" → NamesFormat command.1 → ⊥) × (command.0 ≡ codes "export" → NamesFormat command.1 → ⊥)
+    × (command.0 ≡ codes "compare" → ⊥) × (command.0 ≡ codes "import" → NamesFormat command.1 → ⊥)
+    × (command.0 ≡ codes "export" → NamesFormat command.1 → ⊥)
     × (name.now ≡ command.0)
 
 -- A file is to be listed, or what is repeated of it.

@@ -178,8 +178,8 @@ fn carry_between<S: Source, K: Sink>(
     }
 }
 
-/// Makes the file at one place of that at the other. What is written before a fault is written out too, and that fault goes before one of
-/// writing out.
+/// Makes the file at one place of that at the other. What is written before a fault is written out too, and that fault goes before
+/// one of writing out.
 fn carry<S: System>(
     alloc: Global,
     system: &S,

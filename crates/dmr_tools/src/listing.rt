@@ -37,11 +37,11 @@ fn print_listing<F: Source, K: Sink, E: Sink>(
     requires file { F.has_failed file.old ≡ false }
     requires out { K.has_failed out.old ≡ false }
     requires err { E.has_failed err.old ≡ false }
-    ensures whole { result ≡ success → spec.IsListed listing
+    ensures whole { result ≡ success → spec.IsListingPut listing
         (F.left file.old) (F.left file.new) (K.held out.old) (K.held out.new) }
     ensures fault { result ≡ failure → K.has_failed out.new ≡ false
         → TellsFault result (K.has_failed out.new) (E.has_failed err.new) (E.held err.old) (E.held err.new) }
-    ensures part { result ≡ failure → K.has_failed out.new ≡ false → spec.IsListedInPart listing
+    ensures part { result ≡ failure → K.has_failed out.new ≡ false → spec.IsListingPutInPart listing
         (F.left file.old) (F.left file.new) (K.held out.old) (K.held out.new) }
     ensures alone { (err.new ≡ err.old)
         ⊎ TellsFault result (K.has_failed out.new) (E.has_failed err.new) (E.held err.old) (E.held err.new) }
@@ -68,11 +68,11 @@ pub(crate) fn list_file<S: System, K: Sink, E: Sink>(
 ) -> u8
     requires out { K.has_failed out.old ≡ false }
     requires err { E.has_failed err.old ≡ false }
-    ensures whole { result ≡ success → spec.IsSomeListed listing (K.held out.old) (K.held out.new) }
+    ensures whole { result ≡ success → spec.IsSomeListingPut listing (K.held out.old) (K.held out.new) }
     ensures fault { result ≡ failure → K.has_failed out.new ≡ false
         → TellsFault result (K.has_failed out.new) (E.has_failed err.new) (E.held err.old) (E.held err.new) }
     ensures part { result ≡ failure → K.has_failed out.new ≡ false
-        → spec.IsSomeListedInPart listing (K.held out.old) (K.held out.new) }
+        → spec.IsSomeListingPutInPart listing (K.held out.old) (K.held out.new) }
     ensures alone { (err.new ≡ err.old)
         ⊎ TellsFault result (K.has_failed out.new) (E.has_failed err.new) (E.held err.old) (E.held err.new) }
     ensures success { result ≡ success → err.new ≡ err.old }

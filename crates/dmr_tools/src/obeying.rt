@@ -56,7 +56,8 @@ fn fulfil<S: System, K: Sink, E: Sink>(
         → TellsFault result (K.has_failed out.new) (E.has_failed err.new) (E.held err.old) (E.held err.new) }
     ensures listing { IsShow request.entry → (err.new ≡ err.old)
         ⊎ TellsFault result (K.has_failed out.new) (E.has_failed err.new) (E.held err.old) (E.held err.new) }
-    // Where one file is made of another, one line is printed to one of the two: how much it was to the first, a fault to the second.
+    // Where one file is made of another, one line is printed to one of the two: how much it was to the first, and a fault to the
+    // second.
     ensures carried { IsCarrying request.entry → (out.new ≡ out.old) ⊎ (err.new ≡ err.old) }
     ensures carried_status { IsCarrying request.entry → result ≤ 1 }
     ensures line { IsCarrying request.entry → result ≡ success → is_to_output request.entry ≡ false
