@@ -30,6 +30,8 @@ ANSWERED = [
     ["show", "nowhere"], ["show", "long.dmri"], ["show", "long.dmri", "--json"], ["show", "long.dmri", "--strip"],
     ["log", "one.dmru"], ["log", "one.dmru", "--csv"], ["log", "one.dmru", "--json", "--llid", 1], ["log", "cut.dmru"],
     ["log", "nowhere"], ["log", "long.dmri"], ["log", "one.dmru", "--start", "now"], ["log", "--help"],
+    ["damage", "one.dmru", "-"], ["damage", "one.dmru", "made", "--errors", 500], ["damage", "cut.dmru", "made"],
+    ["damage", "long.dmri", "made"], ["damage", "nowhere", "made"], ["damage", "one.dmru", "one.dmru"], ["damage", "--help"],
     ["compare", "one.dmru", "one.dmru"], ["compare", "one.dmru", "cut.dmru"], ["compare", "long.dmri", "long.dmri"],
     ["compare", "one.dmru", "nowhere"], ["compare", "--help"],
     ["export", "text", "one.dmru", "-"], ["export", "text", "cut.dmru", "-"], ["export", "text", "long.dmri", "made"],
