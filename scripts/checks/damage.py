@@ -4,7 +4,7 @@ import re
 import subprocess
 
 from checks import recordings as it
-from checks.compare import BURST, distance, slots_of
+from checks.compare import BURST, distance, is_voice, slots_of
 from checks.pipes import OF_UPLINK, in_frames
 from checks.program import UNWRITTEN, Room
 from checks.text import expect_live
@@ -93,6 +93,11 @@ def check_samples(report):
                 report.expect(f"{folder.name}, damaged", [*room.outputs(), ran.out] == wanted, ran)
 
 
+def embedded_field(burst):
+    """The 32 bits in the middle of a burst, which a voice burst has between the halves of its EMB."""
+    return int.from_bytes(burst, "big") >> 116 & 0xFFFFFFFF
+
+
 def check_parts(report):
     """Over ten seeds each kind of part has wrong bits, and the letters of a strip stay."""
     octets = (report.top / "samples/mixed_clean/uplink.dmru").read_bytes()
@@ -104,8 +109,11 @@ def check_parts(report):
         for bits in re.findall(r"\[wrong: ([^]]*)\]", told):
             parts |= set(re.findall(r"([A-Za-z][A-Za-z ]*) \d+", bits))
         report.expect(f"the strip of seed {seed}", report.call("show", "-", "--strip", given=made).out == strip)
-    wanted = {"sync", "slot type", "information", "EMB", "link control"}
-    report.expect("each kind of part has wrong bits", parts >= wanted, parts)
+        pairs = zip(slots_of(octets, BURST), slots_of(made, BURST))
+        if any(old and is_voice(old) and embedded_field(old) != embedded_field(new) for old, new in pairs):
+            parts.add("embedded field")
+    wanted = {"sync", "slot type", "EMB", "information", "embedded field"}
+    report.expect("each kind of part has wrong bits", parts == wanted, parts)
 
 
 def check_rates(report):
