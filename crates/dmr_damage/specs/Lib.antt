@@ -1,1 +1,9 @@
+pub mod Bursts
+pub mod Counts
+pub mod Fitting
+pub mod Frames
+pub mod Lines
+pub mod Marks
+pub mod Rates
+pub mod Recordings
 pub mod Settings

@@ -1,0 +1,3 @@
+pub mod Marked
+pub mod Near
+pub mod Written
