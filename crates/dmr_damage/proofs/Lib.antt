@@ -1,3 +1,7 @@
+pub mod Behind
+pub mod Deciding
+pub mod Heard
 pub mod Marked
 pub mod Near
+pub mod Running
 pub mod Written

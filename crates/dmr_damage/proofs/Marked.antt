@@ -101,7 +101,7 @@ has_found : (bits : List Bool) (r : Option Bool) (voice : Bool) → r ≡ Some v
     → HasSync (record { side = Ms; voice = voice }) bits
 has_found bits r voice e is = subst (λ x. IfSome x (λ v. HasSync (record { side = Ms; voice = v }) bits)) e is.within
 
-other_sync : (r : Option Bool) → r ≡ Some true → r ≡ Some false → ⊥
+pub other_sync : (r : Option Bool) → r ≡ Some true → r ≡ Some false → ⊥
 other_sync r e f = cc
 
 pub by_voice : (colour : ℕ) (old new : List Bool) (r : Option Bool) → r ≡ Some true → IsSought old r → IsDamagedVoiceSync old new
@@ -129,7 +129,7 @@ not_found voice bits r e is has = let f = is.only voice has in clash f
     clash : r ≡ Some voice → ⊥
     clash f = cc
 
-one_emb : (r : Option Emb) (a b : Emb) → r ≡ Some a → r ≡ Some b → a ≡ b
+pub one_emb : (r : Option Emb) (a b : Emb) → r ≡ Some a → r ≡ Some b → a ≡ b
 one_emb r a b e f = cc
 
 pub by_emb : (colour : ℕ) (old new : List Bool) (r : Option Bool) (found : Option Emb) (emb : Emb) → r ≡ None → IsSought old r

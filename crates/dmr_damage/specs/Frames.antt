@@ -1,5 +1,6 @@
 -- Frames, damaged in their order.
-use Rattle.std.specs.Prelude.{◌≡◌, ℕ, ◌+◌, ◌-◌, ◌≤◌, List, None, All, drop, length, map, slice_index_or}
+use Rattle.std.specs.Prelude.{◌≡◌, ℕ, ◌+◌, ◌-◌, ◌<◌, ◌≤◌, List, [], None, drop, length, map, slice_index_or}
+use Rattle.std.specs.List.{AllByRecursion}
 use Rattle.dmr_record.specs.Uplink.{UplinkSlot, UplinkSlots}
 use Rattle.dmr_damage.specs.Lines.{LineState, Runs, IsDamagedLine, fresh_memory}
 use Rattle.dmr_damage.specs.Rates.{AreAtRate}
@@ -30,7 +31,8 @@ pub record IsLineBehind (colour waiting : ℕ) (line : LineState) (slots outs : 
 pub record AreLinesBehind (colour : ℕ) (lines : Lines) (frames outs : List UplinkSlots) : Type 0 where
   pub few : lines.waiting ≤ 5
   pub count : length frames ≡ length outs + lines.waiting
-  pub both : All (λ frame. length frame ≡ 2) frames
+  pub begin : lines.waiting < 5 → outs ≡ []
+  pub both : AllByRecursion (λ frame. length frame ≡ 2) frames
   pub first : IsLineBehind colour lines.waiting lines.first (slots_of 0 frames) (slots_of 0 outs)
   pub second : IsLineBehind colour lines.waiting lines.second (slots_of 1 frames) (slots_of 1 outs)
 

@@ -4,6 +4,7 @@ pub mod Fitting
 pub mod Frames
 pub mod Lines
 pub mod Marks
+pub mod Passing
 pub mod Rates
 pub mod Recordings
 pub mod Settings

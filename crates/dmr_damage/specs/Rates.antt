@@ -1,6 +1,5 @@
 -- What a slot may be written as at a rate, in 10,000.
-use Rattle.std.specs.Prelude.{◌≡◌, ℕ, ◌≤◌, List, Option, Some, None, IfSome, IsSome, length, slice_index_or}
-use Rattle.std.specs.List.{AllZip}
+use Rattle.std.specs.Prelude.{◌≡◌, ℕ, ◌≤◌, List, [], ◌∷◌, Option, Some, None, IfSome, IsSome, length, slice_index_or}
 use Rattle.dmr_record.specs.Uplink.{UplinkSlot, UplinkSlots}
 
 -- A burst is left out, or its bits are turned. Where none is to be left out it stays, and where all are, it doesn't. Where no bit is
@@ -23,4 +22,7 @@ pub record IsFrameAtRate (errors loss : ℕ) (frame out : UplinkSlots) : Type 0 
 
 -- frame by frame
 abbrev pub AreAtRate : (errors loss : ℕ) → (frames outs : List UplinkSlots) → Type 0
-AreAtRate errors loss frames outs = AllZip (IsFrameAtRate errors loss) frames outs
+AreAtRate errors loss [] [] = Unit {0}
+AreAtRate errors loss (frame ∷ frames) (out ∷ outs) = IsFrameAtRate errors loss frame out × AreAtRate errors loss frames outs
+AreAtRate errors loss [] (out ∷ outs) = ⊥
+AreAtRate errors loss (frame ∷ frames) [] = ⊥

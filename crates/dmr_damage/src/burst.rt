@@ -32,15 +32,28 @@ pub(crate) fn damaged_burst(
     requires marked { IsMarked colour mark.now (bits_of_octets burst.now) }
     ensures damaged { IsDamagedBy colour mark.now field (bits_of_octets burst.now) (bits_of_octets result) }
 {
+    damaged_bits(colour, mark, field, burst, rng).octets()
+}
+
+/// The same, as bits.
+fn damaged_bits(
+    colour: u8,
+    mark: &Mark,
+    field: Option<u32>,
+    burst: &[u8; 33],
+    rng: &mut Pcg32,
+) -> Bits<264>
+    requires marked { IsMarked colour mark.now (bits_of_octets burst.now) }
+    ensures damaged { IsDamagedBy colour mark.now field (bits_of_octets burst.now) result }
+{
     let bits = Bits::<264>::from_octets(burst);
-    let damaged = match mark {
+    match mark {
         Mark::Data(data_burst) => damaged_data(colour, &bits, data_burst, rng),
         Mark::PlaceA => damaged_a(&bits, rng),
         Mark::PlaceBToF => damaged_b_to_f(&bits, field, rng),
         Mark::Unrepeated => damaged_unrepeated(colour, burst, rng),
         Mark::Other => bits,
-    };
-    damaged.octets()
+    }
 }
 
 /// Whether the information of a data type stands in a product code.

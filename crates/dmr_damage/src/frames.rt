@@ -1,8 +1,4 @@
 //! Frames, damaged in their order.
-ghost use Rattle.std.specs.Prelude.{◌≡◌, ◌≤◌, ◌++◌, ◌∷◌, [], List, None, length, slice_index_or, IfNone, IfSome};
-ghost use Rattle.dmr_record.specs.Uplink.{IsFrame, UplinkSlots};
-ghost use Rattle.dmr_damage.specs.Frames.{AreLinesBehind, IsBehind};
-
 use crate::line::Line;
 use crate::rate::slot_at_rate;
 use crate::settings::{Damage, DamageSettings};
@@ -47,7 +43,7 @@ impl Lines {
         ensures decided { IfSome result (λ pair. (colour : ℕ) (frames outs : List UplinkSlots)
             → AreLinesBehind colour self.old frames outs
             → AreLinesBehind colour self.new (frames ++ frame.now ∷ []) (outs ++ pair.is ∷ [])
-            × (pair.was ≡ slice_index_or frames (length outs) [])) }
+            × (pair.was ≡ slice_index_or (frames ++ frame.now ∷ []) (length outs) [])) }
         ensures frame { IfSome result (λ pair. IsFrame pair.is) }
     {
         self.first.take(frame[0]);

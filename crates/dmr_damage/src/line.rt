@@ -1,11 +1,8 @@
 //! One slot of a recording, damaged within the limits.
-ghost use Rattle.std.specs.Prelude.{◌≡◌, ◌<◌, ◌++◌, ◌∷◌, [], ℕ, List, All, Option, Some, drop, length, slice_index_or, option_copied};
-ghost use Rattle.dmr_bits.specs.Bits.{bits_of_octets};
+ghost use Rattle.std.specs.Prelude.{◌≡◌, ◌++◌, ◌∷◌, [], ℕ, List, Option, Some, None, drop, length, slice_index_or};
 ghost use Rattle.dmr_hearing.specs.Fit.{IsFitHeard};
 ghost use Rattle.dmr_hearing.specs.Hearing.{Hears};
 ghost use Rattle.dmr_hearing.specs.declared.heard.Heard.{Heard as HeardRecord};
-ghost use Rattle.dmr_link.specs.declared.full_lc.FullLc.{FullLc as FullLcRecord};
-ghost use Rattle.dmr_voice.specs.Carried.{IsCarried};
 ghost use Rattle.dmr_damage.specs.Bursts.{IsDamagedSlot};
 ghost use Rattle.dmr_damage.specs.Fitting.{IsFitCarried};
 ghost use Rattle.dmr_damage.specs.Lines.{AreFieldsBehind, AreFieldsBehindA};
@@ -66,6 +63,29 @@ fn moved<T: Copy>(window: &[T; PLACES], next: T) -> [T; PLACES]
     [second, third, fourth, fifth, sixth, next]
 }
 
+/// What a slot is heard as.
+fn heard_in(slot: &Option<[u8; 33]>, colour: u8) -> Heard
+    ensures heard { Hears colour slot.now result }
+    ensures fit { IsFitHeard result }
+{
+    hear(slot.as_ref(), colour)
+}
+
+/// What the first of six places is heard as.
+fn first_heard(window: &[Heard; PLACES]) -> Heard
+    ensures first { (other : HeardRecord) → slice_index_or window.now 0 other ≡ result }
+{
+    window[0]
+}
+
+/// The first of six places.
+fn first_slot(window: &[Option<[u8; 33]>; PLACES]) -> Option<[u8; 33]>
+    ensures first { result ≡ slice_index_or window.now 0 None }
+    ensures six { length window.now ≡ 6 }
+{
+    window[0]
+}
+
 /// What the next four fields are written as, a place later.
 fn moved_on(fields: &[Option<u32>; 4]) -> [Option<u32>; 4]
     ensures moved { result ≡ spec.moved_on fields.now }
@@ -83,6 +103,21 @@ fn fields_carrying(link_control: &FullLc, rng: &mut Pcg32) -> [Option<u32>; 4]
     [Some(b), Some(c), Some(d), Some(e)]
 }
 
+/// What the next four fields are written as, behind a place A.
+fn fields_behind_a(
+    carried: Option<FullLc>,
+    before: &[Option<u32>; 4],
+    rng: &mut Pcg32,
+) -> [Option<u32>; 4]
+    requires fit { IsFitCarried carried }
+    ensures fields { AreFieldsBehindA carried before.now result }
+{
+    match carried {
+        Some(link_control) => fields_carrying(&link_control, rng),
+        None => moved_on(before),
+    }
+}
+
 /// What the next four fields are written as, behind a place for which this is repeated.
 fn fields_behind(
     said: &VoiceOut,
@@ -93,14 +128,11 @@ fn fields_behind(
     requires fit { IsFitCarried carried }
     ensures fields { AreFieldsBehind said.now carried before.now result }
 {
-    match (said, carried) {
-        (
-            VoiceOut::Repeat {
-                burst: Burst::VoiceSync { .. },
-                ..
-            },
-            Some(link_control),
-        ) => fields_carrying(&link_control, rng),
+    match said {
+        VoiceOut::Repeat {
+            burst: Burst::VoiceSync { .. },
+            ..
+        } => fields_behind_a(carried, before, rng),
         _ => moved_on(before),
     }
 }
@@ -149,7 +181,7 @@ impl Line {
     pub(crate) fn take(&mut self, slot: Option<[u8; 33]>)
         ensures taken { self.new ≡ record self.old { slots = drop 1 self.old.slots ++ slot ∷ [] } }
     {
-        let heard = hear(slot.as_ref(), self.colour);
+        let heard = heard_in(&slot, self.colour);
         self.heard = moved(&self.heard, heard);
         self.slots = moved(&self.slots, slot);
     }
@@ -158,7 +190,7 @@ impl Line {
     pub(crate) fn oldest(&self) -> Option<[u8; 33]>
         ensures oldest { result ≡ slice_index_or self.now.slots 0 None }
     {
-        self.slots[0]
+        first_slot(&self.slots)
     }
 
     /// Decides the oldest slot, and answers what it is written as.
@@ -168,7 +200,8 @@ impl Line {
         ensures colour { self.new.colour ≡ self.old.colour }
         ensures slots { self.new.slots ≡ self.old.slots }
     {
-        let here = self.heard[0];
+        let slot = first_slot(&self.slots);
+        let here = first_heard(&self.heard);
         let carried = carried_behind(self.colour, &self.heard);
         let said = self.track.step(&self.heard);
         let damaged = damaged_slot(
@@ -176,7 +209,7 @@ impl Line {
             &here,
             &said,
             self.fields[0],
-            &self.slots[0],
+            &slot,
             &mut self.rng,
         );
         self.fields = fields_behind(&said, carried, &self.fields, &mut self.rng);

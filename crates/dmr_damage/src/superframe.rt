@@ -39,7 +39,8 @@ pub(crate) fn carried_behind(colour: u8, window: &[Heard; 6]) -> Option<FullLc>
     ensures carried { IsCarried colour (drop 1 window.now) result }
     ensures fit { IsFitCarried result }
 {
-    carried(colour, &window[1..])
+    let places = &window[..];
+    carried(colour, &places[1..])
 }
 
 /// The four fields that carry a link control.
@@ -80,12 +81,21 @@ fn turned_rows(bits: &Bits<128>, rng: &mut Pcg32) -> Bits<128>
 {
     let mut found = *bits;
     for row in 0..8usize {
-        if happens(rng, 7, 10) {
-            let column = below(rng, 16) as usize;
-            turn_cell(&mut found, row, column);
-        }
+        turn_one(&mut found, row, rng);
     }
     found
+}
+
+/// Turns one bit of a row, or none.
+fn turn_one(bits: &mut Bits<128>, row_number: usize, rng: &mut Pcg32)
+    requires inside { row_number < 8 }
+    ensures kept { (r : ℕ) → r < 8 → r ≢ row_number → row bits.new r ≡ row bits.old r }
+    ensures near { distance (row bits.old row_number) (row bits.new row_number) ≤ 1 }
+{
+    if happens(rng, 7, 10) {
+        let column = below(rng, 16) as usize;
+        turn_cell(bits, row_number, column);
+    }
 }
 
 /// Turns the bit of a cell.
