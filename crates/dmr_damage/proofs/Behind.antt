@@ -64,20 +64,20 @@ pub lines_decide : (colour : ℕ) (lines new : Lines) (one other : LineState) (f
     × (was_first ∷ was_second ∷ [] ≡ get_or (frames ++ frame ∷ []) (length outs) [])
 lines_decide colour lines new one other frames outs frame first second was_first was_second wait two same next_first next_second
     oldest_first oldest_second is = (
-  record {
-    few = omega (arith, five, same);
-    count = length-append frames (frame ∷ []) ∙ (omega (arith, is.count, same, length-append outs ((first ∷ second ∷ []) ∷ [])));
-    begin = λ h. absurd (omega (arith, five, same));
-    both = both;
-    first = rw (same, five, slots_more 0 frames frame, slots_more 0 outs (first ∷ second ∷ []))
-        (line_decides colour lines.first one new.first (slots_of 0 frames) (slots_of 0 outs) (get_or frame 0 None) first next_first
-        line_first);
-    second = rw (same, five, slots_more 1 frames frame, slots_more 1 outs (first ∷ second ∷ []))
-        (line_decides colour lines.second other new.second (slots_of 1 frames) (slots_of 1 outs) (get_or frame 1 None) second
-        next_second line_second);
-  },
-  whole,
-)
+      record {
+        few = omega (arith, five, same);
+        count = length-append frames (frame ∷ []) ∙ (omega (arith, is.count, same, length-append outs ((first ∷ second ∷ []) ∷ [])));
+        begin = λ h. absurd (omega (arith, five, same));
+        both = both;
+        first = rw (same, five, slots_more 0 frames frame, slots_more 0 outs (first ∷ second ∷ []))
+            (line_decides colour lines.first one new.first (slots_of 0 frames) (slots_of 0 outs) (get_or frame 0 None) first next_first
+            line_first);
+        second = rw (same, five, slots_more 1 frames frame, slots_more 1 outs (first ∷ second ∷ []))
+            (line_decides colour lines.second other new.second (slots_of 1 frames) (slots_of 1 outs) (get_or frame 1 None) second
+            next_second line_second);
+      },
+      whole,
+    )
   where
     five : lines.waiting ≡ 5
     five = omega (arith, is.few, wait)

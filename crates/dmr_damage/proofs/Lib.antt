@@ -3,5 +3,6 @@ pub mod Deciding
 pub mod Heard
 pub mod Marked
 pub mod Near
+pub mod Passed
 pub mod Running
 pub mod Written

@@ -38,7 +38,7 @@ pub word_of : (bits field : List Bool) (r : Option (List Bool)) (word : List Boo
     → IfSome r (λ w. IsGolay20 w × (distance w field ≤ 3)) → HasSlotType (slot_type_of word) bits
 word_of bits field r word e is within =
     let found : IsGolay20 word × (distance word field ≤ 3) =
-        subst (λ x. IfSome x (λ w. IsGolay20 w × (distance w field ≤ 3))) is within in
+    subst (λ x. IfSome x (λ w. IsGolay20 w × (distance w field ≤ 3))) is within in
     (word, found.0, subst (λ f. distance word f ≤ 3) e found.1, refl)
 
 -- ---- the information of a data burst

@@ -65,12 +65,7 @@ fn is_in_product(kind: u8) -> bool
 }
 
 /// A data burst that was heard so.
-fn damaged_data(
-    colour: u8,
-    bits: &Bits<264>,
-    data_burst: &DataBurst,
-    rng: &mut Pcg32,
-) -> Bits<264>
+fn damaged_data(colour: u8, bits: &Bits<264>, data_burst: &DataBurst, rng: &mut Pcg32) -> Bits<264>
     requires heard { IsHeardData colour data_burst.now bits.now }
     ensures damaged { IsDamagedData colour data_burst.now.kind data_burst.now.information result }
 {

@@ -35,7 +35,6 @@ pub enum DamageEnd {
 }
 
 /// Writes both slots of a frame.
-#[tactic(auto, using(crate::proofs::Torn::tears_after, crate::proofs::Torn::tears_more))]
 fn write_frame<K: Sink>(sink: &mut K, frame: &Frame) -> Result<(), RecordFault>
     requires well { K.has_failed sink.old ≡ false }
     ensures frame { OnOk result (Appends (K.held sink.old) (K.held sink.new) (frame_octets frame.now)) }
@@ -43,7 +42,9 @@ fn write_frame<K: Sink>(sink: &mut K, frame: &Frame) -> Result<(), RecordFault>
     ensures failed { OnErr result (K.has_failed sink.new ≡ true) }
     ensures torn { OnErr result (Tears (K.held sink.old) (K.held sink.new) (frame_octets frame.now)) }
 {
-    write_uplink_slot(sink, frame[0])?;
+    if let Err(fault) = write_uplink_slot(sink, frame[0]) {
+        return Err(fault);
+    }
     write_uplink_slot(sink, frame[1])
 }
 
@@ -74,7 +75,9 @@ fn pass<K: Sink>(
     match damager.take(frame) {
         None => Ok(()),
         Some(pair) => {
-            write_frame(sink, &pair.is)?;
+            if let Err(fault) = write_frame(sink, &pair.is) {
+                return Err(fault);
+            }
             counts.count_frame(&pair.was, &pair.is);
             Ok(())
         }
@@ -124,7 +127,9 @@ fn pass_all<S: Source, K: Sink>(
             Ok(None) => return Ok(Reached::End),
             Err(fault) => return Ok(Reached::Fault(fault)),
         };
-        pass(damager, counts, &frame, sink)?;
+        if let Err(fault) = pass(damager, counts, &frame, sink) {
+            return Err(fault);
+        }
         frames += 1;
         octet += frame_length(&frame);
     }
@@ -151,7 +156,9 @@ fn pass_rest<K: Sink>(
     ensures failed { OnErr result (K.has_failed sink.new ≡ true) }
 {
     for _past in 0..damager.rest() {
-        pass(damager, counts, &SILENCE, sink)?;
+        if let Err(fault) = pass(damager, counts, &SILENCE, sink) {
+            return Err(fault);
+        }
     }
     Ok(())
 }
@@ -179,10 +186,11 @@ fn damage_frames<S: Source, K: Sink>(
 {
     let mut damager = Damager::new(settings);
     let mut counts = Damaged::none();
-    let Ok(reached) = pass_all(source, &mut damager, &mut counts, sink) else {
-        return Err(DamageEnd::Output);
+    let reached = match pass_all(source, &mut damager, &mut counts, sink) {
+        Ok(reached) => reached,
+        Err(_) => return Err(DamageEnd::Output),
     };
-    if pass_rest(&mut damager, &mut counts, sink).is_err() {
+    if let Err(_) = pass_rest(&mut damager, &mut counts, sink) {
         return Err(DamageEnd::Output);
     }
     match reached {
@@ -231,7 +239,7 @@ pub fn damage_recording<S: Source, K: Sink>(
             }));
         }
     }
-    if write_head(sink, UPLINK_MAGIC).is_err() {
+    if let Err(_) = write_head(sink, UPLINK_MAGIC) {
         return Err(DamageEnd::Output);
     }
     damage_frames(settings, source, sink)

@@ -26,8 +26,7 @@ fn carried(colour: u8, ahead: &[Heard]) -> Option<FullLc>
             if b.has_lcss(colour, lcss::FIRST_FRAGMENT)
                 && c.has_lcss(colour, lcss::CONTINUATION_FRAGMENT)
                 && d.has_lcss(colour, lcss::CONTINUATION_FRAGMENT)
-                && e.has_lcss(colour, lcss::LAST_FRAGMENT) =>
-        {
+                && e.has_lcss(colour, lcss::LAST_FRAGMENT) => {
             read_fields(&[b.embedded, c.embedded, d.embedded, e.embedded])
         }
         _ => None,

@@ -9,6 +9,9 @@ loop-turn-init g c = record { near = omega (arith, distance_same c.args.bits.now
 pub loop-turn-preserved : goal.loop-turn-preserved
 loop-turn-preserved g c =
     rw c.turn.ensures.value (record {
-      near = omega (arith, c.loop-turn.invariant.near,
-          near_set c.args.bits.now c.loop-turn.found c.below.result (not (get_or c.loop-turn.found c.below.result false)));
+      near = omega (
+        arith,
+        c.loop-turn.invariant.near,
+        near_set c.args.bits.now c.loop-turn.found c.below.result (not (get_or c.loop-turn.found c.below.result false)),
+      );
     })

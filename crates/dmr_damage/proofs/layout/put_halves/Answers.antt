@@ -5,17 +5,17 @@ use Rattle.dmr_damage.proofs.layout.put_halves.Goals as goal
 pub returns : goal.returns
 returns g c =
     let is : IsPutTwice c.args.bits.now c.put_part.new.self c.put_part-2.new.self c.args.field.now c.args.at c.args.again c.args.half =
-        record {
-          first = c.put_part.ensures.value;
-          second = c.put_part-2.ensures.value;
-          long = c.put_part.ensures.length;
-          kept = c.put_part-2.ensures.length;
-          wide = c.put_part.ensures.other_length ∙ sym c.requires.whole;
-          first_wide = omega (arith, c.put_part.ensures.count);
-          second_wide = omega (arith, c.put_part-2.ensures.count);
-          order = c.requires.order;
-          inside = c.requires.inside;
-        } in
+    record {
+      first = c.put_part.ensures.value;
+      second = c.put_part-2.ensures.value;
+      long = c.put_part.ensures.length;
+      kept = c.put_part-2.ensures.length;
+      wide = c.put_part.ensures.other_length ∙ sym c.requires.whole;
+      first_wide = omega (arith, c.put_part.ensures.count);
+      second_wide = omega (arith, c.put_part-2.ensures.count);
+      order = c.requires.order;
+      inside = c.requires.inside;
+    } in
     record {
       written = twice_written _ _ _ _ _ _ _ is;
       front = twice_front _ _ _ _ _ _ _ is;

@@ -7,7 +7,7 @@ use Rattle.dmr_damage.proofs.layout.write_slot_type.Goals as goal
 pub returns-in-Some-clause-unread : goal.returns-in-Some-clause-unread
 returns-in-Some-clause-unread c none =
     let read = word_of c.args.bits.now c.halves.result c.decode.result c.in-Some.word c.halves.ensures.value c.in-Some.is
-        c.decode.ensures.within in
+    c.decode.ensures.within in
     absurd (none (slot_type_of c.in-Some.word) read)
 
 pub returns-in-Some-clause-sync : goal.returns-in-Some-clause-sync

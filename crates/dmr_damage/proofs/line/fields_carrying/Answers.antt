@@ -11,9 +11,11 @@ four (a ∷ b ∷ c ∷ d ∷ []) e = refl
 four (a ∷ b ∷ c ∷ d ∷ f ∷ more) e = absurd (omega arith)
 
 pub returns : goal.returns
-returns c = record { fields = λ before. (
-      c.turned_fields.result,
-      c.turned_fields.ensures.four,
-      c.turned_fields.ensures.received,
-      four c.turned_fields.result c.turned_fields.ensures.four,
-    ) }
+returns c = record {
+  fields = λ before. (
+    c.turned_fields.result,
+    c.turned_fields.ensures.four,
+    c.turned_fields.ensures.received,
+    four c.turned_fields.result c.turned_fields.ensures.four,
+  );
+}

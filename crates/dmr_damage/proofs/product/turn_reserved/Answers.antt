@@ -5,5 +5,7 @@ use Rattle.dmr_damage.proofs.product.turn_reserved.Goals as goal
 
 pub returns : goal.returns
 returns c =
-    record { kept = λ d hd. ap (λ b. column b d) c.turn.ensures.value
-        ∙ column_reserved c.args.bits.now d (not (get_or c.args.bits.now 0 false)) hd }
+    record {
+      kept = λ d hd. ap (λ b. column b d) c.turn.ensures.value
+          ∙ column_reserved c.args.bits.now d (not (get_or c.args.bits.now 0 false)) hd;
+    }

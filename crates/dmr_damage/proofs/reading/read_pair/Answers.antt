@@ -10,12 +10,11 @@ pub returns-in-Err-read_uplink_slot-clause-fault : goal.returns-in-Err-read_upli
 returns-in-Err-read_uplink_slot-clause-fault g c =
     let slot = c.in-Ok-Some.slot in
     let first : (2 * c.args.frames < uplink_slot_limit) × IsSilenceOrBurst slot
-        × Consumes (g.S.Source.left c.args.source.now) (g.S.Source.left c.read_uplink_slot.new.source) (slot_octets slot) =
-        subst (λ x. IfSome x (λ s. (2 * c.args.frames < uplink_slot_limit) × IsSilenceOrBurst s
-        × Consumes (g.S.Source.left c.args.source.now) (g.S.Source.left c.read_uplink_slot.new.source) (slot_octets s)))
-        c.in-Ok-Some.field-0-is c.in-Ok-Some.ensures.slot in
-    let second = c.in-Err-read_uplink_slot.ensures.fault in
-    (
+    × Consumes (g.S.Source.left c.args.source.now) (g.S.Source.left c.read_uplink_slot.new.source) (slot_octets slot) =
+    subst (λ x. IfSome x (λ s. (2 * c.args.frames < uplink_slot_limit) × IsSilenceOrBurst s
+    × Consumes (g.S.Source.left c.args.source.now) (g.S.Source.left c.read_uplink_slot.new.source) (slot_octets s)))
+    c.in-Ok-Some.field-0-is c.in-Ok-Some.ensures.slot in
+    let second = c.in-Err-read_uplink_slot.ensures.fault in (
       slot_octets slot ++ second.0,
       Consumes-trans _ _ _ (slot_octets slot) second.0 first.2 second.1,
       record {
