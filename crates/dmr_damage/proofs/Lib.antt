@@ -1,3 +1,4 @@
+pub mod AtRate
 pub mod Behind
 pub mod Deciding
 pub mod Heard

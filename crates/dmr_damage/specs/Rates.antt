@@ -1,11 +1,11 @@
 -- What a slot may be written as at a rate, in 10,000.
-use Rattle.std.specs.Prelude.{◌≡◌, ℕ, ◌≤◌, List, [], ◌∷◌, Option, Some, None, IfSome, IsSome, length, slice_index_or}
+use Rattle.std.specs.Prelude.{◌≡◌, ◌≢◌, ℕ, ◌≤◌, List, [], ◌∷◌, Some, None, IfSome, length, slice_index_or}
 use Rattle.dmr_record.specs.Uplink.{UplinkSlot, UplinkSlots}
 
 -- A burst is left out, or its bits are turned. Where none is to be left out it stays, and where all are, it doesn't. Where no bit is
 -- to be turned, it stays octet for octet.
 pub record IsBurstAtRate (errors loss : ℕ) (burst : List ℕ) (out : UplinkSlot) : Type 0 where
-  pub kept : loss ≡ 0 → IsSome out
+  pub kept : loss ≡ 0 → out ≢ None
   pub lost : 10000 ≤ loss → out ≡ None
   pub whole : IfSome out (λ damaged. length damaged ≡ 33)
   pub same : errors ≡ 0 → IfSome out (λ damaged. damaged ≡ burst)
