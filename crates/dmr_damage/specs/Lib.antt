@@ -1,1 +1,10 @@
+pub mod Bursts
+pub mod Counts
+pub mod Fitting
+pub mod Frames
+pub mod Lines
+pub mod Marks
+pub mod Passing
+pub mod Rates
+pub mod Recordings
 pub mod Settings

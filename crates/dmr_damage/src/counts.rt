@@ -1,6 +1,6 @@
 //! What damaging a recording did.
-ghost use Rattle.std.specs.Prelude.{◌≡◌, ◌+◌, ◌*◌, ◌<◌, ◌≤◌, ◌^◌, option_copied};
-ghost use Rattle.dmr_damage.specs.Counts.{counted_slot, IsFewAfter};
+ghost use Rattle.std.specs.Prelude.{◌≡◌, ◌*◌, ◌+◌, ◌<◌, ◌≤◌};
+ghost use Rattle.dmr_bits.specs.Bits.{bits_of_octets, distance};
 
 use dmr_bits::Bits;
 use std::fmt;
@@ -38,13 +38,20 @@ impl fmt::Display for Damaged {
 }
 
 /// In how many bits two bursts differ.
-fn distance_between(was: &[u8; 33], is: &[u8; 33]) -> u32 {
+fn distance_between(was: &[u8; 33], is: &[u8; 33]) -> u32
+    ensures value { result ≡ distance (bits_of_octets was.now) (bits_of_octets is.now) }
+    ensures bound { result ≤ 264 }
+{
     Bits::<264>::from_octets(was).distance(&Bits::<264>::from_octets(is)) as u32
 }
 
 impl Damaged {
+    ghost use Rattle.dmr_damage.specs.Counts.{counted_frame, counted_slot, counted_turned, none_counted, IsFew};
+
     /// Before the first frame.
-    pub(crate) fn none() -> Damaged {
+    pub(crate) fn none() -> Damaged
+        ensures value { result ≡ none_counted }
+    {
         Damaged {
             frames: 0,
             bursts: 0,
@@ -54,26 +61,49 @@ impl Damaged {
         }
     }
 
-    /// With what was done to a slot.
-    fn count_slot(&mut self, was: &Option<[u8; 33]>, is: &Option<[u8; 33]>) {
-        let Some(was) = was else {
-            return;
-        };
+    /// Counts a burst of which so many bits were turned.
+    fn count_turned(&mut self, turned: u32, slots: u32)
+        requires few { IsFew slots self.old }
+        requires slots { slots < 4194304 }
+        requires turned { turned ≤ 264 }
+        ensures value { self.new ≡ counted_turned self.old turned }
+        ensures few { IsFew (slots + 1) self.new }
+    {
         self.bursts += 1;
-        match is {
-            None => self.silenced += 1,
-            Some(is) => {
-                let turned = distance_between(was, is);
-                self.changed += u32::from(turned > 0);
-                self.bits += turned;
+        if turned > 0 {
+            self.changed += 1;
+        }
+        self.bits += turned;
+    }
+
+    /// Counts what was done to a slot, behind so many slots.
+    fn count_slot(&mut self, was: &Option<[u8; 33]>, is: &Option<[u8; 33]>, slots: u32)
+        requires few { IsFew slots self.old }
+        requires slots { slots < 4194304 }
+        ensures value { self.new ≡ counted_slot self.old was.now is.now }
+        ensures few { IsFew (slots + 1) self.new }
+    {
+        match (was, is) {
+            (None, _) => {}
+            (Some(_), None) => {
+                self.bursts += 1;
+                self.silenced += 1;
             }
+            (Some(was), Some(is)) => self.count_turned(distance_between(was, is), slots),
         }
     }
 
-    /// With what was done to a frame.
-    pub(crate) fn count_frame(&mut self, was: &[Option<[u8; 33]>; 2], is: &[Option<[u8; 33]>; 2]) {
+    /// Counts what was done to a frame.
+    pub(crate) fn count_frame(&mut self, was: &[Option<[u8; 33]>; 2], is: &[Option<[u8; 33]>; 2])
+        requires few { IsFew (2 * self.old.frames) self.old }
+        requires frames { self.old.frames < 2000000 }
+        ensures value { self.new ≡ counted_frame self.old was.now is.now }
+        ensures few { IsFew (2 * self.new.frames) self.new }
+        ensures frames { self.new.frames ≡ self.old.frames + 1 }
+    {
+        let slots = 2 * self.frames;
         self.frames += 1;
-        self.count_slot(&was[0], &is[0]);
-        self.count_slot(&was[1], &is[1]);
+        self.count_slot(&was[0], &is[0], slots);
+        self.count_slot(&was[1], &is[1], slots + 1);
     }
 }

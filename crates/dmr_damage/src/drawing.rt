@@ -1,5 +1,5 @@
 //! What is drawn.
-ghost use Rattle.std.specs.Prelude.{◌≡◌, ◌<◌, ◌≤◌, true, false, length};
+ghost use Rattle.std.specs.Prelude.{◌≡◌, ◌<◌, ◌≤◌, true, false, not, length, slice_index_or, slice_set};
 ghost use Rattle.dmr_bits.specs.Bits.{distance};
 
 use dmr_bits::Bits;
@@ -29,7 +29,6 @@ pub(crate) fn turned<const N: usize>(bits: &Bits<N>, most: u32, rng: &mut Pcg32)
     requires capacity { N ≤ 320 }
     requires few { most < 320 }
     ensures near { distance bits.now result ≤ most }
-    ensures length { length result ≡ N }
 {
     let mut found = *bits;
     let count = below(rng, most + 1);
@@ -42,6 +41,8 @@ pub(crate) fn turned<const N: usize>(bits: &Bits<N>, most: u32, rng: &mut Pcg32)
 /// Turns the bit at a place.
 pub(crate) fn turn<const N: usize>(bits: &mut Bits<N>, place: usize)
     requires inside { place < N }
+    ensures value { bits.new ≡ slice_set bits.old place (not (slice_index_or bits.old place false)) }
+    ensures length { length bits.old ≡ N }
 {
     let bit = bits.get(place);
     bits.set(place, !bit);

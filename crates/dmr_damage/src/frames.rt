@@ -32,8 +32,20 @@ pub struct Lines {
 }
 
 impl Lines {
+    ghost use Rattle.std.specs.Prelude.{◌≡◌, ◌++◌, ◌∷◌, [], ℕ, List, length, slice_index_or, IfNone, IfSome};
+    ghost use Rattle.dmr_record.specs.Uplink.{IsFrame, UplinkSlots};
+    ghost use Rattle.dmr_damage.specs.Frames.{AreLinesBehind};
+
     /// Takes a frame, and answers the frame that is decided then, where five wait behind it.
-    fn take(&mut self, frame: &Frame) -> Option<Pair> {
+    fn take(&mut self, frame: &Frame) -> Option<Pair>
+        ensures waits { IfNone result ((colour : ℕ) (frames outs : List UplinkSlots) → AreLinesBehind colour self.old frames outs
+            → AreLinesBehind colour self.new (frames ++ frame.now ∷ []) outs) }
+        ensures decided { IfSome result (λ pair. (colour : ℕ) (frames outs : List UplinkSlots)
+            → AreLinesBehind colour self.old frames outs
+            → AreLinesBehind colour self.new (frames ++ frame.now ∷ []) (outs ++ pair.is ∷ [])
+            × (pair.was ≡ slice_index_or (frames ++ frame.now ∷ []) (length outs) [])) }
+        ensures frame { IfSome result (λ pair. IsFrame pair.is) }
+    {
         self.first.take(frame[0]);
         self.second.take(frame[1]);
         if self.waiting < AHEAD {
@@ -61,8 +73,15 @@ pub enum Damager {
 }
 
 impl Damager {
+    ghost use Rattle.std.specs.Prelude.{◌≡◌, ◌++◌, ◌∷◌, [], List, length, slice_index_or, IfNone, IfSome};
+    ghost use Rattle.dmr_record.specs.Uplink.{IsFrame, UplinkSlots};
+    ghost use Rattle.dmr_damage.specs.Frames.{IsBehind, rest_of};
+    ghost use Rattle.dmr_damage.specs.declared.settings.Damage.{Damage as DamageRecord};
+
     /// By these settings, before the first frame.
-    pub(crate) fn new(settings: &DamageSettings) -> Damager {
+    pub(crate) fn new(settings: &DamageSettings) -> Damager
+        ensures fresh { IsBehind settings.now.damage result [] [] }
+    {
         let seed = settings.seed();
         match settings.damage() {
             Damage::WithinLimits { colour } => Damager::Limits(Lines {
@@ -80,7 +99,16 @@ impl Damager {
     }
 
     /// Takes a frame, and answers the frame that is decided then, where one is.
-    pub(crate) fn take(&mut self, frame: &Frame) -> Option<Pair> {
+    pub(crate) fn take(&mut self, frame: &Frame) -> Option<Pair>
+        ensures waits { IfNone result ((damage : DamageRecord) (frames outs : List UplinkSlots) → IsBehind damage self.old frames outs
+            → IsBehind damage self.new (frames ++ frame.now ∷ []) outs) }
+        ensures decided { IfSome result (λ pair. (damage : DamageRecord) (frames outs : List UplinkSlots)
+            → IsBehind damage self.old frames outs
+            → IsBehind damage self.new (frames ++ frame.now ∷ []) (outs ++ pair.is ∷ [])
+            × (pair.was ≡ slice_index_or (frames ++ frame.now ∷ []) (length outs) [])) }
+        ensures frame { IfSome result (λ pair. IsFrame pair.is) }
+        ensures rest { rest_of self.new ≡ rest_of self.old }
+    {
         match self {
             Damager::Limits(lines) => lines.take(frame),
             Damager::Rate {
@@ -99,7 +127,9 @@ impl Damager {
     }
 
     /// How many silent frames it takes until all are decided.
-    pub(crate) fn rest(&self) -> u8 {
+    pub(crate) fn rest(&self) -> u8
+        ensures value { result ≡ rest_of self.now }
+    {
         match self {
             Damager::Limits(_) => AHEAD,
             Damager::Rate { .. } => 0,

@@ -43,6 +43,7 @@ mod burst;
 mod counts;
 mod drawing;
 mod frames;
+pub mod laws;
 mod layout;
 mod line;
 mod mark;

@@ -1,4 +1,7 @@
-//! What is damaged in a burst.
+//! What a burst counts as.
+ghost use Rattle.std.specs.Prelude.{◌≡◌};
+ghost use Rattle.dmr_damage.specs.Marks as spec;
+
 use dmr_burst::Burst;
 use dmr_hearing::{DataBurst, Heard};
 use dmr_voice::VoiceOut;
@@ -19,7 +22,9 @@ pub enum Mark {
 }
 
 /// What a burst counts as that is heard so, where this is repeated for its slot.
-pub(crate) fn mark_of(colour: u8, heard: &Heard, said: &VoiceOut) -> Mark {
+pub(crate) fn mark_of(colour: u8, heard: &Heard, said: &VoiceOut) -> Mark
+    ensures mark { result ≡ spec.mark_of colour heard.now said.now }
+{
     match said {
         VoiceOut::Nothing => Mark::Unrepeated,
         VoiceOut::Repeat { burst, .. } => match burst {

@@ -1,4 +1,18 @@
 //! A recording, damaged from its head to its end.
+ghost use Rattle.std.specs.Prelude.{◌≡◌, ◌+◌, ◌*◌, ◌<◌, ◌≤◌, ◌++◌, ◌∷◌, [], ℕ, List, Option, false, true, length, replicate};
+ghost use Rattle.std.specs.Prelude.{IfOk, IfErr, OnOk, OnErr};
+ghost use Rattle.std.specs.Io.KnownBytes.{Appends, Consumes, IsAtEnd};
+ghost use Rattle.std.specs.List.{AllByRecursion};
+ghost use Rattle.dmr_record.specs.Devices.{Tears};
+ghost use Rattle.dmr_record.specs.Faults.{is_of_end, is_device_fault};
+ghost use Rattle.dmr_record.specs.Uplink.{IsFrame, UplinkSlots, frame_octets, frames_octets, uplink_file};
+ghost use Rattle.dmr_damage.specs.Counts.{IsFew, none_counted};
+ghost use Rattle.dmr_damage.specs.Frames.{rest_of};
+ghost use Rattle.dmr_damage.specs.Passing.{IfFault, IsPassed, IsReached, IsPassedTorn, IsFrontTorn, silent_frame, IsBehindHead};
+ghost use Rattle.dmr_damage.specs.Passing.{IsFaultBehind, IsTornBehind, IsWholeBehind};
+ghost use Rattle.dmr_damage.specs.Recordings.{IfOther, IfRecording, IfUnwritten, IsAtFault, IsDamagedWhole, IsOfOtherFormat, IsTorn};
+ghost use Rattle.dmr_damage.specs.declared.settings.Damage.{Damage as DamageRecord};
+
 use crate::counts::Damaged;
 use crate::frames::{Damager, Frame, SILENCE};
 use crate::reading::{frame_length, read_pair};
@@ -21,8 +35,16 @@ pub enum DamageEnd {
 }
 
 /// Writes both slots of a frame.
-fn write_frame<K: Sink>(sink: &mut K, frame: &Frame) -> Result<(), RecordFault> {
-    write_uplink_slot(sink, frame[0])?;
+fn write_frame<K: Sink>(sink: &mut K, frame: &Frame) -> Result<(), RecordFault>
+    requires well { K.has_failed sink.old ≡ false }
+    ensures frame { OnOk result (Appends (K.held sink.old) (K.held sink.new) (frame_octets frame.now)) }
+    ensures well { OnOk result (K.has_failed sink.new ≡ false) }
+    ensures failed { OnErr result (K.has_failed sink.new ≡ true) }
+    ensures torn { OnErr result (Tears (K.held sink.old) (K.held sink.new) (frame_octets frame.now)) }
+{
+    if let Err(fault) = write_uplink_slot(sink, frame[0]) {
+        return Err(fault);
+    }
     write_uplink_slot(sink, frame[1])
 }
 
@@ -32,11 +54,30 @@ fn pass<K: Sink>(
     counts: &mut Damaged,
     frame: &Frame,
     sink: &mut K,
-) -> Result<(), RecordFault> {
+) -> Result<(), RecordFault>
+    requires well { K.has_failed sink.old ≡ false }
+    requires few { IsFew (2 * counts.old.frames) counts.old }
+    requires frames { counts.old.frames < 2000000 }
+    requires frame { IsFrame frame.now }
+    ensures passed { OnOk result ((damage : DamageRecord) (frames outs : List UplinkSlots) (held : Option (List ℕ))
+        → IsPassed damage damager.old counts.old frames outs held (K.held sink.old)
+        → (more : List UplinkSlots)
+        × IsPassed damage damager.new counts.new (frames ++ frame.now ∷ []) more held (K.held sink.new)) }
+    ensures torn { OnErr result ((damage : DamageRecord) (frames outs : List UplinkSlots) (held : Option (List ℕ))
+        → IsPassed damage damager.old counts.old frames outs held (K.held sink.old)
+        → IsPassedTorn damage damager.new (frames ++ frame.now ∷ []) held (K.held sink.new)) }
+    ensures few { OnOk result (IsFew (2 * counts.new.frames) counts.new) }
+    ensures frames { OnOk result (counts.new.frames ≤ counts.old.frames + 1) }
+    ensures rest { rest_of damager.new ≡ rest_of damager.old }
+    ensures well { OnOk result (K.has_failed sink.new ≡ false) }
+    ensures failed { OnErr result (K.has_failed sink.new ≡ true) }
+{
     match damager.take(frame) {
         None => Ok(()),
         Some(pair) => {
-            write_frame(sink, &pair.is)?;
+            if let Err(fault) = write_frame(sink, &pair.is) {
+                return Err(fault);
+            }
             counts.count_frame(&pair.was, &pair.is);
             Ok(())
         }
@@ -58,7 +99,26 @@ fn pass_all<S: Source, K: Sink>(
     damager: &mut Damager,
     counts: &mut Damaged,
     sink: &mut K,
-) -> Result<Reached, RecordFault> {
+) -> Result<Reached, RecordFault>
+    requires source { S.has_failed source.old ≡ false }
+    requires sink { K.has_failed sink.old ≡ false }
+    requires counts { counts.old ≡ none_counted }
+    ensures all { IfOk result (λ reached. (damage : DamageRecord) (held : Option (List ℕ))
+        → IsPassed damage damager.old counts.old [] [] held (K.held sink.old)
+        → (frames outs : List UplinkSlots) × AllByRecursion IsFrame frames
+        × IsPassed damage damager.new counts.new frames outs held (K.held sink.new)
+        × IsReached reached frames (S.left source.old) (S.left source.new)) }
+    ensures cut { IfOk result (λ reached. IfFault reached (λ fault. is_of_end fault.fault ≡ true → IsAtEnd (S.left source.new))) }
+    ensures source { IfOk result (λ reached. IfFault reached (λ fault. S.has_failed source.new ≡ is_device_fault fault.fault)) }
+    ensures torn { OnErr result ((damage : DamageRecord) (held : Option (List ℕ))
+        → IsPassed damage damager.old counts.old [] [] held (K.held sink.old)
+        → IsFrontTorn damage damager.new held (K.held sink.new) (S.left source.old) (S.left source.new)) }
+    ensures few { OnOk result (IsFew (2 * counts.new.frames) counts.new) }
+    ensures frames { OnOk result (counts.new.frames ≤ 1048576) }
+    ensures rest { rest_of damager.new ≡ rest_of damager.old }
+    ensures well { OnOk result (K.has_failed sink.new ≡ false) }
+    ensures failed { OnErr result (K.has_failed sink.new ≡ true) }
+{
     let mut frames = 0;
     let mut octet = HEAD_OCTETS;
     loop {
@@ -67,7 +127,9 @@ fn pass_all<S: Source, K: Sink>(
             Ok(None) => return Ok(Reached::End),
             Err(fault) => return Ok(Reached::Fault(fault)),
         };
-        pass(damager, counts, &frame, sink)?;
+        if let Err(fault) = pass(damager, counts, &frame, sink) {
+            return Err(fault);
+        }
         frames += 1;
         octet += frame_length(&frame);
     }
@@ -78,9 +140,25 @@ fn pass_rest<K: Sink>(
     damager: &mut Damager,
     counts: &mut Damaged,
     sink: &mut K,
-) -> Result<(), RecordFault> {
+) -> Result<(), RecordFault>
+    requires well { K.has_failed sink.old ≡ false }
+    requires few { IsFew (2 * counts.old.frames) counts.old }
+    requires frames { counts.old.frames ≤ 1048576 }
+    ensures passed { OnOk result ((damage : DamageRecord) (frames outs : List UplinkSlots) (held : Option (List ℕ))
+        → IsPassed damage damager.old counts.old frames outs held (K.held sink.old)
+        → (more : List UplinkSlots) × IsPassed damage damager.new counts.new
+        (frames ++ replicate (rest_of damager.new) silent_frame) more held (K.held sink.new)) }
+    ensures torn { OnErr result ((damage : DamageRecord) (frames outs : List UplinkSlots) (held : Option (List ℕ))
+        → IsPassed damage damager.old counts.old frames outs held (K.held sink.old)
+        → (silent : ℕ) × (silent ≤ rest_of damager.new)
+        × IsPassedTorn damage damager.new (frames ++ replicate silent silent_frame) held (K.held sink.new)) }
+    ensures well { OnOk result (K.has_failed sink.new ≡ false) }
+    ensures failed { OnErr result (K.has_failed sink.new ≡ true) }
+{
     for _past in 0..damager.rest() {
-        pass(damager, counts, &SILENCE, sink)?;
+        if let Err(fault) = pass(damager, counts, &SILENCE, sink) {
+            return Err(fault);
+        }
     }
     Ok(())
 }
@@ -90,13 +168,29 @@ fn damage_frames<S: Source, K: Sink>(
     settings: &DamageSettings,
     source: &mut S,
     sink: &mut K,
-) -> Result<Damaged, DamageEnd> {
+) -> Result<Damaged, DamageEnd>
+    requires source { S.has_failed source.old ≡ false }
+    requires sink { K.has_failed sink.old ≡ false }
+    ensures whole { IfOk result (λ counts. (held : Option (List ℕ)) → IsBehindHead held (K.held sink.old)
+        → IsWholeBehind settings.now counts (S.left source.old) (S.left source.new) held (K.held sink.new)) }
+    ensures fault { IfErr result (λ e. IfRecording e (λ fault. (held : Option (List ℕ)) → IsBehindHead held (K.held sink.old)
+        → IsFaultBehind settings.now fault (S.left source.old) (S.left source.new) held (K.held sink.new))) }
+    ensures cut { IfErr result (λ e. IfRecording e (λ fault. is_of_end fault.fault ≡ true → IsAtEnd (S.left source.new))) }
+    ensures torn { IfErr result (λ e. IfUnwritten e ((held : Option (List ℕ)) → IsBehindHead held (K.held sink.old)
+        → IsTornBehind settings.now (S.left source.old) (S.left source.new) held (K.held sink.new))) }
+    ensures other { IfErr result (λ e. IfOther e ⊥) }
+    ensures source { IfErr result (λ e. IfRecording e (λ fault. S.has_failed source.new ≡ is_device_fault fault.fault)) }
+    ensures sink { IfErr result (λ e. IfUnwritten e (K.has_failed sink.new ≡ true)) }
+    ensures others { IfErr result (λ e. IfRecording e (λ fault. K.has_failed sink.new ≡ false)) }
+    ensures well { OnOk result (K.has_failed sink.new ≡ false) }
+{
     let mut damager = Damager::new(settings);
     let mut counts = Damaged::none();
-    let Ok(reached) = pass_all(source, &mut damager, &mut counts, sink) else {
-        return Err(DamageEnd::Output);
+    let reached = match pass_all(source, &mut damager, &mut counts, sink) {
+        Ok(reached) => reached,
+        Err(_) => return Err(DamageEnd::Output),
     };
-    if pass_rest(&mut damager, &mut counts, sink).is_err() {
+    if let Err(_) = pass_rest(&mut damager, &mut counts, sink) {
         return Err(DamageEnd::Output);
     }
     match reached {
@@ -112,7 +206,28 @@ pub fn damage_recording<S: Source, K: Sink>(
     settings: &DamageSettings,
     source: &mut S,
     sink: &mut K,
-) -> Result<Damaged, DamageEnd> {
+) -> Result<Damaged, DamageEnd>
+    requires source { S.has_failed source.old ≡ false }
+    requires sink { K.has_failed sink.old ≡ false }
+    // A recording was read to its end, and as many frames were written, each slot damaged as it may be. The counts are of the two.
+    ensures whole { IfOk result (λ counts. IsDamagedWhole settings.now counts
+        (S.left source.old) (S.left source.new) (K.held sink.old) (K.held sink.new)) }
+    // Or it is at fault, and the whole frames before that were written.
+    ensures fault { IfErr result (λ e. IfRecording e (λ fault. IsAtFault settings.now fault
+        (S.left source.old) (S.left source.new) (K.held sink.old) (K.held sink.new))) }
+    ensures cut { IfErr result (λ e. IfRecording e (λ fault. is_of_end fault.fault ≡ true → IsAtEnd (S.left source.new))) }
+    // Or it is a file of another format, and nothing was written.
+    ensures other { IfErr result (λ e. IfOther e (IsOfOtherFormat
+        (S.left source.old) (S.left source.new) (K.held sink.old) (K.held sink.new))) }
+    // Or a front of what the frames that were read are written as was.
+    ensures torn { IfErr result (λ e. IfUnwritten e (IsTorn settings.now
+        (S.left source.old) (S.left source.new) (K.held sink.old) (K.held sink.new))) }
+    // `Read` is told exactly where the source failed, and `Output` where the sink did.
+    ensures source { IfErr result (λ e. IfRecording e (λ fault. S.has_failed source.new ≡ is_device_fault fault.fault)) }
+    ensures sink { IfErr result (λ e. IfUnwritten e (K.has_failed sink.new ≡ true)) }
+    ensures others { IfErr result (λ e. IfRecording e (λ fault. K.has_failed sink.new ≡ false)) }
+    ensures well { OnOk result (K.has_failed sink.new ≡ false) }
+{
     match read_any_head(source) {
         Ok(FileFormat::Uplink) => {}
         Ok(_) => return Err(DamageEnd::NotUplink),
@@ -124,7 +239,7 @@ pub fn damage_recording<S: Source, K: Sink>(
             }));
         }
     }
-    if write_head(sink, UPLINK_MAGIC).is_err() {
+    if let Err(_) = write_head(sink, UPLINK_MAGIC) {
         return Err(DamageEnd::Output);
     }
     damage_frames(settings, source, sink)

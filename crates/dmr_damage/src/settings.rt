@@ -45,7 +45,7 @@ impl Model for DamageSettings {
 
 impl DamageSettings {
     ghost use Rattle.std.specs.Prelude.{◌≡◌, Some, None, IfOk, IfErr, OnOk};
-    ghost use Rattle.dmr_damage.specs.Settings.{damage_fault};
+    ghost use Rattle.dmr_damage.specs.Settings.{damage_fault, IsInRange};
 
     /// The damage with this seed, or what is out of its range: a colour code over 15, or a rate over 10,000, that of errors first.
     pub fn new(damage: Damage, seed: u64) -> Result<DamageSettings, SettingsFault>
@@ -64,6 +64,7 @@ impl DamageSettings {
     /// How the recording is damaged.
     pub(crate) fn damage(&self) -> Damage
         ensures value { result ≡ self.now.damage }
+        ensures range { IsInRange result }
     {
         self.damage
     }

@@ -1,5 +1,9 @@
-//! Tests of `dmr_damage`: what a recording is written as, by a seed, and what a repeater makes of it.
+//! Tests of `dmr_damage`: what a recording is written as by a seed, and that a repeater repeats the same of it.
 #![tactic(auto)]
 
+#[cfg(test)]
+mod recordings;
+#[cfg(test)]
+mod repeated_tests;
 #[cfg(test)]
 mod tests;

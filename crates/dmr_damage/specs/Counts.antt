@@ -1,0 +1,47 @@
+-- How much of a recording was damaged.
+use Rattle.std.specs.Prelude.{ℕ, ◌+◌, ◌*◌, ◌≤◌, List, [], ◌∷◌, Some, None, nat_lt, if◌then◌else◌, slice_index_or}
+use Rattle.dmr_bits.specs.Bits.{bits_of_octets, distance}
+use Rattle.dmr_record.specs.Uplink.{UplinkSlot, UplinkSlots}
+use Rattle.dmr_damage.specs.declared.counts.Damaged.{Damaged}
+
+-- before the first frame
+abbrev pub none_counted : Damaged
+none_counted = record { frames = 0; bursts = 0; changed = 0; silenced = 0; bits = 0 }
+
+-- a burst that differs in so many bits from what it was
+abbrev pub counted_turned : Damaged → ℕ → Damaged
+counted_turned counts turned =
+    record counts {
+      bursts = counts.bursts + 1;
+      changed = counts.changed + (if nat_lt 0 turned then 1 else 0);
+      bits = counts.bits + turned;
+    }
+
+-- a slot: a burst that was left out, or one that differs in so many bits
+abbrev pub counted_slot : Damaged → UplinkSlot → UplinkSlot → Damaged
+counted_slot counts None is = counts
+counted_slot counts (Some was) None = record counts { bursts = counts.bursts + 1; silenced = counts.silenced + 1 }
+counted_slot counts (Some was) (Some is) = counted_turned counts (distance (bits_of_octets was) (bits_of_octets is))
+
+-- a frame: both slots
+abbrev pub counted_frame : Damaged → UplinkSlots → UplinkSlots → Damaged
+counted_frame counts was is =
+    counted_slot (counted_slot (record counts { frames = counts.frames + 1 }) (slice_index_or was 0 None) (slice_index_or is 0 None))
+    (slice_index_or was 1 None) (slice_index_or is 1 None)
+
+-- frame by frame, as far as there are both
+abbrev pub counted : Damaged → (frames outs : List UplinkSlots) → Damaged
+counted counts [] outs = counts
+counted counts (was ∷ frames) [] = counts
+counted counts (was ∷ frames) (is ∷ outs) = counted (counted_frame counts was is) frames outs
+
+-- the counts of two recordings
+abbrev pub counts_of : (frames outs : List UplinkSlots) → Damaged
+counts_of frames outs = counted none_counted frames outs
+
+-- In so many slots no more can be counted.
+pub record IsFew (slots : ℕ) (counts : Damaged) : Type 0 where
+  pub bursts : counts.bursts ≤ slots
+  pub changed : counts.changed ≤ slots
+  pub silenced : counts.silenced ≤ slots
+  pub bits : counts.bits ≤ 264 * slots
