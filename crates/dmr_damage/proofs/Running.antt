@@ -3,8 +3,8 @@ use Rattle.std.proofs.Common.{◌≡◌, ℕ, zero, suc, ◌+◌, ◌-◌, ◌<�
 use Rattle.std.proofs.Common.{drop, replicate, refl, sym, ◌∙◌, ap, subst, arith, append_assoc, length-append, length-drop}
 use Rattle.std.proofs.lemmas.List.{append-nil, drop-append-le, drop-drop, map-append, get_or-map, replicate-append-replicate, length-map}
 use Rattle.dmr_record.specs.Uplink.{UplinkSlot, UplinkSlots}
-use Rattle.dmr_damage.specs.Lines.{IsDecided, IsDamagedLine, LineState, Memory, Runs, fresh_memory}
-use Rattle.dmr_damage.specs.Frames.{IsLineBehind, slots_of}
+use Rattle.dmr_damage.specs.LimitedSlots.{IsDecided, IsDamagedLine, LineState, Memory, Runs, fresh_memory}
+use Rattle.dmr_damage.specs.Frames.{IsLineBehind, each_slot}
 
 -- ---- lists
 -- a list that isn't empty

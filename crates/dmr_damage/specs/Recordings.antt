@@ -10,7 +10,7 @@ use Rattle.dmr_record.specs.declared.head.FileFormat.{FileFormat}
 use Rattle.dmr_record.specs.declared.head.FileFormat.TheVariants.{Uplink}
 use Rattle.dmr_recording.specs.Places.{place_by_number}
 use Rattle.dmr_recording.specs.declared.fault_line.FaultLine.{FaultLine}
-use Rattle.dmr_damage.specs.Counts.{counts_of}
+use Rattle.dmr_damage.specs.Counts.{damage_counts}
 use Rattle.dmr_damage.specs.Frames.{AreDamagedBy}
 use Rattle.dmr_damage.specs.Settings.{Settled}
 use Rattle.dmr_damage.specs.declared.counts.Damaged.{Damaged}
@@ -43,10 +43,10 @@ pub record IsDamagedWhole (settled : Settled) (counts : Damaged) (left_old left_
   pub read : Consumes left_old left_new (uplink_file frames)
   pub end : IsAtEnd left_new
   pub written : AreWritten settled frames outs held_old held_new
-  pub counted : counts ≡ counts_of frames outs
+  pub counted : counts ≡ damage_counts frames outs
 
 -- The head shows this fault, and nothing was written.
-pub record IsAtHeadFault (fault : FaultLine) (left_old left_new held_old held_new : Option (List ℕ)) : Type 0 where
+pub record HasFaultInHead (fault : FaultLine) (left_old left_new held_old held_new : Option (List ℕ)) : Type 0 where
   pub taken : List ℕ
   pub read : Consumes left_old left_new taken
   pub shown : ShowsAnyHeadFault fault.fault taken
@@ -66,9 +66,9 @@ pub record IsAtFrameFault (settled : Settled) (fault : FaultLine) (left_old left
     pub written : AreWritten settled frames outs held_old held_new
 
 -- A recording is at fault: in its head, or behind it.
-abbrev pub IsAtFault : Settled → FaultLine → (left_old left_new held_old held_new : Option (List ℕ)) → Type 0
-IsAtFault settled fault left_old left_new held_old held_new =
-    IsAtHeadFault fault left_old left_new held_old held_new ⊎ IsAtFrameFault settled fault left_old left_new held_old held_new
+abbrev pub IsFaultOfRecording : Settled → FaultLine → (left_old left_new held_old held_new : Option (List ℕ)) → Type 0
+IsFaultOfRecording settled fault left_old left_new held_old held_new =
+    HasFaultInHead fault left_old left_new held_old held_new ⊎ IsAtFrameFault settled fault left_old left_new held_old held_new
 
 -- The head is that of a file of another format, and nothing was written.
 pub record IsOfOtherFormat (left_old left_new held_old held_new : Option (List ℕ)) : Type 0 where
@@ -98,6 +98,6 @@ IfOther why.NotUplink holds = holds
 IfOther _ holds = Unit {0}
 
 -- something holds where the recording could not be written
-abbrev pub IfUnwritten : DamageEnd → Type 0 → Type 0
-IfUnwritten why.Output holds = holds
-IfUnwritten _ holds = Unit {0}
+abbrev pub IfRecordingUnwritten : DamageEnd → Type 0 → Type 0
+IfRecordingUnwritten why.Output holds = holds
+IfRecordingUnwritten _ holds = Unit {0}

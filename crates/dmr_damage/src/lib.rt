@@ -7,7 +7,7 @@
 //!
 //! Contracts say what each slot may be written as. Within the limits that goes by what is heard in the slot and what the rules of
 //! voice calls repeat for it (`specs/Marks.antt`), burst by burst (`specs/Bursts.antt`). A line holds the frames that it looks
-//! ahead at, and the embedded fields that a superframe is written with (`specs/Lines.antt`). What is damaged at a rate stands in
+//! ahead at, and the embedded fields that a superframe is written with (`specs/LimitedSlots.antt`). What is damaged at a rate stands in
 //! `specs/Rates.antt`. What was read, written and counted in a whole file stands in `specs/Recordings.antt`, and the counts in
 //! `specs/Counts.antt`.
 //!

@@ -16,7 +16,7 @@ use Rattle.dmr_voice.specs.declared.said.VoiceOut.TheVariants.{Nothing, Repeat}
 use Rattle.dmr_voice.specs.declared.track.Track.{Track}
 use Rattle.dmr_voice.specs.declared.track.Track.TheVariants.{Idle}
 use Rattle.dmr_damage.specs.Bursts.{IsDamagedSlot}
-use Rattle.dmr_damage.specs.Marks.{mark_of}
+use Rattle.dmr_damage.specs.Marks.{burst_mark}
 
 -- What is remembered of a slot: where its calls are, and what the embedded fields of the next four places are written as, where they
 -- are damaged.
@@ -61,7 +61,7 @@ pub record IsDecided (colour : ℕ) (old : Memory) (slot : UplinkSlot) (ahead : 
   pub carries : IsCarried colour later carried
   pub said : VoiceOut
   pub says : IsSaid colour (decide colour old.state heard later carried).0 said
-  pub damaged : IsDamagedSlot colour (mark_of colour heard said) (slice_index_or old.fields 0 None) slot out
+  pub damaged : IsDamagedSlot colour (burst_mark colour heard said) (slice_index_or old.fields 0 None) slot out
   pub state : new.state ≡ (decide colour old.state heard later carried).1
   pub fields : AreFieldsBehind said carried old.fields new.fields
 

@@ -1,5 +1,5 @@
 use Rattle.dmr_damage.proofs.Heard.{fit_moved, heard_moved}
-use Rattle.dmr_damage.proofs.line.Line.take.Goals as goal
+use Rattle.dmr_damage.proofs.line.LimitedSlot.take.Goals as goal
 
 pub invariant_of-self : goal.invariant_of-self
 invariant_of-self c =

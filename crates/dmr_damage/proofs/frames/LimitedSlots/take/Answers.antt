@@ -1,6 +1,6 @@
 use Rattle.std.proofs.Common.{◌≡◌, ℕ, ◌+◌, ◌<◌, List, [], ◌∷◌, ◌++◌, length, get_or, None, refl, sym, ap, ◌∙◌, subst, arith}
 use Rattle.dmr_damage.proofs.Behind.{lines_wait, lines_decide}
-use Rattle.dmr_damage.proofs.frames.Lines.take.Goals as goal
+use Rattle.dmr_damage.proofs.frames.LimitedSlots.take.Goals as goal
 
 pub returns-then-self-lt-AHEAD-clause-waits : goal.returns-then-self-lt-AHEAD-clause-waits
 returns-then-self-lt-AHEAD-clause-waits c colour frames outs is =
