@@ -1,5 +1,5 @@
 -- Recordings that are damaged at no rate, and those of which all is left out.
-use Rattle.std.proofs.Common.{◌≡◌, ℕ, ◌≤◌, List, [], ◌∷◌, Option, Some, None, length, get_or, replicate, refl, sym, ◌∙◌, ap, arith}
+use Rattle.std.proofs.Common.{◌≡◌, ℕ, List, [], ◌∷◌, Some, None, length, get_or, replicate, refl, sym, ◌∙◌, ap, arith}
 use Rattle.std.specs.List.{AllByRecursion}
 use Rattle.dmr_record.specs.Uplink.{IsFrame, UplinkSlot, UplinkSlots}
 use Rattle.dmr_damage.specs.Passing.{silence_in_both}

@@ -1,19 +1,18 @@
 -- Frames that were given to what damages them.
-use Rattle.std.proofs.Common.{◌≡◌, ℕ, zero, suc, ◌+◌, ◌-◌, ◌<◌, ◌≤◌, List, [], ◌∷◌, ◌++◌, Option, None, length, map, drop, get_or, replicate}
-use Rattle.std.proofs.Common.{refl, sym, ◌∙◌, ap, subst, arith, length-append, inl, inr}
+use Rattle.std.proofs.Common.{◌≡◌, ℕ, zero, suc, ◌+◌, ◌<◌, ◌≤◌, List, [], ◌∷◌, ◌++◌, None, length, drop, get_or}
+use Rattle.std.proofs.Common.{refl, sym, ◌∙◌, ap, subst, arith, length-append}
 use Rattle.std.specs.List.{AllByRecursion}
-use Rattle.std.proofs.lemmas.Bool.{cases_lt}
-use Rattle.std.proofs.lemmas.List.{append-nil, map-append, get_or-map, length-map}
+use Rattle.std.proofs.lemmas.List.{map-append, get_or-map, length-map}
 use Rattle.dmr_record.specs.Uplink.{UplinkSlot, UplinkSlots}
-use Rattle.dmr_damage.specs.Frames.{AreDamagedBy, AreLinesBehind, WasGiven, IsLineBehind, rest_of, each_slot}
-use Rattle.dmr_damage.specs.LimitedSlots.{IsDamagedLine, LineState}
+use Rattle.dmr_damage.specs.Frames.{AreLinesBehind, WasGiven, IsLineBehind, each_slot}
+use Rattle.dmr_damage.specs.LimitedSlots.{LineState}
 use Rattle.dmr_damage.specs.Rates.{AreAtRate, IsFrameAtRate}
 use Rattle.dmr_damage.specs.declared.frames.Damager.{Damager}
 use Rattle.dmr_damage.specs.declared.frames.Damager.TheVariants.{Limits, Rate}
 use Rattle.dmr_damage.specs.declared.frames.LimitedSlots.{LimitedSlots}
 use Rattle.dmr_damage.specs.declared.settings.Damage.{Damage}
 use Rattle.dmr_damage.specs.declared.settings.Damage.TheVariants.{WithinLimits, AtRate}
-use Rattle.dmr_damage.proofs.Running.{IsNext, line_decides, line_ended, line_oldest, line_waits, two_slots}
+use Rattle.dmr_damage.proofs.Running.{IsNext, line_decides, line_oldest, line_waits, two_slots}
 
 -- ---- lists of frames
 -- one more frame
@@ -55,8 +54,9 @@ lines_wait colour lines new frames outs frame few two more first second is = rec
 }
 
 -- a frame is taken, and the oldest is decided
-pub lines_decide : (colour : ℕ) (lines new : LimitedSlots) (one other : LineState) (frames outs : List UplinkSlots) (frame : UplinkSlots)
-    (first second was_first was_second : UplinkSlot) → 5 ≤ lines.waiting → length frame ≡ 2 → new.waiting ≡ lines.waiting
+pub lines_decide : (colour : ℕ) (lines new : LimitedSlots) (one other : LineState) (frames outs : List UplinkSlots)
+    (frame : UplinkSlots) (first second was_first was_second : UplinkSlot) → 5 ≤ lines.waiting → length frame ≡ 2
+    → new.waiting ≡ lines.waiting
     → IsNext lines.first one new.first (get_or frame 0 None) first
     → IsNext lines.second other new.second (get_or frame 1 None) second
     → was_first ≡ get_or one.slots 0 None → was_second ≡ get_or other.slots 0 None → AreLinesBehind colour lines frames outs
@@ -66,11 +66,13 @@ lines_decide colour lines new one other frames outs frame first second was_first
     oldest_first oldest_second is = (
       record {
         few = omega (arith, five, same);
-        count = length-append frames (frame ∷ []) ∙ (omega (arith, is.count, same, length-append outs ((first ∷ second ∷ []) ∷ [])));
+        count = length-append frames (frame ∷ [])
+            ∙ (omega (arith, is.count, same, length-append outs ((first ∷ second ∷ []) ∷ [])));
         begin = λ h. absurd (omega (arith, five, same));
         both = both;
         first = rw (same, five, slots_more 0 frames frame, slots_more 0 outs (first ∷ second ∷ []))
-            (line_decides colour lines.first one new.first (each_slot 0 frames) (each_slot 0 outs) (get_or frame 0 None) first next_first
+            (line_decides colour lines.first one new.first (each_slot 0 frames) (each_slot 0 outs) (get_or frame 0 None) first
+            next_first
             line_first);
         second = rw (same, five, slots_more 1 frames frame, slots_more 1 outs (first ∷ second ∷ []))
             (line_decides colour lines.second other new.second (each_slot 1 frames) (each_slot 1 outs) (get_or frame 1 None) second
@@ -151,7 +153,8 @@ IsRate errors loss (Limits lines) = ⊥
 IsRate errors loss (Rate e l first second) = (e ≡ errors) × (l ≡ loss)
 
 -- a frame at a rate is taken and decided
-pub rate_decides : (damage : Damage) (old new : Damager) (errors loss : ℕ) (frames outs : List UplinkSlots) (frame out : UplinkSlots)
+pub rate_decides : (damage : Damage) (old new : Damager) (errors loss : ℕ) (frames outs : List UplinkSlots)
+    (frame out : UplinkSlots)
     → IsRate errors loss old → IsRate errors loss new → IsFrameAtRate errors loss frame out → WasGiven damage old frames outs
     → WasGiven damage new (frames ++ frame ∷ []) (outs ++ out ∷ []) × (frame ≡ get_or (frames ++ frame ∷ []) (length outs) [])
 rate_decides (WithinLimits colour) (Limits lines) new errors loss frames outs frame out a b is behind = absurd a

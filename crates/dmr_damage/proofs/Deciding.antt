@@ -1,5 +1,5 @@
 -- What is decided of the oldest of six places.
-use Rattle.std.proofs.Common.{◌≡◌, ℕ, suc, List, [], ◌∷◌, Option, None, length, ◌<◌, get_or, drop, refl, sym, ◌∙◌, ap, subst, arith}
+use Rattle.std.proofs.Common.{◌≡◌, ℕ, List, [], ◌∷◌, Option, None, length, ◌<◌, get_or, drop, sym, subst, arith}
 use Rattle.dmr_hearing.specs.Hearing.{Hears}
 use Rattle.dmr_hearing.specs.Recorded.{AreHeard}
 use Rattle.dmr_hearing.specs.declared.heard.Heard.{Heard}
@@ -10,7 +10,6 @@ use Rattle.dmr_voice.specs.Bursts.{IsSaid}
 use Rattle.dmr_voice.specs.CallRules.{step_of}
 use Rattle.dmr_voice.specs.Carried.{IsCarried}
 use Rattle.dmr_voice.specs.declared.said.VoiceOut.{VoiceOut}
-use Rattle.dmr_voice.specs.declared.track.Track.{Track}
 use Rattle.dmr_damage.specs.Bursts.{IsDamagedSlot}
 use Rattle.dmr_damage.specs.LimitedSlots.{AreFieldsBehind, IsDecided, Memory}
 use Rattle.dmr_damage.specs.Marks.{burst_mark}

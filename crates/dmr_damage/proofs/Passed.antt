@@ -1,8 +1,8 @@
 -- Frames that were passed: given to what damages them, and those that were decided written and counted.
-use Rattle.std.proofs.Common.{◌≡◌, ℕ, zero, suc, ◌+◌, ◌*◌, ◌-◌, ◌<◌, ◌≤◌, List, [], ◌∷◌, ◌++◌, Option, None, length, map, get_or, replicate}
+use Rattle.std.proofs.Common.{◌≡◌, ℕ, zero, suc, ◌+◌, ◌<◌, ◌≤◌, List, [], ◌∷◌, ◌++◌, Option, None, length, get_or, replicate}
 use Rattle.std.proofs.Common.{refl, sym, ◌∙◌, ap, subst, arith, append_assoc, length-append}
 use Rattle.std.specs.Prelude.{Result, Ok, Err, IfErr, OnErr}
-use Rattle.std.specs.Io.KnownBytes.{Appends, Consumes, IsAtEnd}
+use Rattle.std.specs.Io.KnownBytes.{Appends, Consumes}
 use Rattle.std.specs.List.{AllByRecursion}
 use Rattle.std.proofs.KnownBytes.{Appends-trans, Consumes-trans}
 use Rattle.std.proofs.Common.{inl, inr}
@@ -11,14 +11,15 @@ use Rattle.std.proofs.lemmas.List.{append-nil, map-append, replicate-append-repl
 use Rattle.dmr_record.proofs.Torn.{Tears_after}
 use Rattle.dmr_record.specs.Devices.{Tears}
 use Rattle.dmr_record.specs.Head.{head_octets, uplink_magic}
-use Rattle.dmr_record.specs.Uplink.{IsFrame, UplinkSlot, UplinkSlots, frame_octets, frames_octets, slot_octets, uplink_file}
+use Rattle.dmr_record.specs.Uplink.{IsFrame, UplinkSlots, frame_octets, frames_octets, slot_octets, uplink_file}
 use Rattle.dmr_recording.specs.declared.fault_line.FaultLine.{FaultLine}
-use Rattle.dmr_damage.specs.Counts.{counted_frame, counted_frames, damage_counts, nothing_counted}
+use Rattle.dmr_damage.specs.Counts.{counted_frame, counted_frames, damage_counts, none_damaged_yet}
 use Rattle.dmr_damage.specs.Frames.{AreDamagedBy, WasGiven, rest_of, each_slot}
 use Rattle.dmr_damage.specs.LimitedSlots.{fresh_memory}
 use Rattle.dmr_damage.specs.Passing.{IsBehindHead, IsFaultInFrames, IsFrontTorn, ArePassed, IsPassedTorn, IsReached, IsTornBehind}
 use Rattle.dmr_damage.specs.Passing.{IsWholeBehind, silence_in_both}
-use Rattle.dmr_damage.specs.Recordings.{AreWritten, IfRecording, IsFaultOfRecording, IsAtFrameFault, IsDamagedWhole, IsFrameFault, IsTorn}
+use Rattle.dmr_damage.specs.Recordings.{AreWritten, IfRecording, IsFaultOfRecording, IsAtFrameFault, IsDamagedWhole}
+use Rattle.dmr_damage.specs.Recordings.{IsFrameFault, IsTorn}
 use Rattle.dmr_damage.specs.declared.recording.DamageEnd.{DamageEnd}
 use Rattle.dmr_damage.specs.declared.recording.DamageEnd.TheVariants as why
 use Rattle.dmr_damage.specs.declared.recording.PassEnd.{PassEnd}
@@ -47,14 +48,16 @@ counted_more counts (f ∷ frames) (o ∷ outs) more h = counted_more (counted_f
 
 -- one more is written
 pub counted_next : (counts : Damaged) (frames outs : List UplinkSlots) (out : UplinkSlots) → length outs < length frames
-    → counted_frames counts frames (outs ++ out ∷ []) ≡ counted_frame (counted_frames counts frames outs) (get_or frames (length outs) []) out
+    → counted_frames counts frames (outs ++ out ∷ [])
+    ≡ counted_frame (counted_frames counts frames outs) (get_or frames (length outs) []) out
 counted_next counts [] outs out h = absurd (omega arith)
 counted_next counts (f ∷ frames) [] out h = nothing_more (counted_frame counts f out) frames
 counted_next counts (f ∷ frames) (o ∷ outs) out h = counted_next (counted_frame counts f o) frames outs out (omega arith)
 
 -- ---- files
 -- the file of one more frame
-pub file_more : (outs : List UplinkSlots) (out : UplinkSlots) → uplink_file outs ++ frame_octets out ≡ uplink_file (outs ++ out ∷ [])
+pub file_more : (outs : List UplinkSlots) (out : UplinkSlots)
+    → uplink_file outs ++ frame_octets out ≡ uplink_file (outs ++ out ∷ [])
 file_more outs out =
     append_assoc (head_octets uplink_magic) (frames_octets outs) (frame_octets out)
     ∙ ap (λ l. head_octets uplink_magic ++ l) (flat_map_more frame_octets [] outs out)
@@ -87,7 +90,7 @@ passed_waits damage old new counts frames outs frame held held' is behind = reco
   behind = behind;
   whole = is.whole;
   fewer = omega (arith, is.fewer, length-append frames (frame ∷ []));
-  counted = is.counted ∙ sym (counted_more nothing_counted frames outs (frame ∷ []) is.fewer);
+  counted = is.counted ∙ sym (counted_more none_damaged_yet frames outs (frame ∷ []) is.fewer);
   as_many = is.as_many;
   written = is.written;
 }
@@ -103,9 +106,9 @@ passed_decided damage old new counts counts' frames outs frame was out held mid 
   whole = all_more IsFrame outs out is.whole whole;
   fewer = omega (arith, is.fewer, length-append frames (frame ∷ []), length-append outs (out ∷ []));
   counted = count ∙ ap (λ c. counted_frame c was out) (is.counted
-      ∙ sym (counted_more nothing_counted frames outs (frame ∷ []) is.fewer))
+      ∙ sym (counted_more none_damaged_yet frames outs (frame ∷ []) is.fewer))
       ∙ ap (λ w. counted_frame (damage_counts (frames ++ frame ∷ []) outs) w out) e
-      ∙ sym (counted_next nothing_counted (frames ++ frame ∷ []) outs out
+      ∙ sym (counted_next none_damaged_yet (frames ++ frame ∷ []) outs out
       (omega (arith, is.fewer, length-append frames (frame ∷ []))));
   as_many = one ∙ (omega (arith, is.as_many, length-append outs (out ∷ [])));
   written = subst (Appends held held') (file_more outs out)
@@ -126,7 +129,8 @@ passed_torn damage old new counts frames outs frame out held mid held' is behind
 
 -- ---- the begin
 pub none_passed : (damage : Damage) (damager : Damager) (counts : Damaged) (held held' : Option (List ℕ))
-    → WasGiven damage damager [] [] → counts ≡ nothing_counted → IsBehindHead held held' → ArePassed damage damager counts [] [] held held'
+    → WasGiven damage damager [] [] → counts ≡ none_damaged_yet → IsBehindHead held held'
+    → ArePassed damage damager counts [] [] held held'
 none_passed damage damager counts held held' behind e head = record {
   behind = behind;
   whole = tt;
@@ -199,7 +203,7 @@ ended_written settled damager counts frames outs held held' is = (
     whole = is.whole;
     written = is.written;
   },
-  is.counted ∙ counted_more nothing_counted frames outs (replicate (rest_of damager) silence_in_both) (omega (arith, many)),
+  is.counted ∙ counted_more none_damaged_yet frames outs (replicate (rest_of damager) silence_in_both) (omega (arith, many)),
 )
   where
     many : length outs ≡ length frames
@@ -220,8 +224,8 @@ front_torn settled damager held held' left left' is = record {
 }
 
 -- at the end or at a fault, these frames were read and what is behind them
-pub reached_part : (reached : PassEnd) (frames : List UplinkSlots) (left left' : Option (List ℕ)) → IsReached reached frames left left'
-    → (part : List ℕ) × Consumes left left' (frames_octets frames ++ part)
+pub reached_part : (reached : PassEnd) (frames : List UplinkSlots) (left left' : Option (List ℕ))
+    → IsReached reached frames left left' → (part : List ℕ) × Consumes left left' (frames_octets frames ++ part)
 reached_part End frames left left' is = ([], subst (Consumes left left') (sym (append-nil (frames_octets frames))) is.0)
 reached_part (Fault fault) frames left left' is = (is.0, is.1)
 
@@ -268,7 +272,8 @@ part_read a b c frames part head rest =
     (Consumes-trans a b c (head_octets uplink_magic) (frames_octets frames ++ part) head rest)
 
 pub whole_with_head : (settled : Settled) (counts : Damaged) (a b c held held' : Option (List ℕ))
-    → Consumes a b (head_octets uplink_magic) → IsWholeBehind settled counts b c held held' → IsDamagedWhole settled counts a c held held'
+    → Consumes a b (head_octets uplink_magic) → IsWholeBehind settled counts b c held held'
+    → IsDamagedWhole settled counts a c held held'
 whole_with_head settled counts a b c held held' head is = record {
   frames = is.frames;
   outs = is.outs;

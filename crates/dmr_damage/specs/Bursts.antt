@@ -25,8 +25,8 @@ pub record IsDamagedVoice (field : Option ℕ) (old new : List Bool) : Type 0 wh
   pub embedded : MatchOption field (embedded_field new ≡ embedded_field old) (λ written. number_of (embedded_field new) ≡ written)
   pub vocoder : vocoder_field new ≡ vocoder_field old
 
--- The sync of a mobile station's data has at most three wrong bits, and so has the slot type where it reads. Where it doesn't, it is
--- as it was, and so is the information.
+-- The sync of a mobile station's data has at most three wrong bits, and so has the slot type where it reads. Where it doesn't, it
+-- is as it was, and so is the information.
 pub record IsDamagedUnheardData (old new : List Bool) : Type 0 where
   pub sync : HasSync (record { side = Ms; voice = false }) new
   pub slot_type : (slot_type : SlotType) → HasSlotType slot_type old → HasSlotType slot_type new

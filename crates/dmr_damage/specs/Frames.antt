@@ -4,7 +4,6 @@ use Rattle.std.specs.List.{AllByRecursion}
 use Rattle.dmr_record.specs.Uplink.{UplinkSlot, UplinkSlots}
 use Rattle.dmr_damage.specs.LimitedSlots.{LineState, Runs, IsDamagedLine, fresh_memory}
 use Rattle.dmr_damage.specs.Rates.{AreAtRate}
-use Rattle.dmr_damage.specs.Settings.{Settled}
 use Rattle.dmr_damage.specs.declared.frames.Damager.{Damager}
 use Rattle.dmr_damage.specs.declared.frames.Damager.TheVariants.{Limits, Rate}
 use Rattle.dmr_damage.specs.declared.frames.LimitedSlots.{LimitedSlots}

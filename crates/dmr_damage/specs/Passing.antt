@@ -1,5 +1,5 @@
 -- How far a recording has been passed, behind its head.
-use Rattle.std.specs.Prelude.{◌≡◌, ◌⊎◌, ℕ, ◌+◌, ◌*◌, ◌≤◌, List, [], ◌∷◌, ◌++◌, Option, None, length}
+use Rattle.std.specs.Prelude.{◌≡◌, ℕ, ◌+◌, ◌≤◌, List, [], ◌∷◌, ◌++◌, Option, None, length}
 use Rattle.std.specs.Io.KnownBytes.{Appends, Consumes, IsAtEnd}
 use Rattle.std.specs.List.{AllByRecursion}
 use Rattle.dmr_record.specs.Devices.{Tears}
@@ -61,7 +61,8 @@ abbrev pub IsBehindHead : (held_old held_new : Option (List ℕ)) → Type 0
 IsBehindHead held_old held_new = Appends held_old held_new (head_octets uplink_magic)
 
 -- Behind its head a recording was read to its end, damaged, written and counted.
-pub record IsWholeBehind (settled : Settled) (counts : Damaged) (left_old left_new held_old held_new : Option (List ℕ)) : Type 0 where
+pub record IsWholeBehind (settled : Settled) (counts : Damaged) (left_old left_new held_old held_new : Option (List ℕ))
+    : Type 0 where
   pub frames : List UplinkSlots
   pub outs : List UplinkSlots
   pub whole : AllByRecursion IsFrame frames
@@ -71,7 +72,8 @@ pub record IsWholeBehind (settled : Settled) (counts : Damaged) (left_old left_n
   pub counted : counts ≡ damage_counts frames outs
 
 -- Behind its head a frame shows this fault, and those before it were written.
-pub record IsFaultInFrames (settled : Settled) (fault : FaultLine) (left_old left_new held_old held_new : Option (List ℕ)) : Type 0 where
+pub record IsFaultInFrames (settled : Settled) (fault : FaultLine) (left_old left_new held_old held_new : Option (List ℕ))
+    : Type 0 where
   pub frames : List UplinkSlots
   pub outs : List UplinkSlots
   pub whole : AllByRecursion IsFrame frames

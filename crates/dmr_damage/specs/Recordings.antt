@@ -1,10 +1,10 @@
 -- What is read of a recording, written and counted.
-use Rattle.std.specs.Prelude.{◌≡◌, ◌≢◌, ◌⊎◌, ℕ, ◌+◌, ◌*◌, ◌<◌, List, [], ◌∷◌, ◌++◌, Option, Some, None, length}
+use Rattle.std.specs.Prelude.{◌≡◌, ◌≢◌, ◌⊎◌, ℕ, ◌+◌, ◌*◌, ◌<◌, List, ◌++◌, Option, Some, None, length}
 use Rattle.std.specs.List.{AllByRecursion, flat_map}
 use Rattle.std.specs.Io.KnownBytes.{Appends, Consumes, IsAtEnd}
 use Rattle.dmr_record.specs.Devices.{Tears}
 use Rattle.dmr_record.specs.Head.{ShowsAnyHeadFault, head_octets, magic_of}
-use Rattle.dmr_record.specs.Uplink.{IsFrame, IsSilenceOrBurst, ShowsUplinkSlotFault, UplinkSlot, UplinkSlots, frames_octets}
+use Rattle.dmr_record.specs.Uplink.{IsFrame, IsSilenceOrBurst, ShowsUplinkSlotFault, UplinkSlot, UplinkSlots}
 use Rattle.dmr_record.specs.Uplink.{slot_octets, uplink_file, uplink_slot_limit}
 use Rattle.dmr_record.specs.declared.head.FileFormat.{FileFormat}
 use Rattle.dmr_record.specs.declared.head.FileFormat.TheVariants.{Uplink}
@@ -17,7 +17,8 @@ use Rattle.dmr_damage.specs.declared.counts.Damaged.{Damaged}
 use Rattle.dmr_damage.specs.declared.recording.DamageEnd.{DamageEnd}
 use Rattle.dmr_damage.specs.declared.recording.DamageEnd.TheVariants as why
 
--- Behind so many frames these octets show a fault, in slot 1 of the next frame or behind it in slot 2; the frame begins at this octet.
+-- Behind so many frames these octets show a fault, in slot 1 of the next frame or behind it in slot 2. The frame begins at this
+-- octet.
 pub record IsFrameFault (frames begin : ℕ) (fault : FaultLine) (octets : List ℕ) : Type 0 where
   pub slots : List UplinkSlot
   pub few : length slots < 2
@@ -36,7 +37,8 @@ pub record AreWritten (settled : Settled) (frames outs : List UplinkSlots) (held
   pub written : Appends held_old held_new (uplink_file outs)
 
 -- A recording was read to its end, damaged, written and counted.
-pub record IsDamagedWhole (settled : Settled) (counts : Damaged) (left_old left_new held_old held_new : Option (List ℕ)) : Type 0 where
+pub record IsDamagedWhole (settled : Settled) (counts : Damaged) (left_old left_new held_old held_new : Option (List ℕ))
+    : Type 0 where
   pub frames : List UplinkSlots
   pub outs : List UplinkSlots
   pub whole : AllByRecursion IsFrame frames

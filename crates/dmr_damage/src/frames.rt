@@ -100,8 +100,8 @@ impl Damager {
 
     /// Takes a frame, and answers the frame that is decided then, where one is.
     pub(crate) fn take(&mut self, frame: &Frame) -> Option<DamagedFrame>
-        ensures waits { IfNone result ((damage : DamageRecord) (frames outs : List UplinkSlots) → WasGiven damage self.old frames outs
-            → WasGiven damage self.new (frames ++ frame.now ∷ []) outs) }
+        ensures waits { IfNone result ((damage : DamageRecord) (frames outs : List UplinkSlots)
+            → WasGiven damage self.old frames outs → WasGiven damage self.new (frames ++ frame.now ∷ []) outs) }
         ensures decided { IfSome result (λ pair. (damage : DamageRecord) (frames outs : List UplinkSlots)
             → WasGiven damage self.old frames outs
             → WasGiven damage self.new (frames ++ frame.now ∷ []) (outs ++ pair.is ∷ [])

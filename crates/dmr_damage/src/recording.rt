@@ -6,11 +6,12 @@ ghost use Rattle.std.specs.List.{AllByRecursion};
 ghost use Rattle.dmr_record.specs.Devices.{Tears};
 ghost use Rattle.dmr_record.specs.Faults.{is_of_end, is_device_fault};
 ghost use Rattle.dmr_record.specs.Uplink.{IsFrame, UplinkSlots, frame_octets, frames_octets, uplink_file};
-ghost use Rattle.dmr_damage.specs.Counts.{IsFew, nothing_counted};
+ghost use Rattle.dmr_damage.specs.Counts.{IsFew, none_damaged_yet};
 ghost use Rattle.dmr_damage.specs.Frames.{rest_of};
-ghost use Rattle.dmr_damage.specs.Passing.{IfPassFault, ArePassed, IsReached, IsPassedTorn, IsFrontTorn, silence_in_both, IsBehindHead};
-ghost use Rattle.dmr_damage.specs.Passing.{IsFaultInFrames, IsTornBehind, IsWholeBehind};
-ghost use Rattle.dmr_damage.specs.Recordings.{IfOther, IfRecording, IfRecordingUnwritten, IsFaultOfRecording, IsDamagedWhole, IsOfOtherFormat, IsTorn};
+ghost use Rattle.dmr_damage.specs.Passing.{ArePassed, IfPassFault, IsBehindHead, IsFaultInFrames, IsFrontTorn, IsPassedTorn};
+ghost use Rattle.dmr_damage.specs.Passing.{IsReached, IsTornBehind, IsWholeBehind, silence_in_both};
+ghost use Rattle.dmr_damage.specs.Recordings.{IfOther, IfRecording, IfRecordingUnwritten, IsDamagedWhole, IsFaultOfRecording};
+ghost use Rattle.dmr_damage.specs.Recordings.{IsOfOtherFormat, IsTorn};
 ghost use Rattle.dmr_damage.specs.declared.settings.Damage.{Damage as DamageRecord};
 
 use crate::counts::Damaged;
@@ -102,13 +103,14 @@ fn pass_all<S: Source, K: Sink>(
 ) -> Result<PassEnd, RecordFault>
     requires source { S.has_failed source.old ≡ false }
     requires sink { K.has_failed sink.old ≡ false }
-    requires counts { counts.old ≡ nothing_counted }
+    requires counts { counts.old ≡ none_damaged_yet }
     ensures all { IfOk result (λ reached. (damage : DamageRecord) (held : Option (List ℕ))
         → ArePassed damage damager.old counts.old [] [] held (K.held sink.old)
         → (frames outs : List UplinkSlots) × AllByRecursion IsFrame frames
         × ArePassed damage damager.new counts.new frames outs held (K.held sink.new)
         × IsReached reached frames (S.left source.old) (S.left source.new)) }
-    ensures cut { IfOk result (λ reached. IfPassFault reached (λ fault. is_of_end fault.fault ≡ true → IsAtEnd (S.left source.new))) }
+    ensures cut { IfOk result (λ reached. IfPassFault reached (λ fault. is_of_end fault.fault ≡ true
+        → IsAtEnd (S.left source.new))) }
     ensures source { IfOk result (λ reached. IfPassFault reached (λ fault. S.has_failed source.new ≡ is_device_fault fault.fault)) }
     ensures torn { OnErr result ((damage : DamageRecord) (held : Option (List ℕ))
         → ArePassed damage damager.old counts.old [] [] held (K.held sink.old)

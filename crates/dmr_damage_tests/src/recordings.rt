@@ -1,5 +1,5 @@
-//! Recordings, in digits. Those that are read are files of samples/, which another implementation wrote. Those that are written were
-//! worked out from docs/protocol.md, by another program.
+//! Recordings, in digits. Those that are read are files of samples/, which another implementation wrote. Those that are written
+//! were worked out by another program, from the rules alone.
 
 /// A control block in frame 0: the sample `one_csbk`.
 pub(crate) const CSBK: &str = "444D525501000000010062008201900100042004E004CD5D7F77FD757AC81800280250028000C012002200";

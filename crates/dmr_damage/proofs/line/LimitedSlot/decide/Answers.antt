@@ -1,4 +1,4 @@
-use Rattle.std.proofs.Common.{◌≡◌, ℕ, Option, get_or, drop, None, subst, sym, ap, arith}
+use Rattle.std.proofs.Common.{◌≡◌, Option, get_or, drop, None, subst, sym, ap, arith}
 use Rattle.dmr_link.specs.declared.full_lc.FullLc.{FullLc}
 use Rattle.dmr_voice.specs.Bursts.{IsSaid}
 use Rattle.dmr_voice.specs.CallRules.{step_of}
