@@ -4,6 +4,8 @@ In a docstring a colon ends a sentence too."""
 
 import re
 import subprocess
+import textwrap
+from itertools import zip_longest
 
 from checks.failures import ANSWERED
 
@@ -279,8 +281,10 @@ def picture_of(crates_txt):
     wings = of_repeating - of_tools, of_repeating & of_tools, set(libraries) - of_repeating
     rows = [("floor", "the program that repeats", "both programs", "the tools")]
     for floor in range(max(floors.values()), 0, -1):
-        on_floor = [[it for it in libraries if it in wing and floors[it] == floor] for wing in wings]
-        rows.append((str(floor), *map(", ".join, on_floor)))
+        on_floor = [", ".join(it for it in libraries if it in wing and floors[it] == floor) for wing in wings]
+        # A floor with many crates takes as many rows as its longest wing.
+        for cells in zip_longest([str(floor)], *(textwrap.wrap(names, 48) for names in on_floor), fillvalue=""):
+            rows.append(cells)
     widths = [max(map(len, column)) for column in zip(*rows)]
     picture = ["  ".join(cell.ljust(width) for cell, width in zip(row, widths)).rstrip() for row in rows] + [""]
     for name in reversed(libraries):

@@ -1,8 +1,8 @@
 -- Recordings that are damaged at no rate, and those of which all is left out.
-use Rattle.std.proofs.Common.{◌≡◌, ℕ, ◌≤◌, List, [], ◌∷◌, Option, Some, None, length, get_or, replicate, refl, sym, ◌∙◌, ap, arith}
+use Rattle.std.proofs.Common.{◌≡◌, ℕ, List, [], ◌∷◌, Some, None, length, get_or, replicate, refl, sym, ◌∙◌, ap, arith}
 use Rattle.std.specs.List.{AllByRecursion}
 use Rattle.dmr_record.specs.Uplink.{IsFrame, UplinkSlot, UplinkSlots}
-use Rattle.dmr_damage.specs.Passing.{silent_frame}
+use Rattle.dmr_damage.specs.Passing.{silence_in_both}
 use Rattle.dmr_damage.specs.Rates.{AreAtRate, IsFrameAtRate, IsSlotAtRate}
 use Rattle.dmr_damage.proofs.Running.{two_slots}
 
@@ -25,7 +25,7 @@ frame_same frame out a b is =
     (slot_same (get_or frame 0 None) (get_or out 0 None) is.first) (slot_same (get_or frame 1 None) (get_or out 1 None) is.second)
     ∙ two_slots frame a.0
 
-frame_lost : (errors : ℕ) (frame out : UplinkSlots) → IsFrame out → IsFrameAtRate errors 10000 frame out → out ≡ silent_frame
+frame_lost : (errors : ℕ) (frame out : UplinkSlots) → IsFrame out → IsFrameAtRate errors 10000 frame out → out ≡ silence_in_both
 frame_lost errors frame out b is =
     sym (two_slots out b.0)
     ∙ pair (get_or out 0 None) (get_or out 1 None) None None
@@ -46,10 +46,10 @@ frames_same (f ∷ frames) (o ∷ outs) a b all =
 
 -- where each burst is left out all is silent
 pub frames_lost : (errors : ℕ) (frames outs : List UplinkSlots) → AllByRecursion IsFrame outs → AreAtRate errors 10000 frames outs
-    → outs ≡ replicate (length frames) silent_frame
+    → outs ≡ replicate (length frames) silence_in_both
 frames_lost errors [] [] b all = refl
 frames_lost errors [] (o ∷ outs) b all = absurd all
 frames_lost errors (f ∷ frames) [] b all = absurd all
 frames_lost errors (f ∷ frames) (o ∷ outs) b all =
-    more o silent_frame outs (replicate (length frames) silent_frame) (frame_lost errors f o b.0 all.0)
+    more o silence_in_both outs (replicate (length frames) silence_in_both) (frame_lost errors f o b.0 all.0)
     (frames_lost errors frames outs b.1 all.1)

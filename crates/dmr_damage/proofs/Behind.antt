@@ -1,19 +1,18 @@
 -- Frames that were given to what damages them.
-use Rattle.std.proofs.Common.{◌≡◌, ℕ, zero, suc, ◌+◌, ◌-◌, ◌<◌, ◌≤◌, List, [], ◌∷◌, ◌++◌, Option, None, length, map, drop, get_or, replicate}
-use Rattle.std.proofs.Common.{refl, sym, ◌∙◌, ap, subst, arith, length-append, inl, inr}
+use Rattle.std.proofs.Common.{◌≡◌, ℕ, zero, suc, ◌+◌, ◌<◌, ◌≤◌, List, [], ◌∷◌, ◌++◌, None, length, drop, get_or}
+use Rattle.std.proofs.Common.{refl, sym, ◌∙◌, ap, subst, arith, length-append}
 use Rattle.std.specs.List.{AllByRecursion}
-use Rattle.std.proofs.lemmas.Bool.{cases_lt}
-use Rattle.std.proofs.lemmas.List.{append-nil, map-append, get_or-map, length-map}
+use Rattle.std.proofs.lemmas.List.{map-append, get_or-map, length-map}
 use Rattle.dmr_record.specs.Uplink.{UplinkSlot, UplinkSlots}
-use Rattle.dmr_damage.specs.Frames.{AreDamagedBy, AreLinesBehind, IsBehind, IsLineBehind, rest_of, slots_of}
-use Rattle.dmr_damage.specs.Lines.{IsDamagedLine, LineState}
+use Rattle.dmr_damage.specs.Frames.{AreLinesBehind, WasGiven, IsLineBehind, each_slot}
+use Rattle.dmr_damage.specs.LimitedSlots.{LineState}
 use Rattle.dmr_damage.specs.Rates.{AreAtRate, IsFrameAtRate}
 use Rattle.dmr_damage.specs.declared.frames.Damager.{Damager}
 use Rattle.dmr_damage.specs.declared.frames.Damager.TheVariants.{Limits, Rate}
-use Rattle.dmr_damage.specs.declared.frames.Lines.{Lines}
+use Rattle.dmr_damage.specs.declared.frames.LimitedSlots.{LimitedSlots}
 use Rattle.dmr_damage.specs.declared.settings.Damage.{Damage}
 use Rattle.dmr_damage.specs.declared.settings.Damage.TheVariants.{WithinLimits, AtRate}
-use Rattle.dmr_damage.proofs.Running.{IsNext, line_decides, line_ended, line_oldest, line_waits, two_slots}
+use Rattle.dmr_damage.proofs.Running.{IsNext, line_decides, line_oldest, line_waits, two_slots}
 
 -- ---- lists of frames
 -- one more frame
@@ -31,12 +30,12 @@ all_at P (f ∷ frames) (suc i) all h = all_at P frames i all.1 (omega arith)
 
 -- the slots of one more frame
 pub slots_more : (number : ℕ) (frames : List UplinkSlots) (frame : UplinkSlots)
-    → slots_of number (frames ++ frame ∷ []) ≡ slots_of number frames ++ get_or frame number None ∷ []
+    → each_slot number (frames ++ frame ∷ []) ≡ each_slot number frames ++ get_or frame number None ∷ []
 slots_more number frames frame = map-append (λ f. get_or f number None) frames (frame ∷ [])
 
 -- ---- both lines
 -- a frame is taken, while fewer than five wait
-pub lines_wait : (colour : ℕ) (lines new : Lines) (frames outs : List UplinkSlots) (frame : UplinkSlots) → lines.waiting < 5
+pub lines_wait : (colour : ℕ) (lines new : LimitedSlots) (frames outs : List UplinkSlots) (frame : UplinkSlots) → lines.waiting < 5
     → length frame ≡ 2 → new.waiting ≡ lines.waiting + 1
     → new.first ≡ record lines.first { slots = drop 1 lines.first.slots ++ get_or frame 0 None ∷ [] }
     → new.second ≡ record lines.second { slots = drop 1 lines.second.slots ++ get_or frame 1 None ∷ [] }
@@ -47,16 +46,17 @@ lines_wait colour lines new frames outs frame few two more first second is = rec
   begin = λ h. is.begin few;
   both = all_more (λ f. length f ≡ 2) frames frame is.both two;
   first = rw (more, slots_more 0 frames frame)
-      (line_waits colour lines.waiting lines.first new.first (slots_of 0 frames) (slots_of 0 outs) (get_or frame 0 None) few first
+      (line_waits colour lines.waiting lines.first new.first (each_slot 0 frames) (each_slot 0 outs) (get_or frame 0 None) few first
       is.first);
   second = rw (more, slots_more 1 frames frame)
-      (line_waits colour lines.waiting lines.second new.second (slots_of 1 frames) (slots_of 1 outs) (get_or frame 1 None) few
+      (line_waits colour lines.waiting lines.second new.second (each_slot 1 frames) (each_slot 1 outs) (get_or frame 1 None) few
       second is.second);
 }
 
 -- a frame is taken, and the oldest is decided
-pub lines_decide : (colour : ℕ) (lines new : Lines) (one other : LineState) (frames outs : List UplinkSlots) (frame : UplinkSlots)
-    (first second was_first was_second : UplinkSlot) → 5 ≤ lines.waiting → length frame ≡ 2 → new.waiting ≡ lines.waiting
+pub lines_decide : (colour : ℕ) (lines new : LimitedSlots) (one other : LineState) (frames outs : List UplinkSlots)
+    (frame : UplinkSlots) (first second was_first was_second : UplinkSlot) → 5 ≤ lines.waiting → length frame ≡ 2
+    → new.waiting ≡ lines.waiting
     → IsNext lines.first one new.first (get_or frame 0 None) first
     → IsNext lines.second other new.second (get_or frame 1 None) second
     → was_first ≡ get_or one.slots 0 None → was_second ≡ get_or other.slots 0 None → AreLinesBehind colour lines frames outs
@@ -66,14 +66,16 @@ lines_decide colour lines new one other frames outs frame first second was_first
     oldest_first oldest_second is = (
       record {
         few = omega (arith, five, same);
-        count = length-append frames (frame ∷ []) ∙ (omega (arith, is.count, same, length-append outs ((first ∷ second ∷ []) ∷ [])));
+        count = length-append frames (frame ∷ [])
+            ∙ (omega (arith, is.count, same, length-append outs ((first ∷ second ∷ []) ∷ [])));
         begin = λ h. absurd (omega (arith, five, same));
         both = both;
         first = rw (same, five, slots_more 0 frames frame, slots_more 0 outs (first ∷ second ∷ []))
-            (line_decides colour lines.first one new.first (slots_of 0 frames) (slots_of 0 outs) (get_or frame 0 None) first next_first
+            (line_decides colour lines.first one new.first (each_slot 0 frames) (each_slot 0 outs) (get_or frame 0 None) first
+            next_first
             line_first);
         second = rw (same, five, slots_more 1 frames frame, slots_more 1 outs (first ∷ second ∷ []))
-            (line_decides colour lines.second other new.second (slots_of 1 frames) (slots_of 1 outs) (get_or frame 1 None) second
+            (line_decides colour lines.second other new.second (each_slot 1 frames) (each_slot 1 outs) (get_or frame 1 None) second
             next_second line_second);
       },
       whole,
@@ -82,11 +84,11 @@ lines_decide colour lines new one other frames outs frame first second was_first
     five : lines.waiting ≡ 5
     five = omega (arith, is.few, wait)
 
-    line_first : IsLineBehind colour 5 lines.first (slots_of 0 frames) (slots_of 0 outs)
-    line_first = subst (λ w. IsLineBehind colour w lines.first (slots_of 0 frames) (slots_of 0 outs)) five is.first
+    line_first : IsLineBehind colour 5 lines.first (each_slot 0 frames) (each_slot 0 outs)
+    line_first = subst (λ w. IsLineBehind colour w lines.first (each_slot 0 frames) (each_slot 0 outs)) five is.first
 
-    line_second : IsLineBehind colour 5 lines.second (slots_of 1 frames) (slots_of 1 outs)
-    line_second = subst (λ w. IsLineBehind colour w lines.second (slots_of 1 frames) (slots_of 1 outs)) five is.second
+    line_second : IsLineBehind colour 5 lines.second (each_slot 1 frames) (each_slot 1 outs)
+    line_second = subst (λ w. IsLineBehind colour w lines.second (each_slot 1 frames) (each_slot 1 outs)) five is.second
 
     both : AllByRecursion (λ f. length f ≡ 2) (frames ++ frame ∷ [])
     both = all_more (λ f. length f ≡ 2) frames frame is.both two
@@ -97,19 +99,19 @@ lines_decide colour lines new one other frames outs frame first second was_first
     inside : length outs < length all
     inside = omega (arith, length-append frames (frame ∷ []), is.count, five)
 
-    at_slot : (number : ℕ) → get_or (slots_of number all) (length outs) None ≡ get_or (get_or all (length outs) []) number None
+    at_slot : (number : ℕ) → get_or (each_slot number all) (length outs) None ≡ get_or (get_or all (length outs) []) number None
     at_slot number = get_or-map (λ f. get_or f number None) all (length outs) [] None inside
 
-    as_many : (number : ℕ) → length (slots_of number outs) ≡ length outs
+    as_many : (number : ℕ) → length (each_slot number outs) ≡ length outs
     as_many number = length-map outs (λ f. get_or f number None)
 
     was : (number : ℕ) (line taken : LineState) → taken ≡ record line { slots = drop 1 line.slots ++ get_or frame number None ∷ [] }
-        → IsLineBehind colour 5 line (slots_of number frames) (slots_of number outs)
+        → IsLineBehind colour 5 line (each_slot number frames) (each_slot number outs)
         → get_or taken.slots 0 None ≡ get_or (get_or all (length outs) []) number None
     was number line taken e behind =
-        line_oldest colour line taken (slots_of number frames) (slots_of number outs) (get_or frame number None) e behind
-        ∙ ap (λ l. get_or l (length (slots_of number outs)) None) (sym (slots_more number frames frame))
-        ∙ ap (λ n. get_or (slots_of number all) n None) (as_many number) ∙ at_slot number
+        line_oldest colour line taken (each_slot number frames) (each_slot number outs) (get_or frame number None) e behind
+        ∙ ap (λ l. get_or l (length (each_slot number outs)) None) (sym (slots_more number frames frame))
+        ∙ ap (λ n. get_or (each_slot number all) n None) (as_many number) ∙ at_slot number
 
     pair : (a b c d : UplinkSlot) → a ≡ c → b ≡ d → a ∷ b ∷ [] ≡ c ∷ d ∷ []
     pair a b c d e f = cc
@@ -151,9 +153,10 @@ IsRate errors loss (Limits lines) = ⊥
 IsRate errors loss (Rate e l first second) = (e ≡ errors) × (l ≡ loss)
 
 -- a frame at a rate is taken and decided
-pub rate_decides : (damage : Damage) (old new : Damager) (errors loss : ℕ) (frames outs : List UplinkSlots) (frame out : UplinkSlots)
-    → IsRate errors loss old → IsRate errors loss new → IsFrameAtRate errors loss frame out → IsBehind damage old frames outs
-    → IsBehind damage new (frames ++ frame ∷ []) (outs ++ out ∷ []) × (frame ≡ get_or (frames ++ frame ∷ []) (length outs) [])
+pub rate_decides : (damage : Damage) (old new : Damager) (errors loss : ℕ) (frames outs : List UplinkSlots)
+    (frame out : UplinkSlots)
+    → IsRate errors loss old → IsRate errors loss new → IsFrameAtRate errors loss frame out → WasGiven damage old frames outs
+    → WasGiven damage new (frames ++ frame ∷ []) (outs ++ out ∷ []) × (frame ≡ get_or (frames ++ frame ∷ []) (length outs) [])
 rate_decides (WithinLimits colour) (Limits lines) new errors loss frames outs frame out a b is behind = absurd a
 rate_decides (WithinLimits colour) (Rate e l f s) new errors loss frames outs frame out a b is behind = absurd behind
 rate_decides (AtRate e l) (Limits lines) new errors loss frames outs frame out a b is behind = absurd behind

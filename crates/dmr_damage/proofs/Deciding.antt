@@ -1,5 +1,5 @@
 -- What is decided of the oldest of six places.
-use Rattle.std.proofs.Common.{◌≡◌, ℕ, suc, List, [], ◌∷◌, Option, None, length, ◌<◌, get_or, drop, refl, sym, ◌∙◌, ap, subst, arith}
+use Rattle.std.proofs.Common.{◌≡◌, ℕ, List, [], ◌∷◌, Option, None, length, ◌<◌, get_or, drop, sym, subst, arith}
 use Rattle.dmr_hearing.specs.Hearing.{Hears}
 use Rattle.dmr_hearing.specs.Recorded.{AreHeard}
 use Rattle.dmr_hearing.specs.declared.heard.Heard.{Heard}
@@ -10,10 +10,9 @@ use Rattle.dmr_voice.specs.Bursts.{IsSaid}
 use Rattle.dmr_voice.specs.CallRules.{step_of}
 use Rattle.dmr_voice.specs.Carried.{IsCarried}
 use Rattle.dmr_voice.specs.declared.said.VoiceOut.{VoiceOut}
-use Rattle.dmr_voice.specs.declared.track.Track.{Track}
 use Rattle.dmr_damage.specs.Bursts.{IsDamagedSlot}
-use Rattle.dmr_damage.specs.Lines.{AreFieldsBehind, IsDecided, Memory}
-use Rattle.dmr_damage.specs.Marks.{mark_of}
+use Rattle.dmr_damage.specs.LimitedSlots.{AreFieldsBehind, IsDecided, Memory}
+use Rattle.dmr_damage.specs.Marks.{burst_mark}
 
 -- the first of six places is heard
 pub first_heard : (colour : ℕ) (slots : List UplinkSlot) (hs : List Heard) (here : Heard) → 0 < length slots
@@ -28,7 +27,7 @@ pub decided_first : (colour : ℕ) (memory new : Memory) (slots : List UplinkSlo
     → get_or hs 0 here ≡ here → IsCarried colour (drop 1 hs) carried
     → ((k : Option FullLc) × IsCarried colour (drop 1 hs) k × IsSaid colour (step_of colour memory.state hs k).0 said)
     → new.state ≡ (step_of colour memory.state hs carried).1
-    → IsDamagedSlot colour (mark_of colour here said) (get_or memory.fields 0 None) (get_or slots 0 None) out
+    → IsDamagedSlot colour (burst_mark colour here said) (get_or memory.fields 0 None) (get_or slots 0 None) out
     → AreFieldsBehind said carried memory.fields new.fields
     → IsDecided colour memory (get_or slots 0 None) (drop 1 slots) out new
 decided_first colour memory new [] hs here carried said out some are e carries says state damaged fields = absurd (omega arith)
@@ -43,7 +42,7 @@ decided_first colour memory new (s ∷ slots) (h ∷ hs) here carried said out s
   said = said;
   says = subst (λ k. IsSaid colour (step_of colour memory.state (h ∷ hs) k).0 said)
       (one_carried colour hs says.0 carried says.1 carries) says.2;
-  damaged = subst (λ x. IsDamagedSlot colour (mark_of colour x said) (get_or memory.fields 0 None) s out) (sym e) damaged;
+  damaged = subst (λ x. IsDamagedSlot colour (burst_mark colour x said) (get_or memory.fields 0 None) s out) (sym e) damaged;
   state = state;
   fields = fields;
 }

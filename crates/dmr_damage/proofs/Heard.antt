@@ -1,5 +1,5 @@
 -- Slots that are heard, moved on by one.
-use Rattle.std.proofs.Common.{ℕ, zero, suc, ◌<◌, List, [], ◌∷◌, ◌++◌, All, Option, length, get_or, drop, arith}
+use Rattle.std.proofs.Common.{ℕ, zero, suc, List, [], ◌∷◌, ◌++◌, All, Option, drop, arith}
 use Rattle.std.proofs.lemmas.List.Elements.{All-append, All-drop}
 use Rattle.dmr_hearing.specs.Fit.{IsFitHeard}
 use Rattle.dmr_hearing.specs.Hearing.{Hears}

@@ -1,13 +1,13 @@
 -- Bursts that are damaged by what they count as.
-use Rattle.std.proofs.Common.{◌≡◌, ◌≢◌, ℕ, ◌<◌, ◌≤◌, Bool, true, false, List, Option, Some, None, refl, sym, ◌∙◌, ap, subst, arith}
+use Rattle.std.proofs.Common.{◌≡◌, ◌≢◌, ℕ, ◌<◌, ◌≤◌, Bool, true, false, List, Option, Some, None, refl, sym, subst, arith}
 use Rattle.std.proofs.Common.{inl, inr}
 use Rattle.std.proofs.lemmas.Bool.{cases_lt}
-use Rattle.std.specs.Prelude.{IfSome, IfNone, MatchOption}
-use Rattle.dmr_bits.specs.Bits.{distance, number_of}
+use Rattle.std.specs.Prelude.{IfSome}
+use Rattle.dmr_bits.specs.Bits.{distance}
 use Rattle.dmr_bptc.specs.Decoding.{IsDamaged}
-use Rattle.dmr_bptc.specs.ProductWord.{IsProductWord, IsWritten}
+use Rattle.dmr_bptc.specs.ProductWord.{IsProductWord}
 use Rattle.dmr_burst.specs.Emb.{HasEmb}
-use Rattle.dmr_burst.specs.Layout.{information_field, slot_type_field, embedded_field, emb_field, sync_field, vocoder_field}
+use Rattle.dmr_burst.specs.Layout.{slot_type_field, emb_field, sync_field}
 use Rattle.dmr_burst.specs.SlotType.{HasSlotType, slot_type_of}
 use Rattle.dmr_burst.specs.Sync.{HasSync, sync_word}
 use Rattle.dmr_burst.specs.declared.emb.Emb.{Emb}

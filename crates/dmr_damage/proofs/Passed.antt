@@ -1,8 +1,8 @@
 -- Frames that were passed: given to what damages them, and those that were decided written and counted.
-use Rattle.std.proofs.Common.{◌≡◌, ℕ, zero, suc, ◌+◌, ◌*◌, ◌-◌, ◌<◌, ◌≤◌, List, [], ◌∷◌, ◌++◌, Option, None, length, map, get_or, replicate}
+use Rattle.std.proofs.Common.{◌≡◌, ℕ, zero, suc, ◌+◌, ◌<◌, ◌≤◌, List, [], ◌∷◌, ◌++◌, Option, None, length, get_or, replicate}
 use Rattle.std.proofs.Common.{refl, sym, ◌∙◌, ap, subst, arith, append_assoc, length-append}
 use Rattle.std.specs.Prelude.{Result, Ok, Err, IfErr, OnErr}
-use Rattle.std.specs.Io.KnownBytes.{Appends, Consumes, IsAtEnd}
+use Rattle.std.specs.Io.KnownBytes.{Appends, Consumes}
 use Rattle.std.specs.List.{AllByRecursion}
 use Rattle.std.proofs.KnownBytes.{Appends-trans, Consumes-trans}
 use Rattle.std.proofs.Common.{inl, inr}
@@ -11,18 +11,19 @@ use Rattle.std.proofs.lemmas.List.{append-nil, map-append, replicate-append-repl
 use Rattle.dmr_record.proofs.Torn.{Tears_after}
 use Rattle.dmr_record.specs.Devices.{Tears}
 use Rattle.dmr_record.specs.Head.{head_octets, uplink_magic}
-use Rattle.dmr_record.specs.Uplink.{IsFrame, UplinkSlot, UplinkSlots, frame_octets, frames_octets, slot_octets, uplink_file}
+use Rattle.dmr_record.specs.Uplink.{IsFrame, UplinkSlots, frame_octets, frames_octets, slot_octets, uplink_file}
 use Rattle.dmr_recording.specs.declared.fault_line.FaultLine.{FaultLine}
-use Rattle.dmr_damage.specs.Counts.{counted, counted_frame, counts_of, none_counted}
-use Rattle.dmr_damage.specs.Frames.{AreDamagedBy, IsBehind, rest_of, slots_of}
-use Rattle.dmr_damage.specs.Lines.{fresh_memory}
-use Rattle.dmr_damage.specs.Passing.{IsBehindHead, IsFaultBehind, IsFrontTorn, IsPassed, IsPassedTorn, IsReached, IsTornBehind}
-use Rattle.dmr_damage.specs.Passing.{IsWholeBehind, silent_frame}
-use Rattle.dmr_damage.specs.Recordings.{AreWritten, IfRecording, IsAtFault, IsAtFrameFault, IsDamagedWhole, IsFrameFault, IsTorn}
+use Rattle.dmr_damage.specs.Counts.{counted_frame, counted_frames, damage_counts, none_damaged_yet}
+use Rattle.dmr_damage.specs.Frames.{AreDamagedBy, WasGiven, rest_of, each_slot}
+use Rattle.dmr_damage.specs.LimitedSlots.{fresh_memory}
+use Rattle.dmr_damage.specs.Passing.{IsBehindHead, IsFaultInFrames, IsFrontTorn, ArePassed, IsPassedTorn, IsReached, IsTornBehind}
+use Rattle.dmr_damage.specs.Passing.{IsWholeBehind, silence_in_both}
+use Rattle.dmr_damage.specs.Recordings.{AreWritten, IfRecording, IsFaultOfRecording, IsAtFrameFault, IsDamagedWhole}
+use Rattle.dmr_damage.specs.Recordings.{IsFrameFault, IsTorn}
 use Rattle.dmr_damage.specs.declared.recording.DamageEnd.{DamageEnd}
 use Rattle.dmr_damage.specs.declared.recording.DamageEnd.TheVariants as why
-use Rattle.dmr_damage.specs.declared.recording.Reached.{Reached}
-use Rattle.dmr_damage.specs.declared.recording.Reached.TheVariants.{End, Fault}
+use Rattle.dmr_damage.specs.declared.recording.PassEnd.{PassEnd}
+use Rattle.dmr_damage.specs.declared.recording.PassEnd.TheVariants.{End, Fault}
 use Rattle.dmr_damage.specs.Settings.{Settled}
 use Rattle.dmr_damage.specs.declared.counts.Damaged.{Damaged}
 use Rattle.dmr_damage.specs.declared.frames.Damager.{Damager}
@@ -33,13 +34,13 @@ use Rattle.dmr_damage.proofs.Behind.{all_more, rate_as_many}
 use Rattle.dmr_damage.proofs.Running.{line_ended}
 
 -- ---- counts
-nothing_more : (counts : Damaged) (frames : List UplinkSlots) → counted counts frames [] ≡ counts
+nothing_more : (counts : Damaged) (frames : List UplinkSlots) → counted_frames counts frames [] ≡ counts
 nothing_more counts [] = refl
 nothing_more counts (f ∷ frames) = refl
 
 -- more frames than were written count for nothing
 pub counted_more : (counts : Damaged) (frames outs more : List UplinkSlots) → length outs ≤ length frames
-    → counted counts (frames ++ more) outs ≡ counted counts frames outs
+    → counted_frames counts (frames ++ more) outs ≡ counted_frames counts frames outs
 counted_more counts [] [] more h = nothing_more counts more
 counted_more counts [] (o ∷ outs) more h = absurd (omega arith)
 counted_more counts (f ∷ frames) [] more h = refl
@@ -47,14 +48,16 @@ counted_more counts (f ∷ frames) (o ∷ outs) more h = counted_more (counted_f
 
 -- one more is written
 pub counted_next : (counts : Damaged) (frames outs : List UplinkSlots) (out : UplinkSlots) → length outs < length frames
-    → counted counts frames (outs ++ out ∷ []) ≡ counted_frame (counted counts frames outs) (get_or frames (length outs) []) out
+    → counted_frames counts frames (outs ++ out ∷ [])
+    ≡ counted_frame (counted_frames counts frames outs) (get_or frames (length outs) []) out
 counted_next counts [] outs out h = absurd (omega arith)
 counted_next counts (f ∷ frames) [] out h = nothing_more (counted_frame counts f out) frames
 counted_next counts (f ∷ frames) (o ∷ outs) out h = counted_next (counted_frame counts f o) frames outs out (omega arith)
 
 -- ---- files
 -- the file of one more frame
-pub file_more : (outs : List UplinkSlots) (out : UplinkSlots) → uplink_file outs ++ frame_octets out ≡ uplink_file (outs ++ out ∷ [])
+pub file_more : (outs : List UplinkSlots) (out : UplinkSlots)
+    → uplink_file outs ++ frame_octets out ≡ uplink_file (outs ++ out ∷ [])
 file_more outs out =
     append_assoc (head_octets uplink_magic) (frames_octets outs) (frame_octets out)
     ∙ ap (λ l. head_octets uplink_magic ++ l) (flat_map_more frame_octets [] outs out)
@@ -81,31 +84,31 @@ second_torn (Err e) a b c xs ys first torn = Tears_after a b c xs ys first torn
 -- ---- one frame
 -- it waits
 pub passed_waits : (damage : Damage) (old new : Damager) (counts : Damaged) (frames outs : List UplinkSlots) (frame : UplinkSlots)
-    (held held' : Option (List ℕ)) → IsPassed damage old counts frames outs held held'
-    → IsBehind damage new (frames ++ frame ∷ []) outs → IsPassed damage new counts (frames ++ frame ∷ []) outs held held'
+    (held held' : Option (List ℕ)) → ArePassed damage old counts frames outs held held'
+    → WasGiven damage new (frames ++ frame ∷ []) outs → ArePassed damage new counts (frames ++ frame ∷ []) outs held held'
 passed_waits damage old new counts frames outs frame held held' is behind = record {
   behind = behind;
   whole = is.whole;
   fewer = omega (arith, is.fewer, length-append frames (frame ∷ []));
-  counted = is.counted ∙ sym (counted_more none_counted frames outs (frame ∷ []) is.fewer);
+  counted = is.counted ∙ sym (counted_more none_damaged_yet frames outs (frame ∷ []) is.fewer);
   as_many = is.as_many;
   written = is.written;
 }
 
 -- one is decided
 pub passed_decided : (damage : Damage) (old new : Damager) (counts counts' : Damaged) (frames outs : List UplinkSlots)
-    (frame was out : UplinkSlots) (held mid held' : Option (List ℕ)) → IsPassed damage old counts frames outs held mid
-    → IsBehind damage new (frames ++ frame ∷ []) (outs ++ out ∷ []) → was ≡ get_or (frames ++ frame ∷ []) (length outs) []
+    (frame was out : UplinkSlots) (held mid held' : Option (List ℕ)) → ArePassed damage old counts frames outs held mid
+    → WasGiven damage new (frames ++ frame ∷ []) (outs ++ out ∷ []) → was ≡ get_or (frames ++ frame ∷ []) (length outs) []
     → IsFrame out → counts' ≡ counted_frame counts was out → counts'.frames ≡ counts.frames + 1
-    → Appends mid held' (frame_octets out) → IsPassed damage new counts' (frames ++ frame ∷ []) (outs ++ out ∷ []) held held'
+    → Appends mid held' (frame_octets out) → ArePassed damage new counts' (frames ++ frame ∷ []) (outs ++ out ∷ []) held held'
 passed_decided damage old new counts counts' frames outs frame was out held mid held' is behind e whole count one written = record {
   behind = behind;
   whole = all_more IsFrame outs out is.whole whole;
   fewer = omega (arith, is.fewer, length-append frames (frame ∷ []), length-append outs (out ∷ []));
   counted = count ∙ ap (λ c. counted_frame c was out) (is.counted
-      ∙ sym (counted_more none_counted frames outs (frame ∷ []) is.fewer))
-      ∙ ap (λ w. counted_frame (counts_of (frames ++ frame ∷ []) outs) w out) e
-      ∙ sym (counted_next none_counted (frames ++ frame ∷ []) outs out
+      ∙ sym (counted_more none_damaged_yet frames outs (frame ∷ []) is.fewer))
+      ∙ ap (λ w. counted_frame (damage_counts (frames ++ frame ∷ []) outs) w out) e
+      ∙ sym (counted_next none_damaged_yet (frames ++ frame ∷ []) outs out
       (omega (arith, is.fewer, length-append frames (frame ∷ []))));
   as_many = one ∙ (omega (arith, is.as_many, length-append outs (out ∷ [])));
   written = subst (Appends held held') (file_more outs out)
@@ -114,8 +117,8 @@ passed_decided damage old new counts counts' frames outs frame was out held mid 
 
 -- it isn't written whole
 pub passed_torn : (damage : Damage) (old new : Damager) (counts : Damaged) (frames outs : List UplinkSlots)
-    (frame out : UplinkSlots) (held mid held' : Option (List ℕ)) → IsPassed damage old counts frames outs held mid
-    → IsBehind damage new (frames ++ frame ∷ []) (outs ++ out ∷ []) → Tears mid held' (frame_octets out)
+    (frame out : UplinkSlots) (held mid held' : Option (List ℕ)) → ArePassed damage old counts frames outs held mid
+    → WasGiven damage new (frames ++ frame ∷ []) (outs ++ out ∷ []) → Tears mid held' (frame_octets out)
     → IsPassedTorn damage new (frames ++ frame ∷ []) held held'
 passed_torn damage old new counts frames outs frame out held mid held' is behind torn = record {
   outs = outs ++ out ∷ [];
@@ -126,7 +129,8 @@ passed_torn damage old new counts frames outs frame out held mid held' is behind
 
 -- ---- the begin
 pub none_passed : (damage : Damage) (damager : Damager) (counts : Damaged) (held held' : Option (List ℕ))
-    → IsBehind damage damager [] [] → counts ≡ none_counted → IsBehindHead held held' → IsPassed damage damager counts [] [] held held'
+    → WasGiven damage damager [] [] → counts ≡ none_damaged_yet → IsBehindHead held held'
+    → ArePassed damage damager counts [] [] held held'
 none_passed damage damager counts held held' behind e head = record {
   behind = behind;
   whole = tt;
@@ -137,29 +141,29 @@ none_passed damage damager counts held held' behind e head = record {
 }
 
 -- ---- the end
-silent_slots : (number : ℕ) (silent : ℕ) → get_or silent_frame number None ≡ None
-    → slots_of number (replicate silent silent_frame) ≡ replicate silent None
+silent_slots : (number : ℕ) (silent : ℕ) → get_or silence_in_both number None ≡ None
+    → each_slot number (replicate silent silence_in_both) ≡ replicate silent None
 silent_slots number zero e = refl
 silent_slots number (suc n) e =
-    ap (λ s. s ∷ slots_of number (replicate n silent_frame)) e ∙ ap (λ l. None ∷ l) (silent_slots number n e)
+    ap (λ s. s ∷ each_slot number (replicate n silence_in_both)) e ∙ ap (λ l. None ∷ l) (silent_slots number n e)
 
-ended_slots : (number silent : ℕ) (frames : List UplinkSlots) → get_or silent_frame number None ≡ None
-    → slots_of number (frames ++ replicate silent silent_frame) ≡ slots_of number frames ++ replicate silent None
+ended_slots : (number silent : ℕ) (frames : List UplinkSlots) → get_or silence_in_both number None ≡ None
+    → each_slot number (frames ++ replicate silent silence_in_both) ≡ each_slot number frames ++ replicate silent None
 ended_slots number silent frames e =
-    map-append (λ f. get_or f number None) frames (replicate silent silent_frame)
-    ∙ ap (λ l. slots_of number frames ++ l) (silent_slots number silent e)
+    map-append (λ f. get_or f number None) frames (replicate silent silence_in_both)
+    ∙ ap (λ l. each_slot number frames ++ l) (silent_slots number silent e)
 
-no_silence : (silent : ℕ) (frames : List UplinkSlots) → silent ≤ 0 → frames ++ replicate silent silent_frame ≡ frames
+no_silence : (silent : ℕ) (frames : List UplinkSlots) → silent ≤ 0 → frames ++ replicate silent silence_in_both ≡ frames
 no_silence zero frames h = append-nil frames
 no_silence (suc n) frames h = absurd (omega arith)
 
 -- what was decided before the end is what the frames are written as
 pub ended : (damage : Damage) (damager : Damager) (silent : ℕ) (frames outs : List UplinkSlots) → silent ≤ rest_of damager
-    → IsBehind damage damager (frames ++ replicate silent silent_frame) outs → AreDamagedBy damage frames outs
+    → WasGiven damage damager (frames ++ replicate silent silence_in_both) outs → AreDamagedBy damage frames outs
 ended (WithinLimits colour) (Limits lines) silent frames outs few is = (
-  line_ended colour lines.waiting silent lines.first (slots_of 0 frames) (slots_of 0 outs) few
+  line_ended colour lines.waiting silent lines.first (each_slot 0 frames) (each_slot 0 outs) few
       (rw (← ended_slots 0 silent frames refl) is.first),
-  line_ended colour lines.waiting silent lines.second (slots_of 1 frames) (slots_of 1 outs) few
+  line_ended colour lines.waiting silent lines.second (each_slot 1 frames) (each_slot 1 outs) few
       (rw (← ended_slots 1 silent frames refl) is.second),
 )
 ended (WithinLimits colour) (Rate e l f s) silent frames outs few is = absurd is
@@ -169,9 +173,9 @@ ended (AtRate errors loss) (Rate e l f s) silent frames outs few is =
 
 -- there are as many
 pub ended_as_many : (damage : Damage) (damager : Damager) (frames outs : List UplinkSlots)
-    → IsBehind damage damager (frames ++ replicate (rest_of damager) silent_frame) outs → length outs ≡ length frames
+    → WasGiven damage damager (frames ++ replicate (rest_of damager) silence_in_both) outs → length outs ≡ length frames
 ended_as_many (WithinLimits colour) (Limits lines) frames outs is =
-    omega (arith, is.count, length-append frames (replicate 5 silent_frame), full)
+    omega (arith, is.count, length-append frames (replicate 5 silence_in_both), full)
   where
     nothing : lines.waiting < 5 → length outs ≡ 0
     nothing h = ap length (is.begin h)
@@ -179,7 +183,7 @@ ended_as_many (WithinLimits colour) (Limits lines) frames outs is =
     full : lines.waiting ≡ 5
     full =
         elim (cases_lt lines.waiting 5) [
-          | inl h ↦ absurd (omega (arith, nothing h, is.count, length-append frames (replicate 5 silent_frame), h))
+          | inl h ↦ absurd (omega (arith, nothing h, is.count, length-append frames (replicate 5 silence_in_both), h))
           | inr h ↦ omega (arith, h, is.few)
         ]
 ended_as_many (WithinLimits colour) (Rate e l f s) frames outs is = absurd is
@@ -190,8 +194,8 @@ ended_as_many (AtRate errors loss) (Rate e l f s) frames outs is =
 -- the whole of it
 pub ended_written : (settled : Settled) (damager : Damager) (counts : Damaged) (frames outs : List UplinkSlots)
     (held held' : Option (List ℕ))
-    → IsPassed settled.damage damager counts (frames ++ replicate (rest_of damager) silent_frame) outs held held'
-    → AreWritten settled frames outs held held' × (counts ≡ counts_of frames outs)
+    → ArePassed settled.damage damager counts (frames ++ replicate (rest_of damager) silence_in_both) outs held held'
+    → AreWritten settled frames outs held held' × (counts ≡ damage_counts frames outs)
 ended_written settled damager counts frames outs held held' is = (
   record {
     damaged = ended settled.damage damager (rest_of damager) frames outs (omega arith) is.behind;
@@ -199,7 +203,7 @@ ended_written settled damager counts frames outs held held' is = (
     whole = is.whole;
     written = is.written;
   },
-  is.counted ∙ counted_more none_counted frames outs (replicate (rest_of damager) silent_frame) (omega (arith, many)),
+  is.counted ∙ counted_more none_damaged_yet frames outs (replicate (rest_of damager) silence_in_both) (omega (arith, many)),
 )
   where
     many : length outs ≡ length frames
@@ -215,21 +219,21 @@ front_torn settled damager held held' left left' is = record {
   part = [];
   read = subst (Consumes left left') (sym (append-nil (frames_octets is.frames))) is.read;
   damaged = ended settled.damage damager 0 is.frames is.torn.outs (omega arith)
-      (subst (λ fs. IsBehind settled.damage damager fs is.torn.outs) (sym (append-nil is.frames)) is.torn.behind);
+      (subst (λ fs. WasGiven settled.damage damager fs is.torn.outs) (sym (append-nil is.frames)) is.torn.behind);
   written = is.torn.written;
 }
 
 -- at the end or at a fault, these frames were read and what is behind them
-pub reached_part : (reached : Reached) (frames : List UplinkSlots) (left left' : Option (List ℕ)) → IsReached reached frames left left'
-    → (part : List ℕ) × Consumes left left' (frames_octets frames ++ part)
+pub reached_part : (reached : PassEnd) (frames : List UplinkSlots) (left left' : Option (List ℕ))
+    → IsReached reached frames left left' → (part : List ℕ) × Consumes left left' (frames_octets frames ++ part)
 reached_part End frames left left' is = ([], subst (Consumes left left') (sym (append-nil (frames_octets frames))) is.0)
 reached_part (Fault fault) frames left left' is = (is.0, is.1)
 
 -- of what was read to the end a front was written
-pub rest_torn : (settled : Settled) (damager : Damager) (reached : Reached) (silent : ℕ) (frames : List UplinkSlots)
+pub rest_torn : (settled : Settled) (damager : Damager) (reached : PassEnd) (silent : ℕ) (frames : List UplinkSlots)
     (held held' left left' : Option (List ℕ)) → AllByRecursion IsFrame frames → IsReached reached frames left left'
     → silent ≤ rest_of damager
-    → IsPassedTorn settled.damage damager (frames ++ replicate silent silent_frame) held held'
+    → IsPassedTorn settled.damage damager (frames ++ replicate silent silence_in_both) held held'
     → IsTornBehind settled left left' held held'
 rest_torn settled damager reached silent frames held held' left left' whole is few torn =
     let read = reached_part reached frames left left' is in
@@ -245,10 +249,10 @@ rest_torn settled damager reached silent frames held held' left left' whole is f
 
 -- one more silent frame
 pub one_more_silent : (frames : List UplinkSlots) (n : ℕ)
-    → (frames ++ replicate n silent_frame) ++ silent_frame ∷ [] ≡ frames ++ replicate (n + 1) silent_frame
+    → (frames ++ replicate n silence_in_both) ++ silence_in_both ∷ [] ≡ frames ++ replicate (n + 1) silence_in_both
 one_more_silent frames n =
-    append_assoc frames (replicate n silent_frame) (silent_frame ∷ [])
-    ∙ ap (λ l. frames ++ l) (replicate-append-replicate n 1 silent_frame)
+    append_assoc frames (replicate n silence_in_both) (silence_in_both ∷ [])
+    ∙ ap (λ l. frames ++ l) (replicate-append-replicate n 1 silence_in_both)
 
 -- no frames are damaged in any way
 pub none_damaged : (damage : Damage) → AreDamagedBy damage [] []
@@ -268,7 +272,8 @@ part_read a b c frames part head rest =
     (Consumes-trans a b c (head_octets uplink_magic) (frames_octets frames ++ part) head rest)
 
 pub whole_with_head : (settled : Settled) (counts : Damaged) (a b c held held' : Option (List ℕ))
-    → Consumes a b (head_octets uplink_magic) → IsWholeBehind settled counts b c held held' → IsDamagedWhole settled counts a c held held'
+    → Consumes a b (head_octets uplink_magic) → IsWholeBehind settled counts b c held held'
+    → IsDamagedWhole settled counts a c held held'
 whole_with_head settled counts a b c held held' head is = record {
   frames = is.frames;
   outs = is.outs;
@@ -280,7 +285,7 @@ whole_with_head settled counts a b c held held' head is = record {
 }
 
 pub fault_with_head : (settled : Settled) (fault : FaultLine) (a b c held held' : Option (List ℕ))
-    → Consumes a b (head_octets uplink_magic) → IsFaultBehind settled fault b c held held'
+    → Consumes a b (head_octets uplink_magic) → IsFaultInFrames settled fault b c held held'
     → IsAtFrameFault settled fault a c held held'
 fault_with_head settled fault a b c held held' head is = record {
   frames = is.frames;
@@ -309,8 +314,8 @@ torn_with_head settled a b c held held' head is = record {
 pub faults_with_head : (settled : Settled) (r : Result Damaged DamageEnd) (a b c held mid held' : Option (List ℕ))
     → Consumes a b (head_octets uplink_magic) → IsBehindHead held mid
     → IfErr r (λ e. IfRecording e (λ fault. (from : Option (List ℕ)) → IsBehindHead from mid
-    → IsFaultBehind settled fault b c from held'))
-    → IfErr r (λ e. IfRecording e (λ fault. IsAtFault settled fault a c held held'))
+    → IsFaultInFrames settled fault b c from held'))
+    → IfErr r (λ e. IfRecording e (λ fault. IsFaultOfRecording settled fault a c held held'))
 faults_with_head settled (Ok counts) a b c held mid held' head begun is = tt
 faults_with_head settled (Err (why.File fault)) a b c held mid held' head begun is =
     inr (fault_with_head settled fault a b c held held' head (is held begun))

@@ -1,10 +1,10 @@
 -- Slots that are decided one after another.
-use Rattle.std.proofs.Common.{◌≡◌, ℕ, zero, suc, ◌+◌, ◌-◌, ◌<◌, ◌≤◌, List, [], ◌∷◌, ◌++◌, Option, Some, None, length, map, get_or, take}
+use Rattle.std.proofs.Common.{◌≡◌, ℕ, ◌+◌, ◌-◌, ◌<◌, ◌≤◌, List, [], ◌∷◌, ◌++◌, None, length, get_or}
 use Rattle.std.proofs.Common.{drop, replicate, refl, sym, ◌∙◌, ap, subst, arith, append_assoc, length-append, length-drop}
-use Rattle.std.proofs.lemmas.List.{append-nil, drop-append-le, drop-drop, map-append, get_or-map, replicate-append-replicate, length-map}
+use Rattle.std.proofs.lemmas.List.{append-nil, drop-append-le, drop-drop, replicate-append-replicate}
 use Rattle.dmr_record.specs.Uplink.{UplinkSlot, UplinkSlots}
-use Rattle.dmr_damage.specs.Lines.{IsDecided, IsDamagedLine, LineState, Memory, Runs, fresh_memory}
-use Rattle.dmr_damage.specs.Frames.{IsLineBehind, slots_of}
+use Rattle.dmr_damage.specs.LimitedSlots.{IsDecided, IsDamagedLine, LineState, Memory, Runs, fresh_memory}
+use Rattle.dmr_damage.specs.Frames.{IsLineBehind}
 
 -- ---- lists
 -- a list that isn't empty
@@ -40,8 +40,15 @@ pub runs_next : (colour : ℕ) (old : Memory) (slots outs : List UplinkSlot) (mi
     (ahead : List UplinkSlot) (out : UplinkSlot) (new : Memory) → Runs colour old slots outs mid (slot ∷ ahead) → length ahead ≡ 5
     → IsDecided colour mid slot ahead out new → Runs colour old slots (outs ++ out ∷ []) new ahead
 runs_next colour old slots [] mid slot ahead out new run five decided =
-    subst (λ s. Runs colour old s (out ∷ []) new ahead) (sym run.1)
-    (ahead, [], new, five, sym (append-nil ahead), subst (λ m. IsDecided colour m slot ahead out new) (sym run.0) decided, (refl, refl))
+    subst (λ s. Runs colour old s (out ∷ []) new ahead) (sym run.1) (
+      ahead,
+      [],
+      new,
+      five,
+      sym (append-nil ahead),
+      subst (λ m. IsDecided colour m slot ahead out new) (sym run.0) decided,
+      (refl, refl),
+    )
 runs_next colour old [] (o ∷ outs) mid slot ahead out new run five decided = absurd run
 runs_next colour old (s ∷ slots) (o ∷ outs) mid slot ahead out new (a, b, m, f, e, d, run) five decided =
     (a, b, m, f, e, d, runs_next colour m slots outs mid slot ahead out new run five decided)

@@ -1,7 +1,7 @@
 -- The fields of a burst in which others were written.
-use Rattle.std.proofs.Common.{◌≡◌, ℕ, ◌+◌, ◌-◌, ◌≤◌, Bool, List, ◌++◌, length, refl, sym, ◌∙◌, ap, arith}
+use Rattle.std.proofs.Common.{◌≡◌, ℕ, ◌+◌, ◌≤◌, Bool, List, ◌++◌, length, ◌∙◌, ap, arith}
 use Rattle.dmr_bits.specs.Bits.{part, put_at}
-use Rattle.dmr_bits.proofs.Parts.{length-put_at, part_put_same, part_put_before, part_put_behind, parts_join}
+use Rattle.dmr_bits.proofs.Parts.{part_put_same, part_put_before, part_put_behind, parts_join}
 
 -- two pieces that are as they were
 pub two : (a b c d : List Bool) → a ≡ c → b ≡ d → a ++ b ≡ c ++ d
@@ -39,7 +39,8 @@ pub twice_written : (b mid new w : List Bool) (at again half : ℕ) → IsPutTwi
     → part new at (at + half) ++ part new again (again + half) ≡ w
 twice_written b mid new w at again half is =
     two (part new at (at + half)) (part new again (again + half)) (part w 0 half) (part w half (half + half))
-    (put_before mid new (part w half (half + half)) again at (at + half) is.second is.kept (omega (arith, is.second_wide, is.inside))
+    (put_before mid new (part w half (half + half)) again at (at + half) is.second is.kept
+    (omega (arith, is.second_wide, is.inside))
     (omega arith) is.order
     ∙ put_same b mid (part w 0 half) at (at + half) is.first is.long (omega (arith, is.first_wide))
     (omega (arith, is.order, is.inside)))

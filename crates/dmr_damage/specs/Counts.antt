@@ -5,8 +5,8 @@ use Rattle.dmr_record.specs.Uplink.{UplinkSlot, UplinkSlots}
 use Rattle.dmr_damage.specs.declared.counts.Damaged.{Damaged}
 
 -- before the first frame
-abbrev pub none_counted : Damaged
-none_counted = record { frames = 0; bursts = 0; changed = 0; silenced = 0; bits = 0 }
+abbrev pub none_damaged_yet : Damaged
+none_damaged_yet = record { frames = 0; bursts = 0; changed = 0; silenced = 0; bits = 0 }
 
 -- a burst that differs in so many bits from what it was
 abbrev pub counted_turned : Damaged → ℕ → Damaged
@@ -26,18 +26,19 @@ counted_slot counts (Some was) (Some is) = counted_turned counts (distance (bits
 -- a frame: both slots
 abbrev pub counted_frame : Damaged → UplinkSlots → UplinkSlots → Damaged
 counted_frame counts was is =
-    counted_slot (counted_slot (record counts { frames = counts.frames + 1 }) (slice_index_or was 0 None) (slice_index_or is 0 None))
-    (slice_index_or was 1 None) (slice_index_or is 1 None)
+    let first =
+    counted_slot (record counts { frames = counts.frames + 1 }) (slice_index_or was 0 None) (slice_index_or is 0 None) in
+    counted_slot first (slice_index_or was 1 None) (slice_index_or is 1 None)
 
 -- frame by frame, as far as there are both
-abbrev pub counted : Damaged → (frames outs : List UplinkSlots) → Damaged
-counted counts [] outs = counts
-counted counts (was ∷ frames) [] = counts
-counted counts (was ∷ frames) (is ∷ outs) = counted (counted_frame counts was is) frames outs
+abbrev pub counted_frames : Damaged → (frames outs : List UplinkSlots) → Damaged
+counted_frames counts [] outs = counts
+counted_frames counts (was ∷ frames) [] = counts
+counted_frames counts (was ∷ frames) (is ∷ outs) = counted_frames (counted_frame counts was is) frames outs
 
 -- the counts of two recordings
-abbrev pub counts_of : (frames outs : List UplinkSlots) → Damaged
-counts_of frames outs = counted none_counted frames outs
+abbrev pub damage_counts : (frames outs : List UplinkSlots) → Damaged
+damage_counts frames outs = counted_frames none_damaged_yet frames outs
 
 -- In so many slots no more can be counted.
 pub record IsFew (slots : ℕ) (counts : Damaged) : Type 0 where

@@ -2,7 +2,7 @@ pub mod Bursts
 pub mod Counts
 pub mod Fitting
 pub mod Frames
-pub mod Lines
+pub mod LimitedSlots
 pub mod Marks
 pub mod Passing
 pub mod Rates

@@ -7,21 +7,21 @@ use Rattle.dmr_hearing.specs.declared.heard.DataBurst.{DataBurst}
 use Rattle.dmr_hearing.specs.declared.heard.Heard.{Heard}
 use Rattle.dmr_voice.specs.declared.said.VoiceOut.{VoiceOut}
 use Rattle.dmr_voice.specs.declared.said.VoiceOut.TheVariants.{Nothing, Repeat}
-use Rattle.dmr_damage.specs.declared.mark.Mark.{Mark}
-use Rattle.dmr_damage.specs.declared.mark.Mark.TheVariants.{Data, PlaceA, PlaceBToF, Unrepeated, Other}
+use Rattle.dmr_damage.specs.declared.mark.BurstMark.{BurstMark}
+use Rattle.dmr_damage.specs.declared.mark.BurstMark.TheVariants.{Data, PlaceA, PlaceBToF, Unrepeated, Other}
 
 -- Where data is repeated, the data burst that was heard; and where none was, a header is repeated once more.
-abbrev pub mark_of_data : Option DataBurst → Mark
+abbrev pub mark_of_data : Option DataBurst → BurstMark
 mark_of_data None = Other
 mark_of_data (Some data_burst) = Data data_burst
 
 -- Where this burst is repeated: data, place A where its sync was heard, or a place from B to F where its EMB was.
-abbrev pub mark_of_burst : ℕ → Heard → Burst → Mark
+abbrev pub mark_of_burst : ℕ → Heard → Burst → BurstMark
 mark_of_burst colour heard (burst.Data _ kind information) = mark_of_data heard.data_burst
 mark_of_burst colour heard (burst.VoiceSync vocoder) = if heard.voice then PlaceA else Other
 mark_of_burst colour heard (burst.Voice emb field vocoder) = if is_own colour heard.emb then PlaceBToF else Other
 
 -- What the burst of a slot counts as that is heard so, where this is repeated for it.
-abbrev pub mark_of : ℕ → Heard → VoiceOut → Mark
-mark_of colour heard Nothing = Unrepeated
-mark_of colour heard (Repeat b role) = mark_of_burst colour heard b
+abbrev pub burst_mark : ℕ → Heard → VoiceOut → BurstMark
+burst_mark colour heard Nothing = Unrepeated
+burst_mark colour heard (Repeat b role) = mark_of_burst colour heard b

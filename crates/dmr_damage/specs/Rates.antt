@@ -2,8 +2,8 @@
 use Rattle.std.specs.Prelude.{◌≡◌, ◌≢◌, ℕ, ◌≤◌, List, [], ◌∷◌, Some, None, IfSome, length, slice_index_or}
 use Rattle.dmr_record.specs.Uplink.{UplinkSlot, UplinkSlots}
 
--- A burst is left out, or its bits are turned. Where none is to be left out it stays, and where all are, it doesn't. Where no bit is
--- to be turned, it stays octet for octet.
+-- A burst is left out, or its bits are turned. Where none is to be left out it stays, and where all are, it doesn't. Where no bit
+-- is to be turned, it stays octet for octet.
 pub record IsBurstAtRate (errors loss : ℕ) (burst : List ℕ) (out : UplinkSlot) : Type 0 where
   pub kept : loss ≡ 0 → out ≢ None
   pub lost : 10000 ≤ loss → out ≡ None

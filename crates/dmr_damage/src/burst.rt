@@ -14,7 +14,7 @@ use crate::layout::{
     write_data_sync, write_emb, write_embedded, write_information, write_slot_type,
     write_voice_sync,
 };
-use crate::mark::Mark;
+use crate::mark::BurstMark;
 use crate::product::turned_product;
 use dmr_bits::Bits;
 use dmr_burst::{Side, data_type, read_emb, read_sync};
@@ -24,7 +24,7 @@ use rand_pcg::Pcg32;
 /// A burst with wrong bits, by what it counts as. `field` is what its embedded field is written as, where it is damaged.
 pub(crate) fn damaged_burst(
     colour: u8,
-    mark: &Mark,
+    mark: &BurstMark,
     field: Option<u32>,
     burst: &[u8; 33],
     rng: &mut Pcg32,
@@ -38,7 +38,7 @@ pub(crate) fn damaged_burst(
 /// The same, as bits.
 fn damaged_bits(
     colour: u8,
-    mark: &Mark,
+    mark: &BurstMark,
     field: Option<u32>,
     burst: &[u8; 33],
     rng: &mut Pcg32,
@@ -48,11 +48,11 @@ fn damaged_bits(
 {
     let bits = Bits::<264>::from_octets(burst);
     match mark {
-        Mark::Data(data_burst) => damaged_data(colour, &bits, data_burst, rng),
-        Mark::PlaceA => damaged_a(&bits, rng),
-        Mark::PlaceBToF => damaged_b_to_f(&bits, field, rng),
-        Mark::Unrepeated => damaged_unrepeated(colour, burst, rng),
-        Mark::Other => bits,
+        BurstMark::Data(data_burst) => damaged_data(colour, &bits, data_burst, rng),
+        BurstMark::PlaceA => damaged_a(&bits, rng),
+        BurstMark::PlaceBToF => damaged_b_to_f(&bits, field, rng),
+        BurstMark::Unrepeated => damaged_unrepeated(colour, burst, rng),
+        BurstMark::Other => bits,
     }
 }
 

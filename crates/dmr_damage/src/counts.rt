@@ -46,11 +46,11 @@ fn distance_between(was: &[u8; 33], is: &[u8; 33]) -> u32
 }
 
 impl Damaged {
-    ghost use Rattle.dmr_damage.specs.Counts.{counted_frame, counted_slot, counted_turned, none_counted, IsFew};
+    ghost use Rattle.dmr_damage.specs.Counts.{counted_frame, counted_slot, counted_turned, none_damaged_yet, IsFew};
 
     /// Before the first frame.
     pub(crate) fn none() -> Damaged
-        ensures value { result ≡ none_counted }
+        ensures value { result ≡ none_damaged_yet }
     {
         Damaged {
             frames: 0,

@@ -1,5 +1,5 @@
 //! Frames, damaged in their order.
-use crate::line::Line;
+use crate::line::LimitedSlot;
 use crate::rate::slot_at_rate;
 use crate::settings::{Damage, DamageSettings};
 use rand_pcg::Pcg32;
@@ -15,7 +15,7 @@ const AHEAD: u8 = 5;
 
 /// A frame that was damaged.
 #[derive(Drop)]
-pub struct Pair {
+pub struct DamagedFrame {
     /// As it was read.
     pub was: Frame,
     /// As it is written.
@@ -24,20 +24,20 @@ pub struct Pair {
 
 /// Both slots of a recording, damaged within the limits.
 #[derive(Drop)]
-pub struct Lines {
-    first: Line,
-    second: Line,
+pub struct LimitedSlots {
+    first: LimitedSlot,
+    second: LimitedSlot,
     /// How many frames wait to be decided.
     waiting: u8,
 }
 
-impl Lines {
+impl LimitedSlots {
     ghost use Rattle.std.specs.Prelude.{◌≡◌, ◌++◌, ◌∷◌, [], ℕ, List, length, slice_index_or, IfNone, IfSome};
     ghost use Rattle.dmr_record.specs.Uplink.{IsFrame, UplinkSlots};
     ghost use Rattle.dmr_damage.specs.Frames.{AreLinesBehind};
 
     /// Takes a frame, and answers the frame that is decided then, where five wait behind it.
-    fn take(&mut self, frame: &Frame) -> Option<Pair>
+    fn take(&mut self, frame: &Frame) -> Option<DamagedFrame>
         ensures waits { IfNone result ((colour : ℕ) (frames outs : List UplinkSlots) → AreLinesBehind colour self.old frames outs
             → AreLinesBehind colour self.new (frames ++ frame.now ∷ []) outs) }
         ensures decided { IfSome result (λ pair. (colour : ℕ) (frames outs : List UplinkSlots)
@@ -54,7 +54,7 @@ impl Lines {
         }
         let was = [self.first.oldest(), self.second.oldest()];
         let is = [self.first.decide(), self.second.decide()];
-        Some(Pair { was, is })
+        Some(DamagedFrame { was, is })
     }
 }
 
@@ -62,7 +62,7 @@ impl Lines {
 #[derive(Drop)]
 pub enum Damager {
     /// Within the limits.
-    Limits(Lines),
+    Limits(LimitedSlots),
     /// At a rate, with a generator for each slot.
     Rate {
         errors: u16,
@@ -75,18 +75,18 @@ pub enum Damager {
 impl Damager {
     ghost use Rattle.std.specs.Prelude.{◌≡◌, ◌++◌, ◌∷◌, [], List, length, slice_index_or, IfNone, IfSome};
     ghost use Rattle.dmr_record.specs.Uplink.{IsFrame, UplinkSlots};
-    ghost use Rattle.dmr_damage.specs.Frames.{IsBehind, rest_of};
+    ghost use Rattle.dmr_damage.specs.Frames.{WasGiven, rest_of};
     ghost use Rattle.dmr_damage.specs.declared.settings.Damage.{Damage as DamageRecord};
 
     /// By these settings, before the first frame.
     pub(crate) fn new(settings: &DamageSettings) -> Damager
-        ensures fresh { IsBehind settings.now.damage result [] [] }
+        ensures fresh { WasGiven settings.now.damage result [] [] }
     {
         let seed = settings.seed();
         match settings.damage() {
-            Damage::WithinLimits { colour } => Damager::Limits(Lines {
-                first: Line::new(colour, seed, 0),
-                second: Line::new(colour, seed, 1),
+            Damage::WithinLimits { colour } => Damager::Limits(LimitedSlots {
+                first: LimitedSlot::new(colour, seed, 0),
+                second: LimitedSlot::new(colour, seed, 1),
                 waiting: 0,
             }),
             Damage::AtRate { errors, loss } => Damager::Rate {
@@ -99,12 +99,12 @@ impl Damager {
     }
 
     /// Takes a frame, and answers the frame that is decided then, where one is.
-    pub(crate) fn take(&mut self, frame: &Frame) -> Option<Pair>
-        ensures waits { IfNone result ((damage : DamageRecord) (frames outs : List UplinkSlots) → IsBehind damage self.old frames outs
-            → IsBehind damage self.new (frames ++ frame.now ∷ []) outs) }
+    pub(crate) fn take(&mut self, frame: &Frame) -> Option<DamagedFrame>
+        ensures waits { IfNone result ((damage : DamageRecord) (frames outs : List UplinkSlots)
+            → WasGiven damage self.old frames outs → WasGiven damage self.new (frames ++ frame.now ∷ []) outs) }
         ensures decided { IfSome result (λ pair. (damage : DamageRecord) (frames outs : List UplinkSlots)
-            → IsBehind damage self.old frames outs
-            → IsBehind damage self.new (frames ++ frame.now ∷ []) (outs ++ pair.is ∷ [])
+            → WasGiven damage self.old frames outs
+            → WasGiven damage self.new (frames ++ frame.now ∷ []) (outs ++ pair.is ∷ [])
             × (pair.was ≡ slice_index_or (frames ++ frame.now ∷ []) (length outs) [])) }
         ensures frame { IfSome result (λ pair. IsFrame pair.is) }
         ensures rest { rest_of self.new ≡ rest_of self.old }
@@ -116,7 +116,7 @@ impl Damager {
                 loss,
                 first,
                 second,
-            } => Some(Pair {
+            } => Some(DamagedFrame {
                 was: *frame,
                 is: [
                     slot_at_rate(&frame[0], *errors, *loss, first),

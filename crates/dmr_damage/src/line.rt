@@ -5,8 +5,8 @@ ghost use Rattle.dmr_hearing.specs.Hearing.{Hears};
 ghost use Rattle.dmr_hearing.specs.declared.heard.Heard.{Heard as HeardRecord};
 ghost use Rattle.dmr_damage.specs.Bursts.{IsDamagedSlot};
 ghost use Rattle.dmr_damage.specs.Fitting.{IsFitCarried};
-ghost use Rattle.dmr_damage.specs.Lines.{AreFieldsBehind, AreFieldsBehindA};
-ghost use Rattle.dmr_damage.specs.Lines as spec;
+ghost use Rattle.dmr_damage.specs.LimitedSlots.{AreFieldsBehind, AreFieldsBehindA};
+ghost use Rattle.dmr_damage.specs.LimitedSlots as spec;
 ghost use Rattle.dmr_link.specs.FullLc.{FitsFullLc};
 ghost use Rattle.dmr_damage.specs.Marks as marks;
 
@@ -25,7 +25,7 @@ pub(crate) const PLACES: usize = 6;
 
 /// One slot of a recording, place by place.
 #[derive(Drop)]
-pub struct Line {
+pub struct LimitedSlot {
     colour: u8,
     track: VoiceTrack,
     rng: Pcg32,
@@ -37,11 +37,11 @@ pub struct Line {
 }
 
 // Clauses see the colour code, what is remembered, and the six places. What is heard is what they are heard as.
-impl Model for Line {
+impl Model for LimitedSlot {
     ghost use Rattle.std.specs.Prelude.{◌≡◌, ◌<◌, All, length};
     ghost use Rattle.dmr_hearing.specs.Fit.{IsFitHeard};
     ghost use Rattle.dmr_hearing.specs.Recorded.{AreHeard};
-    ghost use Rattle.dmr_damage.specs.Lines.{LineState};
+    ghost use Rattle.dmr_damage.specs.LimitedSlots.{LineState};
 
     ghost Value = { LineState };
 
@@ -147,7 +147,7 @@ fn damaged_slot(
     rng: &mut Pcg32,
 ) -> Option<[u8; 33]>
     requires heard { Hears colour slot.now heard.now }
-    ensures damaged { IsDamagedSlot colour (marks.mark_of colour heard.now said.now) field slot.now result }
+    ensures damaged { IsDamagedSlot colour (marks.burst_mark colour heard.now said.now) field slot.now result }
 {
     match slot {
         None => None,
@@ -158,16 +158,16 @@ fn damaged_slot(
     }
 }
 
-impl Line {
+impl LimitedSlot {
     ghost use Rattle.std.specs.Prelude.{◌≡◌, ◌<◌, ◌++◌, ◌∷◌, [], None, drop, replicate, slice_index_or};
-    ghost use Rattle.dmr_damage.specs.Lines.{IsDecided, fresh_memory};
+    ghost use Rattle.dmr_damage.specs.LimitedSlots.{IsDecided, fresh_memory};
 
     /// A line of this colour code on which nothing came; `number` is 0 of slot 1, and 1 of slot 2.
-    pub(crate) fn new(colour: u8, seed: u64, number: u64) -> Line
+    pub(crate) fn new(colour: u8, seed: u64, number: u64) -> LimitedSlot
         requires colour { colour < 16 }
         ensures fresh { result ≡ record { colour = colour; memory = fresh_memory; slots = replicate 6 None } }
     {
-        Line {
+        LimitedSlot {
             colour,
             track: VoiceTrack::new(colour),
             rng: Pcg32::new(seed, number),

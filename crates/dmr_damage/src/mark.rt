@@ -8,7 +8,7 @@ use dmr_voice::VoiceOut;
 
 /// What a burst counts as, by what is repeated for its slot.
 #[derive(Clone, Copy)]
-pub enum Mark {
+pub enum BurstMark {
     /// A data burst that was heard.
     Data(DataBurst),
     /// Place A of a call that was heard.
@@ -22,19 +22,19 @@ pub enum Mark {
 }
 
 /// What a burst counts as that is heard so, where this is repeated for its slot.
-pub(crate) fn mark_of(colour: u8, heard: &Heard, said: &VoiceOut) -> Mark
-    ensures mark { result ≡ spec.mark_of colour heard.now said.now }
+pub(crate) fn mark_of(colour: u8, heard: &Heard, said: &VoiceOut) -> BurstMark
+    ensures mark { result ≡ spec.burst_mark colour heard.now said.now }
 {
     match said {
-        VoiceOut::Nothing => Mark::Unrepeated,
+        VoiceOut::Nothing => BurstMark::Unrepeated,
         VoiceOut::Repeat { burst, .. } => match burst {
             Burst::Data { .. } => match heard.data_burst {
-                Some(data_burst) => Mark::Data(data_burst),
-                None => Mark::Other,
+                Some(data_burst) => BurstMark::Data(data_burst),
+                None => BurstMark::Other,
             },
-            Burst::VoiceSync { .. } if heard.voice => Mark::PlaceA,
-            Burst::Voice { .. } if heard.is_own(colour) => Mark::PlaceBToF,
-            _ => Mark::Other,
+            Burst::VoiceSync { .. } if heard.voice => BurstMark::PlaceA,
+            Burst::Voice { .. } if heard.is_own(colour) => BurstMark::PlaceBToF,
+            _ => BurstMark::Other,
         },
     }
 }

@@ -6,11 +6,12 @@ ghost use Rattle.std.specs.List.{AllByRecursion};
 ghost use Rattle.dmr_record.specs.Devices.{Tears};
 ghost use Rattle.dmr_record.specs.Faults.{is_of_end, is_device_fault};
 ghost use Rattle.dmr_record.specs.Uplink.{IsFrame, UplinkSlots, frame_octets, frames_octets, uplink_file};
-ghost use Rattle.dmr_damage.specs.Counts.{IsFew, none_counted};
+ghost use Rattle.dmr_damage.specs.Counts.{IsFew, none_damaged_yet};
 ghost use Rattle.dmr_damage.specs.Frames.{rest_of};
-ghost use Rattle.dmr_damage.specs.Passing.{IfFault, IsPassed, IsReached, IsPassedTorn, IsFrontTorn, silent_frame, IsBehindHead};
-ghost use Rattle.dmr_damage.specs.Passing.{IsFaultBehind, IsTornBehind, IsWholeBehind};
-ghost use Rattle.dmr_damage.specs.Recordings.{IfOther, IfRecording, IfUnwritten, IsAtFault, IsDamagedWhole, IsOfOtherFormat, IsTorn};
+ghost use Rattle.dmr_damage.specs.Passing.{ArePassed, IfPassFault, IsBehindHead, IsFaultInFrames, IsFrontTorn, IsPassedTorn};
+ghost use Rattle.dmr_damage.specs.Passing.{IsReached, IsTornBehind, IsWholeBehind, silence_in_both};
+ghost use Rattle.dmr_damage.specs.Recordings.{IfOther, IfRecording, IfRecordingUnwritten, IsDamagedWhole, IsFaultOfRecording};
+ghost use Rattle.dmr_damage.specs.Recordings.{IsOfOtherFormat, IsTorn};
 ghost use Rattle.dmr_damage.specs.declared.settings.Damage.{Damage as DamageRecord};
 
 use crate::counts::Damaged;
@@ -60,11 +61,11 @@ fn pass<K: Sink>(
     requires frames { counts.old.frames < 2000000 }
     requires frame { IsFrame frame.now }
     ensures passed { OnOk result ((damage : DamageRecord) (frames outs : List UplinkSlots) (held : Option (List ℕ))
-        → IsPassed damage damager.old counts.old frames outs held (K.held sink.old)
+        → ArePassed damage damager.old counts.old frames outs held (K.held sink.old)
         → (more : List UplinkSlots)
-        × IsPassed damage damager.new counts.new (frames ++ frame.now ∷ []) more held (K.held sink.new)) }
+        × ArePassed damage damager.new counts.new (frames ++ frame.now ∷ []) more held (K.held sink.new)) }
     ensures torn { OnErr result ((damage : DamageRecord) (frames outs : List UplinkSlots) (held : Option (List ℕ))
-        → IsPassed damage damager.old counts.old frames outs held (K.held sink.old)
+        → ArePassed damage damager.old counts.old frames outs held (K.held sink.old)
         → IsPassedTorn damage damager.new (frames ++ frame.now ∷ []) held (K.held sink.new)) }
     ensures few { OnOk result (IsFew (2 * counts.new.frames) counts.new) }
     ensures frames { OnOk result (counts.new.frames ≤ counts.old.frames + 1) }
@@ -86,7 +87,7 @@ fn pass<K: Sink>(
 
 /// How reading a recording ended.
 #[derive(Clone, Copy, Drop)]
-enum Reached {
+enum PassEnd {
     /// At its end.
     End,
     /// At a fault.
@@ -99,19 +100,20 @@ fn pass_all<S: Source, K: Sink>(
     damager: &mut Damager,
     counts: &mut Damaged,
     sink: &mut K,
-) -> Result<Reached, RecordFault>
+) -> Result<PassEnd, RecordFault>
     requires source { S.has_failed source.old ≡ false }
     requires sink { K.has_failed sink.old ≡ false }
-    requires counts { counts.old ≡ none_counted }
+    requires counts { counts.old ≡ none_damaged_yet }
     ensures all { IfOk result (λ reached. (damage : DamageRecord) (held : Option (List ℕ))
-        → IsPassed damage damager.old counts.old [] [] held (K.held sink.old)
+        → ArePassed damage damager.old counts.old [] [] held (K.held sink.old)
         → (frames outs : List UplinkSlots) × AllByRecursion IsFrame frames
-        × IsPassed damage damager.new counts.new frames outs held (K.held sink.new)
+        × ArePassed damage damager.new counts.new frames outs held (K.held sink.new)
         × IsReached reached frames (S.left source.old) (S.left source.new)) }
-    ensures cut { IfOk result (λ reached. IfFault reached (λ fault. is_of_end fault.fault ≡ true → IsAtEnd (S.left source.new))) }
-    ensures source { IfOk result (λ reached. IfFault reached (λ fault. S.has_failed source.new ≡ is_device_fault fault.fault)) }
+    ensures cut { IfOk result (λ reached. IfPassFault reached (λ fault. is_of_end fault.fault ≡ true
+        → IsAtEnd (S.left source.new))) }
+    ensures source { IfOk result (λ reached. IfPassFault reached (λ fault. S.has_failed source.new ≡ is_device_fault fault.fault)) }
     ensures torn { OnErr result ((damage : DamageRecord) (held : Option (List ℕ))
-        → IsPassed damage damager.old counts.old [] [] held (K.held sink.old)
+        → ArePassed damage damager.old counts.old [] [] held (K.held sink.old)
         → IsFrontTorn damage damager.new held (K.held sink.new) (S.left source.old) (S.left source.new)) }
     ensures few { OnOk result (IsFew (2 * counts.new.frames) counts.new) }
     ensures frames { OnOk result (counts.new.frames ≤ 1048576) }
@@ -124,8 +126,8 @@ fn pass_all<S: Source, K: Sink>(
     loop {
         let frame = match read_pair(source, frames, octet) {
             Ok(Some(frame)) => frame,
-            Ok(None) => return Ok(Reached::End),
-            Err(fault) => return Ok(Reached::Fault(fault)),
+            Ok(None) => return Ok(PassEnd::End),
+            Err(fault) => return Ok(PassEnd::Fault(fault)),
         };
         if let Err(fault) = pass(damager, counts, &frame, sink) {
             return Err(fault);
@@ -145,13 +147,13 @@ fn pass_rest<K: Sink>(
     requires few { IsFew (2 * counts.old.frames) counts.old }
     requires frames { counts.old.frames ≤ 1048576 }
     ensures passed { OnOk result ((damage : DamageRecord) (frames outs : List UplinkSlots) (held : Option (List ℕ))
-        → IsPassed damage damager.old counts.old frames outs held (K.held sink.old)
-        → (more : List UplinkSlots) × IsPassed damage damager.new counts.new
-        (frames ++ replicate (rest_of damager.new) silent_frame) more held (K.held sink.new)) }
+        → ArePassed damage damager.old counts.old frames outs held (K.held sink.old)
+        → (more : List UplinkSlots) × ArePassed damage damager.new counts.new
+        (frames ++ replicate (rest_of damager.new) silence_in_both) more held (K.held sink.new)) }
     ensures torn { OnErr result ((damage : DamageRecord) (frames outs : List UplinkSlots) (held : Option (List ℕ))
-        → IsPassed damage damager.old counts.old frames outs held (K.held sink.old)
+        → ArePassed damage damager.old counts.old frames outs held (K.held sink.old)
         → (silent : ℕ) × (silent ≤ rest_of damager.new)
-        × IsPassedTorn damage damager.new (frames ++ replicate silent silent_frame) held (K.held sink.new)) }
+        × IsPassedTorn damage damager.new (frames ++ replicate silent silence_in_both) held (K.held sink.new)) }
     ensures well { OnOk result (K.has_failed sink.new ≡ false) }
     ensures failed { OnErr result (K.has_failed sink.new ≡ true) }
 {
@@ -174,13 +176,13 @@ fn damage_frames<S: Source, K: Sink>(
     ensures whole { IfOk result (λ counts. (held : Option (List ℕ)) → IsBehindHead held (K.held sink.old)
         → IsWholeBehind settings.now counts (S.left source.old) (S.left source.new) held (K.held sink.new)) }
     ensures fault { IfErr result (λ e. IfRecording e (λ fault. (held : Option (List ℕ)) → IsBehindHead held (K.held sink.old)
-        → IsFaultBehind settings.now fault (S.left source.old) (S.left source.new) held (K.held sink.new))) }
+        → IsFaultInFrames settings.now fault (S.left source.old) (S.left source.new) held (K.held sink.new))) }
     ensures cut { IfErr result (λ e. IfRecording e (λ fault. is_of_end fault.fault ≡ true → IsAtEnd (S.left source.new))) }
-    ensures torn { IfErr result (λ e. IfUnwritten e ((held : Option (List ℕ)) → IsBehindHead held (K.held sink.old)
+    ensures torn { IfErr result (λ e. IfRecordingUnwritten e ((held : Option (List ℕ)) → IsBehindHead held (K.held sink.old)
         → IsTornBehind settings.now (S.left source.old) (S.left source.new) held (K.held sink.new))) }
     ensures other { IfErr result (λ e. IfOther e ⊥) }
     ensures source { IfErr result (λ e. IfRecording e (λ fault. S.has_failed source.new ≡ is_device_fault fault.fault)) }
-    ensures sink { IfErr result (λ e. IfUnwritten e (K.has_failed sink.new ≡ true)) }
+    ensures sink { IfErr result (λ e. IfRecordingUnwritten e (K.has_failed sink.new ≡ true)) }
     ensures others { IfErr result (λ e. IfRecording e (λ fault. K.has_failed sink.new ≡ false)) }
     ensures well { OnOk result (K.has_failed sink.new ≡ false) }
 {
@@ -194,8 +196,8 @@ fn damage_frames<S: Source, K: Sink>(
         return Err(DamageEnd::Output);
     }
     match reached {
-        Reached::End => Ok(counts),
-        Reached::Fault(fault) => Err(DamageEnd::File(fault)),
+        PassEnd::End => Ok(counts),
+        PassEnd::Fault(fault) => Err(DamageEnd::File(fault)),
     }
 }
 
@@ -213,18 +215,18 @@ pub fn damage_recording<S: Source, K: Sink>(
     ensures whole { IfOk result (λ counts. IsDamagedWhole settings.now counts
         (S.left source.old) (S.left source.new) (K.held sink.old) (K.held sink.new)) }
     // Or it is at fault, and the whole frames before that were written.
-    ensures fault { IfErr result (λ e. IfRecording e (λ fault. IsAtFault settings.now fault
+    ensures fault { IfErr result (λ e. IfRecording e (λ fault. IsFaultOfRecording settings.now fault
         (S.left source.old) (S.left source.new) (K.held sink.old) (K.held sink.new))) }
     ensures cut { IfErr result (λ e. IfRecording e (λ fault. is_of_end fault.fault ≡ true → IsAtEnd (S.left source.new))) }
     // Or it is a file of another format, and nothing was written.
     ensures other { IfErr result (λ e. IfOther e (IsOfOtherFormat
         (S.left source.old) (S.left source.new) (K.held sink.old) (K.held sink.new))) }
     // Or a front of what the frames that were read are written as was.
-    ensures torn { IfErr result (λ e. IfUnwritten e (IsTorn settings.now
+    ensures torn { IfErr result (λ e. IfRecordingUnwritten e (IsTorn settings.now
         (S.left source.old) (S.left source.new) (K.held sink.old) (K.held sink.new))) }
     // `Read` is told exactly where the source failed, and `Output` where the sink did.
     ensures source { IfErr result (λ e. IfRecording e (λ fault. S.has_failed source.new ≡ is_device_fault fault.fault)) }
-    ensures sink { IfErr result (λ e. IfUnwritten e (K.has_failed sink.new ≡ true)) }
+    ensures sink { IfErr result (λ e. IfRecordingUnwritten e (K.has_failed sink.new ≡ true)) }
     ensures others { IfErr result (λ e. IfRecording e (λ fault. K.has_failed sink.new ≡ false)) }
     ensures well { OnOk result (K.has_failed sink.new ≡ false) }
 {

@@ -1,14 +1,17 @@
-//! Recordings, in digits. Those that are read are files of samples/, which another implementation wrote. Those that are written were
-//! worked out from docs/protocol.md, by another program.
+//! Recordings, in digits. Those that are read are files of samples/, which another implementation wrote. Those that are written
+//! were worked out by another program, from the rules alone.
 
 /// A control block in frame 0: the sample `one_csbk`.
-pub(crate) const CSBK: &str = "444D525501000000010062008201900100042004E004CD5D7F77FD757AC81800280250028000C012002200";
+pub(crate) const CSBK: &str =
+    "444D525501000000010062008201900100042004E004CD5D7F77FD757AC81800280250028000C012002200";
 
 /// It, damaged within the limits by seed 7.
-pub(crate) const CSBK_WITHIN: &str = "444D5255010000000180720082019003000420146200ED5D7F67DD3572C81C002803714A8000C012002200";
+pub(crate) const CSBK_WITHIN: &str =
+    "444D5255010000000180720082019003000420146200ED5D7F67DD3572C81C002803714A8000C012002200";
 
 /// It, with errors of 500 in 10,000 by seed 7.
-pub(crate) const CSBK_AT_500: &str = "444D525501000000010062008201901100042804E044CD596E73ED757AC81800280210028000C41A002A00";
+pub(crate) const CSBK_AT_500: &str =
+    "444D525501000000010062008201901100042804E044CD596E73ED757AC81800280210028000C41A002A00";
 
 /// A call of a header and a superframe that carries its link control: the sample `call`.
 pub(crate) const CALL: &str = "\

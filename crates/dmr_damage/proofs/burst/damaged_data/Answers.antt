@@ -1,4 +1,4 @@
-use Rattle.std.proofs.Common.{◌∙◌, List, Bool, sym, subst, false}
+use Rattle.std.proofs.Common.{◌∙◌, sym, subst, false}
 use Rattle.dmr_burst.specs.Layout.{information_field}
 use Rattle.dmr_burst.specs.declared.sync.Side.TheVariants.{Ms}
 use Rattle.dmr_hearing.specs.DataTypes.{payload_of}

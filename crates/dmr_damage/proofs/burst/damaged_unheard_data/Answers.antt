@@ -1,4 +1,4 @@
-use Rattle.std.proofs.Common.{◌∙◌, sym, true, false}
+use Rattle.std.proofs.Common.{◌∙◌, sym, false}
 use Rattle.dmr_burst.specs.declared.sync.Side.TheVariants.{Ms}
 use Rattle.dmr_damage.proofs.Marked.{same_sync, same_slot_type}
 use Rattle.dmr_damage.proofs.burst.damaged_unheard_data.Goals as goal

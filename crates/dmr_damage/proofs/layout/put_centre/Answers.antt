@@ -15,6 +15,8 @@ returns c =
       written = put_same c.args.bits.now c.put.new.self c.args.centre.now 108 156 c.put.ensures.value c.put.ensures.length
           (omega (arith, c.put.ensures.count)) (omega arith);
       vocoder = two _ _ _ _ (before 0 108 (omega arith) (omega arith)) (behind 156 264 (omega arith) (omega arith) (omega arith));
-      information = two _ _ _ _ (before 0 98 (omega arith) (omega arith)) (behind 166 264 (omega arith) (omega arith) (omega arith));
-      slot_type = two _ _ _ _ (before 98 108 (omega arith) (omega arith)) (behind 156 166 (omega arith) (omega arith) (omega arith));
+      information = two _ _ _ _
+          (before 0 98 (omega arith) (omega arith)) (behind 166 264 (omega arith) (omega arith) (omega arith));
+      slot_type = two _ _ _ _
+          (before 98 108 (omega arith) (omega arith)) (behind 156 166 (omega arith) (omega arith) (omega arith));
     }

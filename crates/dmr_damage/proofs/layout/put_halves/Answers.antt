@@ -4,7 +4,8 @@ use Rattle.dmr_damage.proofs.layout.put_halves.Goals as goal
 
 pub returns : goal.returns
 returns g c =
-    let is : IsPutTwice c.args.bits.now c.put_part.new.self c.put_part-2.new.self c.args.field.now c.args.at c.args.again c.args.half =
+    let is : IsPutTwice c.args.bits.now c.put_part.new.self c.put_part-2.new.self c.args.field.now c.args.at c.args.again
+    c.args.half =
     record {
       first = c.put_part.ensures.value;
       second = c.put_part-2.ensures.value;

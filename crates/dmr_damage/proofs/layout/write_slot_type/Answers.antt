@@ -1,4 +1,4 @@
-use Rattle.std.proofs.Common.{arith, refl}
+use Rattle.std.proofs.Common.{arith}
 use Rattle.dmr_burst.specs.SlotType.{slot_type_of}
 use Rattle.dmr_damage.proofs.Marked.{word_of}
 use Rattle.dmr_damage.proofs.Written.{two}

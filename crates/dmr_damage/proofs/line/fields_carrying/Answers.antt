@@ -1,4 +1,4 @@
-use Rattle.std.proofs.Common.{◌≡◌, ℕ, List, [], ◌∷◌, Option, Some, length, map, get_or, refl, arith}
+use Rattle.std.proofs.Common.{◌≡◌, ℕ, List, [], ◌∷◌, Some, length, map, get_or, refl, arith}
 use Rattle.dmr_damage.proofs.line.fields_carrying.Goals as goal
 
 four : (r : List ℕ) → length r ≡ 4

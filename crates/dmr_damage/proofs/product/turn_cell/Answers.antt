@@ -1,5 +1,5 @@
-use Rattle.std.proofs.Common.{◌∙◌, ap, not, get_or, false}
-use Rattle.dmr_bptc.specs.ProductWord.{column, place}
+use Rattle.std.proofs.Common.{not, get_or, false}
+use Rattle.dmr_bptc.specs.ProductWord.{place}
 use Rattle.dmr_damage.proofs.Near.{column_kept, column_near}
 use Rattle.dmr_damage.proofs.product.turn_cell.Goals as goal
 

@@ -1,4 +1,3 @@
-use Rattle.std.proofs.Common.{[]}
 use Rattle.dmr_damage.proofs.Passed.{ended_written, front_torn, none_passed, rest_torn}
 use Rattle.dmr_damage.proofs.recording.damage_frames.Goals as goal
 

@@ -1,4 +1,4 @@
-use Rattle.std.proofs.Common.{[], refl}
+use Rattle.std.proofs.Common.{[]}
 use Rattle.dmr_damage.proofs.Passed.{faults_with_head, none_damaged}
 use Rattle.dmr_damage.proofs.recording.damage_recording.Goals as goal
 

@@ -11,7 +11,8 @@ returns-in-None-clause-passed g c damage frames outs held is = (
 
 pub returns-in-Err-clause-torn : goal.returns-in-Err-clause-torn
 returns-in-Err-clause-torn g c damage frames outs held is =
-    passed_torn damage c.args.damager.now c.take.new.self c.args.counts.now frames outs c.args.frame.now c.in-Some.pair.is held _ _ is
+    passed_torn damage c.args.damager.now c.take.new.self c.args.counts.now frames outs c.args.frame.now c.in-Some.pair.is held _
+    _ is
     (c.in-Some.ensures.decided damage frames outs is.behind).0 c.in-Err.ensures.torn
 
 pub returns-in_default-clause-passed : goal.returns-in_default-clause-passed

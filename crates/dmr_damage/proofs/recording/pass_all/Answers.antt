@@ -1,4 +1,4 @@
-use Rattle.std.proofs.Common.{◌≡◌, ℕ, ◌+◌, ◌++◌, ◌∷◌, [], List, length, sym, ap, subst, ◌∙◌, arith, length-append}
+use Rattle.std.proofs.Common.{◌≡◌, ◌+◌, ◌++◌, ◌∷◌, [], length, sym, ap, subst, ◌∙◌, arith, length-append}
 use Rattle.std.specs.Io.KnownBytes.{Consumes}
 use Rattle.std.proofs.KnownBytes.{Consumes-trans}
 use Rattle.std.proofs.lemmas.List.{append-nil}
@@ -63,7 +63,8 @@ loop-frame-preserved g c =
     let (below, is_frame, taken) = rw c.in-Ok-Some.field-0-is at c.in-Ok-Some.ensures.frame in
     let long : length (frames_octets frames) + length (frame_octets c.in-Ok-Some.frame)
     ≡ length (frames_octets (frames ++ c.in-Ok-Some.frame ∷ [])) =
-    sym (length-append (frames_octets frames) (frame_octets c.in-Ok-Some.frame)) ∙ ap length (frames_more frames c.in-Ok-Some.frame) in
+    sym (length-append (frames_octets frames) (frame_octets c.in-Ok-Some.frame))
+    ∙ ap length (frames_more frames c.in-Ok-Some.frame) in
     record {
       source = c.in-Ok-Some.ensures.well;
       sink = c.in_default.ensures.well;

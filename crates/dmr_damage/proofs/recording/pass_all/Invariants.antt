@@ -5,7 +5,7 @@ use Rattle.std.specs.List.{AllByRecursion}
 use Rattle.dmr_record.specs.Uplink.{IsFrame, UplinkSlots, frames_octets}
 use Rattle.dmr_damage.specs.Counts.{IsFew}
 use Rattle.dmr_damage.specs.Frames.{rest_of}
-use Rattle.dmr_damage.specs.Passing.{IsPassed}
+use Rattle.dmr_damage.specs.Passing.{ArePassed}
 use Rattle.dmr_damage.specs.declared.settings.Damage.{Damage}
 use Rattle.dmr_damage.proofs.recording.pass_all.Given as goal
 
@@ -22,8 +22,8 @@ invariant-loop-frame g l = record {
       × AllByRecursion IsFrame frames
       × Consumes (g.S.Source.left l.fn.source) (g.S.Source.left l.source) (frames_octets frames)
       × ((damage : Damage) (held : Option (List ℕ))
-      → IsPassed damage l.fn.damager l.fn.counts [] [] held (g.K.Sink.held l.fn.sink)
-      → (outs : List UplinkSlots) × IsPassed damage l.damager l.counts frames outs held (g.K.Sink.held l.sink));
+      → ArePassed damage l.fn.damager l.fn.counts [] [] held (g.K.Sink.held l.fn.sink)
+      → (outs : List UplinkSlots) × ArePassed damage l.damager l.counts frames outs held (g.K.Sink.held l.sink));
 }
 
 abbrev pub decreases-loop-frame : goal.decreases-loop-frame

@@ -1,5 +1,5 @@
 use Rattle.std.proofs.Common.{◌+◌, ◌++◌, replicate, subst, arith}
-use Rattle.dmr_damage.specs.Passing.{IsPassedTorn, silent_frame}
+use Rattle.dmr_damage.specs.Passing.{IsPassedTorn, silence_in_both}
 use Rattle.dmr_damage.proofs.Passed.{one_more_silent}
 use Rattle.dmr_damage.proofs.recording.pass_rest.Goals as goal
 
@@ -10,5 +10,5 @@ returns-in-Err-clause-torn g c damage frames outs held is =
       omega (arith, c.pass.ensures.rest, c.loop-past.invariant.rest, c.loop-past-test.true),
       subst (λ fs. IsPassedTorn damage c.pass.new.damager fs held (g.K.Sink.held c.pass.new.sink))
           (one_more_silent frames c.loop-past._past)
-          (c.in-Err.ensures.torn damage (frames ++ replicate c.loop-past._past silent_frame) more held passed),
+          (c.in-Err.ensures.torn damage (frames ++ replicate c.loop-past._past silence_in_both) more held passed),
     )

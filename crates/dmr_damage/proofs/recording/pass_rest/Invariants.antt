@@ -3,7 +3,7 @@ use Rattle.std.proofs.Common.{◌≡◌, ℕ, ◌+◌, ◌*◌, ◌≤◌, List,
 use Rattle.dmr_record.specs.Uplink.{UplinkSlots}
 use Rattle.dmr_damage.specs.Counts.{IsFew}
 use Rattle.dmr_damage.specs.Frames.{rest_of}
-use Rattle.dmr_damage.specs.Passing.{IsPassed, silent_frame}
+use Rattle.dmr_damage.specs.Passing.{ArePassed, silence_in_both}
 use Rattle.dmr_damage.specs.declared.settings.Damage.{Damage}
 use Rattle.dmr_damage.proofs.recording.pass_rest.Given as goal
 
@@ -15,7 +15,7 @@ invariant-loop-past g l = record {
   few : IsFew (2 * l.counts.frames) l.counts;
   rest : rest_of l.damager ≡ l._past-end;
   so_far : (damage : Damage) (frames outs : List UplinkSlots) (held : Option (List ℕ))
-      → IsPassed damage l.fn.damager l.fn.counts frames outs held (g.K.Sink.held l.fn.sink)
+      → ArePassed damage l.fn.damager l.fn.counts frames outs held (g.K.Sink.held l.fn.sink)
       → (more : List UplinkSlots)
-      × IsPassed damage l.damager l.counts (frames ++ replicate l._past silent_frame) more held (g.K.Sink.held l.sink);
+      × ArePassed damage l.damager l.counts (frames ++ replicate l._past silence_in_both) more held (g.K.Sink.held l.sink);
 }

@@ -1,4 +1,4 @@
-use Rattle.std.proofs.Common.{None, List, ℕ, Option, get_or, subst, sym}
+use Rattle.std.proofs.Common.{None, get_or, subst}
 use Rattle.std.specs.Prelude.{OnErr}
 use Rattle.dmr_record.proofs.Torn.{Tears_more}
 use Rattle.dmr_record.specs.Devices.{Tears}
@@ -10,11 +10,13 @@ pub returns-in-Err-clause-torn : goal.returns-in-Err-clause-torn
 returns-in-Err-clause-torn g c =
     subst (λ l. Tears (g.K.Sink.held c.args.sink.now) (g.K.Sink.held c.write_uplink_slot.new.sink) l)
     (frame_split c.args.frame.now c.told-frame)
-    (Tears_more _ _ (slot_octets (get_or c.args.frame.now 0 None)) (slot_octets (get_or c.args.frame.now 1 None)) c.in-Err.ensures.torn)
+    (Tears_more _ _ (slot_octets (get_or c.args.frame.now 0 None)) (slot_octets (get_or c.args.frame.now 1 None))
+    c.in-Err.ensures.torn)
 
 pub returns-clause-torn : goal.returns-clause-torn
 returns-clause-torn g c =
-    subst (λ l. OnErr c.write_uplink_slot-2.result (Tears (g.K.Sink.held c.args.sink.now) (g.K.Sink.held c.write_uplink_slot-2.new.sink) l))
+    subst (λ l. OnErr c.write_uplink_slot-2.result (Tears (g.K.Sink.held c.args.sink.now)
+    (g.K.Sink.held c.write_uplink_slot-2.new.sink) l))
     (frame_split c.args.frame.now c.told-frame)
     (second_torn c.write_uplink_slot-2.result (g.K.Sink.held c.args.sink.now) (g.K.Sink.held c.write_uplink_slot.new.sink)
     (g.K.Sink.held c.write_uplink_slot-2.new.sink) (slot_octets (get_or c.args.frame.now 0 None))

@@ -1,4 +1,4 @@
-use Rattle.std.proofs.Common.{◌≡◌, ℕ, ◌+◌, ◌*◌, ◌^◌, ◌<◌, ◌++◌, length, take, get_or}
+use Rattle.std.proofs.Common.{◌≡◌, ◌+◌, ◌*◌, ◌++◌, length, take}
 use Rattle.dmr_embedded.specs.EmbeddedWord.{bits_of_fields}
 use Rattle.dmr_damage.proofs.superframe.fields_spelled.Given as goal
 

@@ -1,6 +1,6 @@
-use Rattle.std.proofs.Common.{◌≡◌, ℕ, ◌+◌, ◌<◌, List, [], ◌∷◌, ◌++◌, length, get_or, None, refl, sym, ap, ◌∙◌, subst, arith}
+use Rattle.std.proofs.Common.{◌+◌, refl, arith}
 use Rattle.dmr_damage.proofs.Behind.{lines_wait, lines_decide}
-use Rattle.dmr_damage.proofs.frames.Lines.take.Goals as goal
+use Rattle.dmr_damage.proofs.frames.LimitedSlots.take.Goals as goal
 
 pub returns-then-self-lt-AHEAD-clause-waits : goal.returns-then-self-lt-AHEAD-clause-waits
 returns-then-self-lt-AHEAD-clause-waits c colour frames outs is =
@@ -8,7 +8,8 @@ returns-then-self-lt-AHEAD-clause-waits c colour frames outs is =
       first = c.take.new.self;
       second = c.take-2.new.self;
       waiting = c.args.self.now.waiting + 1;
-    }) frames outs c.args.frame.now (omega (arith, c.if-self-lt-AHEAD.true)) c.told-frame refl c.take.ensures.taken c.take-2.ensures.taken is
+    }) frames outs c.args.frame.now (omega (arith, c.if-self-lt-AHEAD.true)) c.told-frame refl
+    c.take.ensures.taken c.take-2.ensures.taken is
 
 pub returns-clause-decided : goal.returns-clause-decided
 returns-clause-decided c colour frames outs is =

@@ -1,14 +1,14 @@
-use Rattle.std.proofs.Common.{◌≡◌, ℕ, Option, get_or, drop, None, subst, sym, ap, arith}
+use Rattle.std.proofs.Common.{◌≡◌, Option, get_or, drop, None, subst, sym, ap, arith}
 use Rattle.dmr_link.specs.declared.full_lc.FullLc.{FullLc}
 use Rattle.dmr_voice.specs.Bursts.{IsSaid}
 use Rattle.dmr_voice.specs.CallRules.{step_of}
 use Rattle.dmr_voice.specs.Carried.{IsCarried}
 use Rattle.dmr_voice.specs.Tracking.{Tracking}
 use Rattle.dmr_damage.specs.Bursts.{IsDamagedSlot}
-use Rattle.dmr_damage.specs.Marks.{mark_of}
+use Rattle.dmr_damage.specs.Marks.{burst_mark}
 use Rattle.dmr_hearing.specs.Hearing.{Hears}
 use Rattle.dmr_damage.proofs.Deciding.{decided_first, first_heard}
-use Rattle.dmr_damage.proofs.line.Line.decide.Goals as goal
+use Rattle.dmr_damage.proofs.line.LimitedSlot.decide.Goals as goal
 
 pub returns-clause-decided : goal.returns-clause-decided
 returns-clause-decided c =
@@ -27,7 +27,7 @@ returns-clause-decided c =
     (ap (λ (t : Tracking). t.state) (c.step-said.ensures.state c.carried_behind-carried.result
     (subst (λ k. IsCarried k (drop 1 c.self.inside.heard) c.carried_behind-carried.result) (sym same)
     c.carried_behind-carried.ensures.carried))))
-    (subst (λ s. IsDamagedSlot c.self.inside.colour (mark_of c.self.inside.colour c.first_heard-here.result c.step-said.result)
+    (subst (λ s. IsDamagedSlot c.self.inside.colour (burst_mark c.self.inside.colour c.first_heard-here.result c.step-said.result)
     (get_or c.self.inside.fields 0 None) s c.damaged_slot-damaged.result) c.first_slot-slot.ensures.first
     c.damaged_slot-damaged.ensures.damaged)
     c.fields_behind-self-inside.ensures.fields)

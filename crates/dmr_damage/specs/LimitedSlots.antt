@@ -1,6 +1,6 @@
 -- One slot of a recording, place by place.
-use Rattle.std.specs.Prelude.{◌≡◌, ℕ, Bool, List, [], ◌∷◌, ◌++◌, Option, Some, None, drop, length, map, replicate}
-use Rattle.std.specs.Prelude.{unwrap_or, slice_index_or}
+use Rattle.std.specs.Prelude.{◌≡◌, ℕ, List, [], ◌∷◌, ◌++◌, Option, Some, None, drop, length, map, replicate}
+use Rattle.std.specs.Prelude.{slice_index_or}
 use Rattle.dmr_burst.specs.declared.burst.Burst.TheVariants.{VoiceSync}
 use Rattle.dmr_hearing.specs.Fields.{IsReceived}
 use Rattle.dmr_hearing.specs.Hearing.{Hears}
@@ -12,14 +12,14 @@ use Rattle.dmr_voice.specs.Bursts.{IsSaid}
 use Rattle.dmr_voice.specs.CallRules.{decide}
 use Rattle.dmr_voice.specs.Carried.{IsCarried}
 use Rattle.dmr_voice.specs.declared.said.VoiceOut.{VoiceOut}
-use Rattle.dmr_voice.specs.declared.said.VoiceOut.TheVariants.{Nothing, Repeat}
+use Rattle.dmr_voice.specs.declared.said.VoiceOut.TheVariants.{Repeat}
 use Rattle.dmr_voice.specs.declared.track.Track.{Track}
 use Rattle.dmr_voice.specs.declared.track.Track.TheVariants.{Idle}
 use Rattle.dmr_damage.specs.Bursts.{IsDamagedSlot}
-use Rattle.dmr_damage.specs.Marks.{mark_of}
+use Rattle.dmr_damage.specs.Marks.{burst_mark}
 
--- What is remembered of a slot: where its calls are, and what the embedded fields of the next four places are written as, where they
--- are damaged.
+-- What is remembered of a slot: where its calls are, and what the embedded fields of the next four places are written as, where
+-- they are damaged.
 pub record Memory : Type 0 where
   pub state : Track
   pub fields : List (Option ℕ)
@@ -38,11 +38,12 @@ pub record LineState : Type 0 where
 abbrev pub moved_on : List (Option ℕ) → List (Option ℕ)
 moved_on fields = drop 1 fields ++ None ∷ []
 
--- Behind a place A the next four fields are written as those of the link control that they carry, with at most one wrong bit in each
--- row of its table. Where they carry none, they are as they were to be.
+-- Behind a place A the next four fields are written as those of the link control that they carry, with at most one wrong bit in
+-- each row of its table. Where they carry none, they are as they were to be.
 abbrev pub AreFieldsBehindA : Option FullLc → (old new : List (Option ℕ)) → Type 0
 AreFieldsBehindA None old new = new ≡ moved_on old
-AreFieldsBehindA (Some lc) old new = (received : List ℕ) × (length received ≡ 4) × IsReceived lc received × (new ≡ map Some received)
+AreFieldsBehindA (Some lc) old new =
+    (received : List ℕ) × (length received ≡ 4) × IsReceived lc received × (new ≡ map Some received)
 
 -- The same behind a place for which this is repeated.
 abbrev pub AreFieldsBehind : VoiceOut → Option FullLc → (old new : List (Option ℕ)) → Type 0
@@ -61,7 +62,7 @@ pub record IsDecided (colour : ℕ) (old : Memory) (slot : UplinkSlot) (ahead : 
   pub carries : IsCarried colour later carried
   pub said : VoiceOut
   pub says : IsSaid colour (decide colour old.state heard later carried).0 said
-  pub damaged : IsDamagedSlot colour (mark_of colour heard said) (slice_index_or old.fields 0 None) slot out
+  pub damaged : IsDamagedSlot colour (burst_mark colour heard said) (slice_index_or old.fields 0 None) slot out
   pub state : new.state ≡ (decide colour old.state heard later carried).1
   pub fields : AreFieldsBehind said carried old.fields new.fields
 
