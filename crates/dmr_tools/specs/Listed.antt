@@ -48,7 +48,8 @@ IsListingPrinted request held_old held_new = Unit {0}
 
 -- What one prints that doesn't, where it can be printed.
 abbrev pub IsListingPrintedInPart : Request → Option (List ℕ) → Option (List ℕ) → Type 0
-IsListingPrintedInPart (Show name form filter) held_old held_new = IsSomeListingPutInPart (listing.Lines form filter) held_old held_new
+IsListingPrintedInPart (Show name form filter) held_old held_new =
+    IsSomeListingPutInPart (listing.Lines form filter) held_old held_new
 IsListingPrintedInPart (Log name settings) held_old held_new = IsSomeListingPutInPart (listing.Log settings) held_old held_new
 IsListingPrintedInPart (LogPage name settings) held_old held_new = IsSomeListingPutInPart (listing.Page settings) held_old held_new
 IsListingPrintedInPart request held_old held_new = Unit {0}
