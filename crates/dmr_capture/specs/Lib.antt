@@ -1,0 +1,13 @@
+pub mod Begins
+pub mod Blocks
+pub mod Cuts
+pub mod Links
+pub mod Options
+pub mod Orders
+pub mod Reading
+pub mod Records
+pub mod Rests
+pub mod State
+pub mod Times
+pub mod Udp
+pub mod Written

@@ -1,0 +1,53 @@
+//! What a pcapng says of where its packets were heard.
+ghost use Rattle.std.specs.Prelude.{◌≡◌};
+ghost use Rattle.dmr_capture.specs.Times.{time_of};
+ghost use Rattle.dmr_capture.specs.Options.{Says};
+
+use crate::order::Order;
+
+/// Where packets were heard.
+#[derive(Clone, Copy, Debug, Default, Drop, PartialEq, Eq)]
+pub struct Interface {
+    /// The number of its link type.
+    pub link: u16,
+    /// How fine its times are: below 128 so many decimal digits behind the second, and else 128 and so many binary ones.
+    pub resolution: u8,
+}
+
+/// The resolution of an interface that says none: microseconds.
+const MICROSECONDS: u8 = 6;
+
+/// The number of the option that says a resolution.
+const RESOLUTION: u16 = 9;
+
+/// A count of the units of a resolution, as nanoseconds. What is finer is dropped.
+pub(crate) fn time_of(resolution: u8, count: u64) -> u128
+    ensures time { result ≡ time_of resolution count }
+{
+    let base = if resolution < 128 { 10 } else { 2 };
+    let mut time = u128::from(count) * 1_000_000_000;
+    for _digit in 0..resolution % 128 {
+        time /= base;
+    }
+    time
+}
+
+/// The resolution that the options of an interface say: that of the first option which has one.
+pub(crate) fn resolution_said(order: Order, options: &[u8]) -> u8
+    ensures said { Says order options.now result }
+{
+    let mut rest = options;
+    while rest.len() >= 4 {
+        let code = order.u16_at(rest, 0);
+        let length = usize::from(order.u16_at(rest, 2));
+        let whole = 4 + (length + 3) / 4 * 4;
+        if code == 0 || rest.len() < whole {
+            return MICROSECONDS;
+        }
+        if code == RESOLUTION && length == 1 {
+            return rest[4];
+        }
+        rest = &rest[whole..];
+    }
+    MICROSECONDS
+}

@@ -1,0 +1,14 @@
+//! Laws of captures, as the contracts of functions that do nothing.
+//!
+//! A capture that was written is a capture, of exactly the packets that were written.
+
+ghost use Rattle.std.specs.Prelude.{List};
+ghost use Rattle.std.specs.List.{AllByRecursion};
+ghost use Rattle.dmr_capture.specs.Reading.{IsCapture};
+ghost use Rattle.dmr_capture.specs.Written.{WrittenPacket, IsWritable, written_capture, packets_at};
+
+/// The packets of a written capture are read back: their octets, their times and where they begin.
+pub fn written_packets_are_read_back()
+    ensures back { (packets : List WrittenPacket) → AllByRecursion IsWritable packets
+        → IsCapture (written_capture packets) (packets_at 24 packets) }
+{}
