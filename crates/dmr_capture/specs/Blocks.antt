@@ -1,5 +1,5 @@
 -- The blocks of a pcapng.
-use Rattle.std.specs.Prelude.{◌≡◌, ◌≢◌, ℕ, ◌+◌, ◌*◌, ◌%◌, ◌^◌, ◌<◌, ◌≤◌, ◌⊎◌, List, [], ◌∷◌, ◌++◌, Option, Some, None, length, take, Unit}
+use Rattle.std.specs.Prelude.{◌≡◌, ◌≢◌, ℕ, ◌+◌, ◌*◌, ◌%◌, ◌^◌, ◌<◌, ◌≤◌, ◌⊎◌, List, [], ◌∷◌, ◌++◌, Option, Some, None, length, take}
 use Rattle.dmr_capture.specs.Links.{link_number}
 use Rattle.dmr_capture.specs.Options.{Says}
 use Rattle.dmr_capture.specs.Orders.{number_at}
@@ -25,32 +25,36 @@ section_magic = 0x1A2B3C4D
 
 -- A block may have this length: it has room for what stands in each block of its type, and is a multiple of four.
 pub record IsLength (least len : ℕ) : Type 0 where
-  pub least : least ≤ len
+  pub room : least ≤ len
   pub fours : len % 4 ≡ 0
 
 -- The first octets of a block that begins a section: its type, its length and its magic, by which its order is known.
 pub record IsSectionHead (head : List ℕ) (order : Order) (len : ℕ) : Type 0 where
   pub whole : length head ≡ 12
-  pub type : take 4 head ≡ section_type
+  pub begins : take 4 head ≡ section_type
   pub magic : number_at order 4 8 head ≡ section_magic
-  pub len : len ≡ number_at order 4 4 head
+  pub long : len ≡ number_at order 4 4 head
   pub fit : IsLength 28 len
 
 -- The same of another block, with its type.
 pub record HasType (order : Order) (head : List ℕ) (type len : ℕ) : Type 0 where
   pub other : take 4 head ≢ section_type
-  pub type : type ≡ number_at order 4 0 head
-  pub len : len ≡ number_at order 4 4 head
+  pub says : type ≡ number_at order 4 0 head
+  pub long : len ≡ number_at order 4 4 head
+
+-- The first octets of a block of an interface with a length that it can have.
+pub record BeginsInterface (state : CaptureState) (head : List ℕ) (len : ℕ) : Type 0 where
+  pub whole : length head ≡ 16
+  pub typed : HasType state.order head 1 len
+  pub fit : IsLength 20 len
 
 -- A block of type 1 is of an interface: the link type in two octets, two that count for nothing, the length to which packets are kept,
 -- which counts for nothing either, and options.
 pub record IsInterfaceHead (state : CaptureState) (head : List ℕ) (len link : ℕ) : Type 0 where
-  pub whole : length head ≡ 16
-  pub type : HasType state.order head 1 len
-  pub fit : IsLength 20 len
+  pub begins : BeginsInterface state head len
   pub few : length state.interfaces < interface_limit
   pub short : len ≤ 20 + packet_limit
-  pub link : link ≡ number_at state.order 2 8 head
+  pub linked : link ≡ number_at state.order 2 8 head
 
 -- the time that a block of a packet says, by the resolution of its interface
 abbrev pub block_time : ℕ → Order → List ℕ → ℕ
@@ -61,24 +65,32 @@ abbrev pub IsNumbered : List Interface → ℕ → Interface → Type 0
 IsNumbered interfaces number interface = (front rest : List Interface) × (interfaces ≡ front ++ interface ∷ rest)
     × (length front ≡ number)
 
+-- The first octets of a block of a packet with a length that it can have.
+pub record BeginsPacket (state : CaptureState) (head : List ℕ) (len : ℕ) : Type 0 where
+  pub whole : length head ≡ 28
+  pub typed : HasType state.order head 6 len
+  pub fit : IsLength 32 len
+
+-- The same of a packet of this interface.
+pub record IsOfInterface (state : CaptureState) (head : List ℕ) (len : ℕ) (interface : Interface) : Type 0 where
+  pub begins : BeginsPacket state head len
+  pub numbered : IsNumbered state.interfaces (number_at state.order 4 8 head) interface
+
 -- A block of type 6 is of a packet: its interface, its time in four octets and four, how many octets of the packet follow, and how many
 -- it had, which counts for nothing.
 pub record IsPacketHead (state : CaptureState) (head : List ℕ) (len : ℕ) (link : Link) (time captured : ℕ) : Type 0 where
-  pub whole : length head ≡ 28
-  pub type : HasType state.order head 6 len
-  pub fit : IsLength 32 len
   pub interface : Interface
-  pub numbered : IsNumbered state.interfaces (number_at state.order 4 8 head) interface
-  pub link : interface.link ≡ link_number link
-  pub time : time ≡ block_time interface.resolution state.order head
-  pub captured : captured ≡ number_at state.order 4 20 head
+  pub begins : IsOfInterface state head len interface
+  pub linked : interface.link ≡ link_number link
+  pub timed : time ≡ block_time interface.resolution state.order head
+  pub says : captured ≡ number_at state.order 4 20 head
   pub short : captured ≤ packet_limit
   pub there : 32 + captured ≤ len
 
 -- A block of any other type is passed over.
 pub record IsOtherHead (state : CaptureState) (head : List ℕ) (len : ℕ) : Type 0 where
   pub whole : length head ≡ 8
-  pub type : (number : ℕ) × HasType state.order head number len × (number ≢ 1) × (number ≢ 6)
+  pub typed : (number : ℕ) × HasType state.order head number len × (number ≢ 1) × (number ≢ 6)
   pub fit : IsLength 12 len
 
 -- The first octets of a block, and what they say.
@@ -115,7 +127,7 @@ pub record IsBlockRest (b : BlockHead) (kept rest : List ℕ) : Type 0 where
   pub passed : List ℕ
   pub last : List ℕ
   pub parts : rest ≡ kept ++ passed ++ last
-  pub kept : length kept ≡ b.kept
+  pub count : length kept ≡ b.kept
   pub all : b.head + length rest ≡ b.len
   pub four : length last ≡ 4
   pub again : number_at b.order 4 0 last ≡ b.len
@@ -130,7 +142,7 @@ pub record IsBlock (old : CaptureState) (octets : List ℕ) (new : CaptureState)
   pub begins : IsBlockHead old head says
   pub ends : IsBlockRest says kept rest
   pub behind : IsBehindBlock says.block old says kept new
-  pub found : found ≡ packets_of says.block old.octet kept
+  pub held : found ≡ packets_of says.block old.octet kept
 
 -- how many octets of a block are read before it is judged, by its type and its length
 abbrev pub HasHeadLength : Order → List ℕ → ℕ → Type 0
@@ -140,17 +152,33 @@ HasHeadLength order first count =
     ⊎ ((take 4 first ≢ section_type) × (number_at order 4 0 first ≡ 6) × (count ≡ 28))
     ⊎ ((take 4 first ≢ section_type) × (number_at order 4 0 first ≢ 1) × (number_at order 4 0 first ≢ 6) × (count ≡ 8))
 
+-- Its type and its length, and less than what it is judged by.
+pub record IsPartOfBlockHead (state : CaptureState) (part : List ℕ) : Type 0 where
+  pub first : List ℕ
+  pub more : List ℕ
+  pub count : ℕ
+  pub parts : part ≡ first ++ more
+  pub eight : length first ≡ 8
+  pub says : HasHeadLength state.order first count
+  pub less : length part < count
+
+-- What a block is judged by, and less than its length says.
+pub record IsPartBehindHead (state : CaptureState) (part : List ℕ) : Type 0 where
+  pub head : List ℕ
+  pub rest : List ℕ
+  pub says : BlockHead
+  pub parts : part ≡ head ++ rest
+  pub begins : IsBlockHead state head says
+  pub less : length part < says.len
+
 -- Less than a block: less than its type and its length, less than what it is judged by, or less than its length says.
 abbrev pub IsPartOfBlock : CaptureState → List ℕ → Type 0
-IsPartOfBlock state part = (length part < 8)
-    ⊎ ((first more : List ℕ) (count : ℕ) × (part ≡ first ++ more) × (length first ≡ 8) × HasHeadLength state.order first count
-    × (length part < count))
-    ⊎ ((head rest : List ℕ) (b : BlockHead) × (part ≡ head ++ rest) × IsBlockHead state head b × (length part < b.len))
+IsPartOfBlock state part = (length part < 8) ⊎ IsPartOfBlockHead state part ⊎ IsPartBehindHead state part
 
 -- The first octets of a section have no order, or no length that it can have.
 pub record IsBadSection (head : List ℕ) : Type 0 where
   pub whole : length head ≡ 12
-  pub type : take 4 head ≡ section_type
+  pub section : take 4 head ≡ section_type
   pub bad : (order : Order) → number_at order 4 8 head ≡ section_magic → ¬ IsLength 28 (number_at order 4 4 head)
 
 -- The first octets of another block have no length that it can have.
@@ -158,23 +186,6 @@ pub record HasBadLength (order : Order) (head : List ℕ) (count least : ℕ) : 
   pub whole : length head ≡ count
   pub other : take 4 head ≢ section_type
   pub bad : ¬ IsLength least (number_at order 4 4 head)
-
--- The first octets of a block of an interface with a length that it can have.
-pub record BeginsInterface (state : CaptureState) (head : List ℕ) (len : ℕ) : Type 0 where
-  pub whole : length head ≡ 16
-  pub type : HasType state.order head 1 len
-  pub fit : IsLength 20 len
-
--- The first octets of a block of a packet with a length that it can have.
-pub record BeginsPacket (state : CaptureState) (head : List ℕ) (len : ℕ) : Type 0 where
-  pub whole : length head ≡ 28
-  pub type : HasType state.order head 6 len
-  pub fit : IsLength 32 len
-
--- The same of a packet of this interface.
-pub record IsOfInterface (state : CaptureState) (head : List ℕ) (len : ℕ) (interface : Interface) : Type 0 where
-  pub begins : BeginsPacket state head len
-  pub numbered : IsNumbered state.interfaces (number_at state.order 4 8 head) interface
 
 -- A block of a packet names no interface.
 pub record NamesNoInterface (state : CaptureState) (head : List ℕ) : Type 0 where
@@ -244,7 +255,7 @@ pub record HasOtherLink (state : CaptureState) (head : List ℕ) (number : ℕ) 
   pub begins : IsOfInterface state head len interface
   pub short : number_at state.order 4 20 head ≤ packet_limit
   pub there : 32 + number_at state.order 4 20 head ≤ len
-  pub number : number ≡ interface.link
+  pub says : number ≡ interface.link
   pub other : (link : Link) → number ≢ link_number link
 
 -- The first octets of a block, taken as its front, show this fault of the block that begins at this octet.

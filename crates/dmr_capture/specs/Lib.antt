@@ -1,6 +1,7 @@
 pub mod Begins
 pub mod Blocks
 pub mod Cuts
+pub mod Found
 pub mod Links
 pub mod Options
 pub mod Orders

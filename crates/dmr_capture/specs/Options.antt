@@ -6,8 +6,8 @@ use Rattle.dmr_capture.specs.Orders.{number_at}
 -- The first option of these has this number and this length.
 pub record BeginsWithOption (order : Order) (options : List ℕ) (code len : ℕ) : Type 0 where
   pub there : 4 ≤ length options
-  pub code : code ≡ number_at order 2 0 options
-  pub len : len ≡ number_at order 2 2 options
+  pub numbered : code ≡ number_at order 2 0 options
+  pub long : len ≡ number_at order 2 2 options
 
 -- how many octets an option has: four, and then its value, which is filled up to four octets
 abbrev pub option_length : ℕ → ℕ

@@ -1,5 +1,5 @@
 -- The pieces of a capture, one after the other.
-use Rattle.std.specs.Prelude.{◌≡◌, ◌≢◌, ℕ, ◌<◌, ◌≤◌, ◌⊎◌, Bool, true, false, List, [], ◌∷◌, ◌++◌, length, take, Unit}
+use Rattle.std.specs.Prelude.{◌≡◌, ◌≢◌, ℕ, ◌<◌, ◌≤◌, ◌⊎◌, Bool, true, false, List, [], ◌∷◌, ◌++◌, length, take}
 use Rattle.std.specs.List.{flat_map}
 use Rattle.dmr_capture.specs.Blocks.{IsBlock, ShowsBlockFault, section_type}
 use Rattle.dmr_capture.specs.Links.{link_number}
@@ -46,8 +46,8 @@ state_behind old (piece ∷ pieces) = state_behind piece.state pieces
 pub record AreRead (old : CaptureState) (octets : List ℕ) (new : CaptureState) (packets : List CapturedPacket) : Type 0 where
   pub pieces : List Piece
   pub each : ArePieces old pieces
-  pub octets : octets ≡ flat_map (λ piece. piece.octets) pieces
-  pub packets : packets ≡ flat_map (λ piece. piece.found) pieces
+  pub spelled : octets ≡ flat_map (λ piece. piece.octets) pieces
+  pub held : packets ≡ flat_map (λ piece. piece.found) pieces
   pub behind : new ≡ state_behind old pieces
 
 -- the faults that show only where no octet follows
@@ -76,7 +76,7 @@ ShowsFaultOf Pcapng state fault part = ShowsBlockFault state fault part
 -- So many octets stand in front that no piece may begin here, and nothing more was taken.
 pub record IsPastLimit (state : CaptureState) (fault : CaptureFault) (part : List ℕ) : Type 0 where
   pub far : octet_limit < state.octet
-  pub fault : fault ≡ TooLong state.octet
+  pub long : fault ≡ TooLong state.octet
   pub none : part ≡ []
 
 -- These octets, taken as the front of a piece, show this fault.
@@ -84,11 +84,17 @@ abbrev pub ShowsFault : CaptureState → CaptureFault → List ℕ → Type 0
 ShowsFault state fault part = ((state.octet ≤ octet_limit) × ShowsFaultOf state.format state fault part)
     ⊎ IsPastLimit state fault part
 
+-- These octets begin a pcap, and lead to this state.
+pub record BeginsPcap (octets : List ℕ) (new : CaptureState) : Type 0 where
+  pub order : Order
+  pub fraction : Fraction
+  pub link : Link
+  pub head : IsPcapHead octets order fraction link
+  pub behind : new ≡ behind_pcap_head order fraction link
+
 -- These octets begin a capture, and lead to this state: the head of a pcap, or the first section of a pcapng.
 abbrev pub BeginsCapture : List ℕ → CaptureState → Type 0
-BeginsCapture octets new =
-    ((order : Order) (fraction : Fraction) (link : Link) × IsPcapHead octets order fraction link
-    × (new ≡ behind_pcap_head order fraction link))
+BeginsCapture octets new = BeginsPcap octets new
     ⊎ ((take 4 octets ≡ section_type) × IsBlock fresh_pcapng octets new [])
 
 -- Four octets begin no capture.
@@ -112,19 +118,28 @@ pub record HasOtherLinkType (octets : List ℕ) (number : ℕ) : Type 0 where
   pub fraction : Fraction
   pub magic : HasPcapMagic octets order fraction
   pub version : IsVersion24 octets order
-  pub number : number ≡ number_at order 4 20 octets
+  pub says : number ≡ number_at order 4 20 octets
   pub other : (link : Link) → number ≢ link_number link
 
--- less than the head of a pcap: less than four octets, or the magic and less than the head
+-- The four octets of the magic of a pcap, and less than its head.
+pub record IsPartBehindMagic (part : List ℕ) : Type 0 where
+  pub magic : List ℕ
+  pub more : List ℕ
+  pub order : Order
+  pub fraction : Fraction
+  pub parts : part ≡ magic ++ more
+  pub four : length magic ≡ 4
+  pub says : HasPcapMagic magic order fraction
+  pub less : length part < 24
+
+-- less than the head of a pcap
 abbrev pub IsPartOfHead : List ℕ → Type 0
-IsPartOfHead part = (length part < 4)
-    ⊎ ((magic more : List ℕ) (order : Order) (fraction : Fraction) × (part ≡ magic ++ more) × (length magic ≡ 4)
-    × HasPcapMagic magic order fraction × (length part < 24))
+IsPartOfHead part = (length part < 4) ⊎ IsPartBehindMagic part
 
 -- Octets of the first section of a pcapng show this fault.
 pub record ShowsSectionFault (fault : CaptureFault) (part : List ℕ) : Type 0 where
-  pub type : take 4 part ≡ section_type
-  pub fault : ShowsBlockFault fresh_pcapng fault part
+  pub section : take 4 part ≡ section_type
+  pub shown : ShowsBlockFault fresh_pcapng fault part
 
 -- These octets, taken as the begin of a capture, show this fault.
 abbrev pub ShowsBeginFault : CaptureFault → List ℕ → Type 0

@@ -30,7 +30,7 @@ pub record IsPcapHead (octets : List ℕ) (order : Order) (fraction : Fraction) 
   pub whole : length octets ≡ 24
   pub magic : HasPcapMagic octets order fraction
   pub version : IsVersion24 octets order
-  pub link : number_at order 4 20 octets ≡ link_number link
+  pub linked : number_at order 4 20 octets ≡ link_number link
 
 -- the state behind the head of a pcap
 abbrev pub behind_pcap_head : Order → Fraction → Link → CaptureState
@@ -40,7 +40,7 @@ behind_pcap_head order fraction link = record { format = Pcap link fraction; ord
 -- nothing.
 pub record IsRecordHead (order : Order) (head : List ℕ) (captured : ℕ) : Type 0 where
   pub whole : length head ≡ 16
-  pub captured : captured ≡ number_at order 4 8 head
+  pub says : captured ≡ number_at order 4 8 head
   pub short : captured ≤ packet_limit
 
 -- the time that the head of a record says
@@ -56,13 +56,20 @@ pub record IsRecord (link : Link) (fraction : Fraction) (old : CaptureState) (oc
   pub parts : octets ≡ head ++ packet
   pub says : IsRecordHead old.order head (length packet)
   pub behind : new ≡ record old { octet = old.octet + length octets }
-  pub found : found ≡ record { octet = old.octet; link = link; time = record_time fraction old.order head; octets = packet } ∷ []
+  pub held : found ≡ record { octet = old.octet; link = link; time = record_time fraction old.order head; octets = packet } ∷ []
 
--- less than a record: less than its head, or a head and less than its packet
+-- The head of a record, and less than its packet.
+pub record IsPartOfPacket (state : CaptureState) (part : List ℕ) : Type 0 where
+  pub head : List ℕ
+  pub packet : List ℕ
+  pub captured : ℕ
+  pub parts : part ≡ head ++ packet
+  pub says : IsRecordHead state.order head captured
+  pub less : length packet < captured
+
+-- less than a record: less than its head, or its head and less than its packet
 abbrev pub IsPartOfRecord : CaptureState → List ℕ → Type 0
-IsPartOfRecord state part = (length part < 16)
-    ⊎ ((head packet : List ℕ) (captured : ℕ) × IsRecordHead state.order head captured × (length packet < captured)
-    × (part ≡ head ++ packet))
+IsPartOfRecord state part = (length part < 16) ⊎ IsPartOfPacket state part
 
 -- the head of a record that asks for more than a packet may have
 pub record IsLongRecord (state : CaptureState) (head : List ℕ) : Type 0 where

@@ -25,6 +25,6 @@ pub record CarriesUdp (packet : List ℕ) (source destination : ℕ) (payload : 
   pub there : head_length packet + 8 ≤ length packet
   pub least : 8 ≤ behind_head 4 packet
   pub most : head_length packet + behind_head 4 packet ≤ length packet
-  pub source : source ≡ behind_head 0 packet
-  pub destination : destination ≡ behind_head 2 packet
-  pub payload : payload ≡ take (behind_head 4 packet - 8) (drop (head_length packet + 8) packet)
+  pub from : source ≡ behind_head 0 packet
+  pub to : destination ≡ behind_head 2 packet
+  pub carried : payload ≡ take (behind_head 4 packet - 8) (drop (head_length packet + 8) packet)

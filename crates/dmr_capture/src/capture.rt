@@ -1,8 +1,7 @@
 //! A capture, packet by packet.
-ghost use Rattle.std.specs.Prelude.{◌≡◌, ◌≢◌, ◌+◌, ◌<◌, ◌≤◌, ◌++◌, ◌∷◌, [], List, ℕ, length, take, false, true};
+ghost use Rattle.std.specs.Prelude.{◌≡◌, ◌≢◌, ◌+◌, ◌^◌, ◌<◌, ◌≤◌, ◌++◌, ◌∷◌, [], List, ℕ, length, take, false, true};
 ghost use Rattle.std.specs.Prelude.{IfSome, IfNone, IfOk, IfErr, OnOk, OnErr};
 ghost use Rattle.std.specs.Io.KnownBytes.{Consumes, IsAtEnd};
-ghost use Rattle.dmr_capture.specs.Reading.{BeginsCapture, ShowsBeginFault, is_of_end, is_read};
 
 use crate::block::{
     Block, BlockHead, INTERFACE, PACKET, SECTION, cut_block, head_length, is_length, read_rest,
@@ -88,8 +87,20 @@ fn cut_head(cut: Cut) -> CaptureFault {
 }
 
 impl Capture {
+    ghost use Rattle.dmr_capture.specs.Blocks.{HasHeadLength, IsBehindBlock, IsBlock, IsBlockHead, ShowsBlockFault, ShowsHeadFault};
+    ghost use Rattle.dmr_capture.specs.Blocks.{packets_of, section_type};
+    ghost use Rattle.dmr_capture.specs.Found.{IfEnd, IfOnwards, IfPassed, IsFound, IsOfText, IsWithinRoom, found_packets};
+    ghost use Rattle.dmr_capture.specs.Orders.{number_at};
+    ghost use Rattle.dmr_capture.specs.Reading.{AreRead, BeginsCapture, IsPiece, ShowsBeginFault, ShowsFault, ShowsRecordFault};
+    ghost use Rattle.dmr_capture.specs.Reading.{is_of_end, is_read};
+    ghost use Rattle.dmr_capture.specs.Records.{HasPcapMagic, IsRecord};
+    ghost use Rattle.dmr_capture.specs.State.{fresh_pcapng, octet_limit, packet_with};
+
     /// In front of a capture of this format.
-    fn at(format: Format, order: Order, octet: u64) -> Capture {
+    fn at(format: Format, order: Order, octet: u64) -> Capture
+        requires near { octet ≤ 24 }
+        ensures value { result ≡ record { format = format; order = order; interfaces = []; octet = octet } }
+    {
         Capture {
             format,
             order,
@@ -104,7 +115,18 @@ impl Capture {
         head: &mut [u8],
         order: Order,
         fraction: Fraction,
-    ) -> Result<Capture, CaptureFault> {
+    ) -> Result<Capture, CaptureFault>
+        requires well { S.has_failed source.old ≡ false }
+        requires room { length head.old ≡ 28 }
+        requires magic { HasPcapMagic (take 4 head.old) order fraction }
+        ensures head { IfOk result (λ capture. (more : List ℕ) × Consumes (S.left source.old) (S.left source.new) more
+            × BeginsCapture (take 4 head.old ++ more) capture) }
+        ensures fault { IfErr result (λ e. (more : List ℕ) × Consumes (S.left source.old) (S.left source.new) more
+            × ShowsBeginFault e (take 4 head.old ++ more)) }
+        ensures well { OnOk result (S.has_failed source.new ≡ false) }
+        ensures cut { IfErr result (λ e. is_of_end e ≡ true → IsAtEnd (S.left source.new)) }
+        ensures device { IfErr result (λ e. S.has_failed source.new ≡ is_read e) }
+    {
         if let Err(cut) = fill_whole(source, head, 4, PCAP_HEAD) {
             return Err(cut_head(cut));
         }
@@ -125,7 +147,18 @@ impl Capture {
     fn begin_pcapng<S: Source>(
         source: &mut S,
         head: &mut [u8],
-    ) -> Result<Capture, CaptureFault> {
+    ) -> Result<Capture, CaptureFault>
+        requires well { S.has_failed source.old ≡ false }
+        requires room { length head.old ≡ 28 }
+        requires magic { take 4 head.old ≡ section_type }
+        ensures head { IfOk result (λ capture. (more : List ℕ) × Consumes (S.left source.old) (S.left source.new) more
+            × IsBlock fresh_pcapng (take 4 head.old ++ more) capture []) }
+        ensures fault { IfErr result (λ e. (more : List ℕ) × Consumes (S.left source.old) (S.left source.new) more
+            × ShowsBlockFault fresh_pcapng e (take 4 head.old ++ more)) }
+        ensures well { OnOk result (S.has_failed source.new ≡ false) }
+        ensures cut { IfErr result (λ e. is_of_end e ≡ true → IsAtEnd (S.left source.new)) }
+        ensures device { IfErr result (λ e. S.has_failed source.new ≡ is_read e) }
+    {
         let mut capture = Capture::at(Format::Pcapng, Order::Big, 0);
         if let Err(cut) = fill_whole(source, head, 4, 8) {
             return Err(cut_block(cut, 0));
@@ -169,7 +202,23 @@ impl Capture {
         room: &mut [u8],
         link: Link,
         fraction: Fraction,
-    ) -> Result<Found, CaptureFault> {
+    ) -> Result<Found, CaptureFault>
+        requires format { self.old.format ≡ Format.Pcap link fraction }
+        requires well { S.has_failed source.old ≡ false }
+        requires room { 262144 ≤ length room.old }
+        requires near { self.old.octet ≤ octet_limit }
+        ensures packet { IfOk result (λ found. IsFound found (λ packet. (octets : List ℕ) × Consumes (S.left source.old) (S.left source.new) octets
+            × IsRecord link fraction self.old octets self.new (packet_with packet (take packet.length room.new) ∷ []))) }
+        ensures passed { IfOk result (λ found. IfPassed found ⊥) }
+        ensures end { IfOk result (λ found. IfEnd found (Consumes (S.left source.old) (S.left source.new) [] × IsAtEnd (S.left source.new) × (self.new ≡ self.old))) }
+        ensures onwards { IfOk result (λ found. IfOnwards found (self.old.octet < self.new.octet)) }
+        ensures whole { IfOk result (λ found. IsFound found (λ packet. length (take packet.length room.new) ≡ packet.length)) }
+        ensures fault { IfErr result (λ e. (part : List ℕ) × Consumes (S.left source.old) (S.left source.new) part × ShowsRecordFault self.old e part) }
+        ensures same { OnErr result (self.new ≡ self.old) }
+        ensures well { OnOk result (S.has_failed source.new ≡ false) }
+        ensures cut { IfErr result (λ e. is_of_end e ≡ true → IsAtEnd (S.left source.new)) }
+        ensures device { IfErr result (λ e. S.has_failed source.new ≡ is_read e) }
+    {
         let octet = self.octet;
         let mut head = [0u8; RECORD_HEAD];
         match fill(source, &mut head, 0, RECORD_HEAD) {
@@ -200,7 +249,13 @@ impl Capture {
     }
 
     /// What the first octets of a section say.
-    fn section_head(&self, head: &[u8]) -> Result<BlockHead, CaptureFault> {
+    fn section_head(&self, head: &[u8]) -> Result<BlockHead, CaptureFault>
+        requires whole { length head.now ≡ 12 }
+        requires typed { take 4 head.now ≡ section_type }
+        ensures head { IfOk result (λ b. IsBlockHead self.now head.now b) }
+        ensures fault { IfErr result (λ e. ShowsHeadFault self.now e head.now) }
+        ensures text { IfErr result (λ e. IsOfText e) }
+    {
         let octet = self.octet;
         let order = match Order::Big.u32_at(head, 8) {
             0x1a2b_3c4d => Order::Big,
@@ -221,7 +276,14 @@ impl Capture {
     }
 
     /// What the first octets of a block say that describes an interface.
-    fn interface_head(&self, head: &[u8]) -> Result<BlockHead, CaptureFault> {
+    fn interface_head(&self, head: &[u8]) -> Result<BlockHead, CaptureFault>
+        requires whole { length head.now ≡ 16 }
+        requires typed { take 4 head.now ≢ section_type }
+        requires number { number_at self.now.order 4 0 head.now ≡ 1 }
+        ensures head { IfOk result (λ b. IsBlockHead self.now head.now b) }
+        ensures fault { IfErr result (λ e. ShowsHeadFault self.now e head.now) }
+        ensures text { IfErr result (λ e. IsOfText e) }
+    {
         let octet = self.octet;
         let order = self.order;
         let len = order.u32_at(head, 4);
@@ -246,7 +308,14 @@ impl Capture {
     }
 
     /// What the first octets of a block say that holds a packet.
-    fn packet_head(&self, head: &[u8]) -> Result<BlockHead, CaptureFault> {
+    fn packet_head(&self, head: &[u8]) -> Result<BlockHead, CaptureFault>
+        requires whole { length head.now ≡ 28 }
+        requires typed { take 4 head.now ≢ section_type }
+        requires number { number_at self.now.order 4 0 head.now ≡ 6 }
+        ensures head { IfOk result (λ b. IsBlockHead self.now head.now b) }
+        ensures fault { IfErr result (λ e. ShowsHeadFault self.now e head.now) }
+        ensures text { IfErr result (λ e. IsOfText e) }
+    {
         let octet = self.octet;
         let order = self.order;
         let len = order.u32_at(head, 4);
@@ -284,7 +353,15 @@ impl Capture {
     }
 
     /// What the first octets of any other block say.
-    fn other_head(&self, head: &[u8]) -> Result<BlockHead, CaptureFault> {
+    fn other_head(&self, head: &[u8]) -> Result<BlockHead, CaptureFault>
+        requires whole { length head.now ≡ 8 }
+        requires typed { take 4 head.now ≢ section_type }
+        requires interface { number_at self.now.order 4 0 head.now ≢ 1 }
+        requires packet { number_at self.now.order 4 0 head.now ≢ 6 }
+        ensures head { IfOk result (λ b. IsBlockHead self.now head.now b) }
+        ensures fault { IfErr result (λ e. ShowsHeadFault self.now e head.now) }
+        ensures text { IfErr result (λ e. IsOfText e) }
+    {
         let octet = self.octet;
         let order = self.order;
         let len = order.u32_at(head, 4);
@@ -301,7 +378,12 @@ impl Capture {
     }
 
     /// What the first octets of a block say.
-    fn block_head(&self, head: &[u8]) -> Result<BlockHead, CaptureFault> {
+    fn block_head(&self, head: &[u8]) -> Result<BlockHead, CaptureFault>
+        requires count { HasHeadLength self.now.order head.now (length head.now) }
+        ensures head { IfOk result (λ b. IsBlockHead self.now head.now b) }
+        ensures fault { IfErr result (λ e. ShowsHeadFault self.now e head.now) }
+        ensures text { IfErr result (λ e. IsOfText e) }
+    {
         if head[..4] == SECTION[..] {
             return self.section_head(head);
         }
@@ -317,7 +399,17 @@ impl Capture {
         &self,
         source: &mut S,
         head: &mut [u8],
-    ) -> Result<BlockHead, CaptureFault> {
+    ) -> Result<BlockHead, CaptureFault>
+        requires well { S.has_failed source.old ≡ false }
+        requires room { length head.old ≡ 28 }
+        ensures head { IfOk result (λ b. (more : List ℕ) × Consumes (S.left source.old) (S.left source.new) more
+            × IsBlockHead self.now (take 8 head.old ++ more) b) }
+        ensures fault { IfErr result (λ e. (more : List ℕ) × Consumes (S.left source.old) (S.left source.new) more
+            × ShowsBlockFault self.now e (take 8 head.old ++ more)) }
+        ensures well { OnOk result (S.has_failed source.new ≡ false) }
+        ensures cut { IfErr result (λ e. is_of_end e ≡ true → IsAtEnd (S.left source.new)) }
+        ensures device { IfErr result (λ e. S.has_failed source.new ≡ is_read e) }
+    {
         let count = head_length(self.order, &head[..8]);
         if let Err(cut) = fill_whole(source, head, 8, count) {
             return Err(cut_block(cut, self.octet));
@@ -326,7 +418,17 @@ impl Capture {
     }
 
     /// Goes on behind a block, of which this was kept.
-    fn pass(&mut self, head: BlockHead, kept: &[u8]) -> Found {
+    fn pass(&mut self, head: BlockHead, kept: &[u8]) -> Found
+        requires near { self.old.octet ≤ octet_limit }
+        requires format { self.old.format ≡ Format.Pcapng }
+        requires few { IsWithinRoom head.block (length self.old.interfaces) }
+        requires long { length kept.now ≡ head.kept }
+        requires short { head.kept ≤ 262144 }
+        ensures behind { IsBehindBlock head.block self.old head kept.now self.new }
+        ensures found { found_packets result kept.now ≡ packets_of head.block self.old.octet kept.now }
+        ensures piece { IfEnd result ⊥ }
+        ensures whole { IsFound result (λ packet. packet.length ≡ head.kept) }
+    {
         let octet = self.octet;
         self.octet += u64::from(head.len);
         match head.block {
@@ -355,7 +457,24 @@ impl Capture {
         &mut self,
         source: &mut S,
         room: &mut [u8],
-    ) -> Result<Found, CaptureFault> {
+    ) -> Result<Found, CaptureFault>
+        requires format { self.old.format ≡ Format.Pcapng }
+        requires well { S.has_failed source.old ≡ false }
+        requires room { 262144 ≤ length room.old }
+        requires near { self.old.octet ≤ octet_limit }
+        ensures packet { IfOk result (λ found. IsFound found (λ packet. (octets : List ℕ) × Consumes (S.left source.old) (S.left source.new) octets
+            × IsBlock self.old octets self.new (packet_with packet (take packet.length room.new) ∷ []))) }
+        ensures passed { IfOk result (λ found. IfPassed found ((octets : List ℕ) × Consumes (S.left source.old) (S.left source.new) octets
+            × IsBlock self.old octets self.new [])) }
+        ensures end { IfOk result (λ found. IfEnd found (Consumes (S.left source.old) (S.left source.new) [] × IsAtEnd (S.left source.new) × (self.new ≡ self.old))) }
+        ensures onwards { IfOk result (λ found. IfOnwards found (self.old.octet < self.new.octet)) }
+        ensures whole { IfOk result (λ found. IsFound found (λ packet. length (take packet.length room.new) ≡ packet.length)) }
+        ensures fault { IfErr result (λ e. (part : List ℕ) × Consumes (S.left source.old) (S.left source.new) part × ShowsBlockFault self.old e part) }
+        ensures same { OnErr result (self.new ≡ self.old) }
+        ensures well { OnOk result (S.has_failed source.new ≡ false) }
+        ensures cut { IfErr result (λ e. is_of_end e ≡ true → IsAtEnd (S.left source.new)) }
+        ensures device { IfErr result (λ e. S.has_failed source.new ≡ is_read e) }
+    {
         let octet = self.octet;
         let mut head = [0u8; 28];
         match fill(source, &mut head, 0, 8) {
@@ -374,7 +493,22 @@ impl Capture {
         &mut self,
         source: &mut S,
         room: &mut [u8],
-    ) -> Result<Found, CaptureFault> {
+    ) -> Result<Found, CaptureFault>
+        requires well { S.has_failed source.old ≡ false }
+        requires room { 262144 ≤ length room.old }
+        ensures packet { IfOk result (λ found. IsFound found (λ packet. (octets : List ℕ) × Consumes (S.left source.old) (S.left source.new) octets
+            × IsPiece self.old octets self.new (packet_with packet (take packet.length room.new) ∷ []))) }
+        ensures passed { IfOk result (λ found. IfPassed found ((octets : List ℕ) × Consumes (S.left source.old) (S.left source.new) octets
+            × IsPiece self.old octets self.new [])) }
+        ensures end { IfOk result (λ found. IfEnd found (Consumes (S.left source.old) (S.left source.new) [] × IsAtEnd (S.left source.new) × (self.new ≡ self.old))) }
+        ensures onwards { IfOk result (λ found. IfOnwards found (self.old.octet < self.new.octet)) }
+        ensures whole { IfOk result (λ found. IsFound found (λ packet. length (take packet.length room.new) ≡ packet.length)) }
+        ensures fault { IfErr result (λ e. (part : List ℕ) × Consumes (S.left source.old) (S.left source.new) part × ShowsFault self.old e part) }
+        ensures same { OnErr result (self.new ≡ self.old) }
+        ensures well { OnOk result (S.has_failed source.new ≡ false) }
+        ensures cut { IfErr result (λ e. is_of_end e ≡ true → IsAtEnd (S.left source.new)) }
+        ensures device { IfErr result (λ e. S.has_failed source.new ≡ is_read e) }
+    {
         if self.octet > OCTET_LIMIT {
             return Err(CaptureFault::TooLong { octet: self.octet });
         }
@@ -390,7 +524,28 @@ impl Capture {
         &mut self,
         source: &mut S,
         room: &mut [u8],
-    ) -> Result<Option<Packet>, CaptureFault> {
+    ) -> Result<Option<Packet>, CaptureFault>
+        requires well { S.has_failed source.old ≡ false }
+        requires room { 262144 ≤ length room.old }
+        // What was read holds this packet alone.
+        ensures packet { IfOk result (λ found. IfSome found (λ packet. (octets : List ℕ) × Consumes (S.left source.old) (S.left source.new) octets
+            × AreRead self.old octets self.new (packet_with packet (take packet.length room.new) ∷ []))) }
+        ensures whole { IfOk result (λ found. IfSome found (λ packet. length (take packet.length room.new) ≡ packet.length)) }
+        // Or it holds none, and is all that there was.
+        ensures end { IfOk result (λ found. IfNone found ((octets : List ℕ) × Consumes (S.left source.old) (S.left source.new) octets
+            × AreRead self.old octets self.new [])) }
+        ensures done { IfOk result (λ found. IfNone found (IsAtEnd (S.left source.new))) }
+        // A fault is shown by the octets behind those that hold none.
+        ensures fault { IfErr result (λ e. (octets : List ℕ) × (part : List ℕ) × Consumes (S.left source.old) (S.left source.new) (octets ++ part)
+            × AreRead self.old octets self.new [] × ShowsFault self.new e part) }
+        // `Read` is told exactly where the device failed.
+        ensures well { OnOk result (S.has_failed source.new ≡ false) }
+        ensures cut { IfErr result (λ e. is_of_end e ≡ true → IsAtEnd (S.left source.new)) }
+        ensures device { IfErr result (λ e. S.has_failed source.new ≡ is_read e) }
+        // No capture goes on without end.
+        ensures onwards { IfOk result (λ found. IfSome found (λ packet. self.old.octet < self.new.octet)) }
+        ensures far { self.new.octet ≤ octet_limit + 2 ^ 33 }
+    {
         loop {
             match self.next_piece(source, room)? {
                 Found::End => return Ok(None),
