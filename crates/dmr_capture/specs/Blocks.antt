@@ -179,7 +179,8 @@ IsPartOfBlock state part = (length part < 8) ⊎ IsPartOfBlockHead state part �
 pub record IsBadSection (head : List ℕ) : Type 0 where
   pub whole : length head ≡ 12
   pub section : take 4 head ≡ section_type
-  pub bad : (order : Order) → number_at order 4 8 head ≡ section_magic → ¬ IsLength 28 (number_at order 4 4 head)
+  pub bad : ((order : Order) → number_at order 4 8 head ≢ section_magic)
+      ⊎ ((order : Order) × (number_at order 4 8 head ≡ section_magic) × (¬ IsLength 28 (number_at order 4 4 head)))
 
 -- The first octets of another block have no length that it can have.
 pub record HasBadLength (order : Order) (head : List ℕ) (count least : ℕ) : Type 0 where

@@ -1,5 +1,6 @@
 pub mod Begins
 pub mod Blocks
+pub mod CutFaults
 pub mod Cuts
 pub mod Found
 pub mod Links

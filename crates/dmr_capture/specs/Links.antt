@@ -1,5 +1,5 @@
 -- What stands in front of a datagram, and how long it is.
-use Rattle.std.specs.Prelude.{ℕ, ◌+◌, ◌*◌, ◌/◌, ◌==◌, ◌&&◌, ◌||◌, nat_le, nat_lt, if◌then◌else◌, Bool, List, [], ◌∷◌, Option, Some, None}
+use Rattle.std.specs.Prelude.{ℕ, ◌+◌, ◌*◌, ◌/◌, ◌==◌, ◌&&◌, ◌||◌, nat_le, nat_lt, if◌then◌else◌, Bool, false, List, [], ◌∷◌, Option, Some, None}
 use Rattle.std.specs.Prelude.{length, take, drop, slice_index}
 use Rattle.byteorder.specs.Endian.{big_number}
 use Rattle.dmr_capture.specs.declared.link.Link.{Link}
@@ -20,6 +20,11 @@ two_octets first second = first * 256 + second
 -- whether a type of Ethernet is that of a tag: 8100 or 88A8
 abbrev pub is_tag : ℕ → ℕ → Bool
 is_tag first second = (first == 0x81) && (second == 0) || (first == 0x88) && (second == 0xA8)
+
+-- whether a tag stands in front, whole: its type, and two octets
+abbrev pub begins_with_tag : List ℕ → Bool
+begins_with_tag (first ∷ second ∷ third ∷ fourth ∷ rest) = is_tag first second
+begins_with_tag octets = false
 
 -- what stands behind the type, where that is 0800, which is IPv4
 abbrev pub behind_type : List ℕ → Option (List ℕ)

@@ -1,8 +1,11 @@
 //! The blocks of a pcapng.
 ghost use Rattle.std.specs.Prelude.{◌≡◌, ◌≢◌, ◌+◌, ◌<◌, ◌≤◌, ◌++◌, ◌↔◌, List, ℕ, length, take, false, true};
-ghost use Rattle.std.specs.Prelude.{IsTrue, IfOk, IfErr, OnOk, OnErr};
+ghost use Rattle.std.specs.Prelude.{IsTrue, IfSome, IfNone, IfOk, IfErr, OnOk, OnErr};
 ghost use Rattle.std.specs.Io.KnownBytes.{Consumes, IsAtEnd};
-ghost use Rattle.dmr_capture.specs.Blocks.{IsLength, HasHeadLength, IsBlockRest};
+ghost use Rattle.dmr_capture.specs.Blocks.{IsLength, HasHeadLength, IsBlockRest, section_magic};
+ghost use Rattle.dmr_capture.specs.Orders.{number_at};
+ghost use Rattle.dmr_capture.specs.CutFaults.{cut_block_fault};
+ghost use Rattle.dmr_capture.specs.Cuts.{is_device};
 ghost use Rattle.dmr_capture.specs.Rests.{ShowsRestFault};
 ghost use Rattle.dmr_capture.specs.Reading.{is_of_end, is_read};
 
@@ -49,6 +52,24 @@ pub(crate) struct BlockHead {
     pub(crate) kept: usize,
 }
 
+/// By which order of octets a section tells its own.
+const SECTION_MAGIC: u32 = 0x1a2b_3c4d;
+
+/// The order of the octets of a section, by its magic.
+pub(crate) fn section_order(head: &[u8]) -> Option<Order>
+    requires whole { length head.now ≡ 12 }
+    ensures some { IfSome result (λ order. number_at order 4 8 head.now ≡ section_magic) }
+    ensures none { IfNone result ((order : Order) → number_at order 4 8 head.now ≢ section_magic) }
+{
+    if Order::Big.u32_at(head, 8) == SECTION_MAGIC {
+        return Some(Order::Big);
+    }
+    if Order::Little.u32_at(head, 8) == SECTION_MAGIC {
+        return Some(Order::Little);
+    }
+    None
+}
+
 /// Whether a block that needs so many octets may have this length.
 pub(crate) fn is_length(least: u32, len: u32) -> bool
     ensures value { IsTrue result ↔ IsLength least len }
@@ -73,7 +94,11 @@ pub(crate) fn head_length(order: Order, first: &[u8]) -> usize
 }
 
 /// The fault of a block that is cut, or in which the source failed.
-pub(crate) fn cut_block(cut: Cut, octet: u64) -> CaptureFault {
+pub(crate) fn cut_block(cut: Cut, octet: u64) -> CaptureFault
+    ensures fault { result ≡ cut_block_fault cut octet }
+    ensures end { is_of_end result ≡ true → cut ≡ Cut.End }
+    ensures device { is_read result ≡ is_device cut }
+{
     match cut {
         Cut::End => CaptureFault::CutBlock { octet },
         Cut::Device => CaptureFault::Read { octet },

@@ -2,9 +2,13 @@
 ghost use Rattle.std.specs.Prelude.{◌≡◌, ◌≢◌, ◌+◌, ◌^◌, ◌<◌, ◌≤◌, ◌++◌, ◌∷◌, [], List, ℕ, length, take, false, true};
 ghost use Rattle.std.specs.Prelude.{IfSome, IfNone, IfOk, IfErr, OnOk, OnErr};
 ghost use Rattle.std.specs.Io.KnownBytes.{Consumes, IsAtEnd};
+ghost use Rattle.dmr_capture.specs.Cuts.{is_device};
+ghost use Rattle.dmr_capture.specs.CutFaults.{cut_head_fault, cut_packet_fault};
+ghost use Rattle.dmr_capture.specs.Reading.{is_of_end, is_read};
 
 use crate::block::{
     Block, BlockHead, INTERFACE, PACKET, SECTION, cut_block, head_length, is_length, read_rest,
+    section_order,
 };
 use crate::fault::CaptureFault;
 use crate::interface::{Interface, resolution_said, time_of};
@@ -71,7 +75,11 @@ impl Model for Capture {
 }
 
 /// The fault of a pcap whose record is cut, or in which the source failed.
-fn cut_packet(cut: Cut, octet: u64) -> CaptureFault {
+fn cut_packet(cut: Cut, octet: u64) -> CaptureFault
+    ensures fault { result ≡ cut_packet_fault cut octet }
+    ensures end { is_of_end result ≡ true → cut ≡ Cut.End }
+    ensures device { is_read result ≡ is_device cut }
+{
     match cut {
         Cut::End => CaptureFault::CutPacket { octet },
         Cut::Device => CaptureFault::Read { octet },
@@ -79,7 +87,11 @@ fn cut_packet(cut: Cut, octet: u64) -> CaptureFault {
 }
 
 /// The fault of a capture whose head is cut, or in which the source failed.
-fn cut_head(cut: Cut) -> CaptureFault {
+fn cut_head(cut: Cut) -> CaptureFault
+    ensures fault { result ≡ cut_head_fault cut }
+    ensures end { is_of_end result ≡ true → cut ≡ Cut.End }
+    ensures device { is_read result ≡ is_device cut }
+{
     match cut {
         Cut::End => CaptureFault::CutHead,
         Cut::Device => CaptureFault::Read { octet: 0 },
@@ -87,7 +99,7 @@ fn cut_head(cut: Cut) -> CaptureFault {
 }
 
 impl Capture {
-    ghost use Rattle.dmr_capture.specs.Blocks.{HasHeadLength, IsBehindBlock, IsBlock, IsBlockHead, ShowsBlockFault, ShowsHeadFault};
+    ghost use Rattle.dmr_capture.specs.Blocks.{HasHeadLength, IsBehindBlock, IsBlock, IsBlockHead, IsNumbered, ShowsBlockFault, ShowsHeadFault};
     ghost use Rattle.dmr_capture.specs.Blocks.{packets_of, section_type};
     ghost use Rattle.dmr_capture.specs.Found.{IfEnd, IfOnwards, IfPassed, IsFound, IsOfText, IsWithinRoom, found_packets};
     ghost use Rattle.dmr_capture.specs.Orders.{number_at};
@@ -257,10 +269,8 @@ impl Capture {
         ensures text { IfErr result (λ e. IsOfText e) }
     {
         let octet = self.octet;
-        let order = match Order::Big.u32_at(head, 8) {
-            0x1a2b_3c4d => Order::Big,
-            0x4d3c_2b1a => Order::Little,
-            _ => return Err(CaptureFault::BadBlock { octet }),
+        let Some(order) = section_order(head) else {
+            return Err(CaptureFault::BadBlock { octet });
         };
         let len = order.u32_at(head, 4);
         if !is_length(28, len) {
@@ -307,6 +317,18 @@ impl Capture {
         })
     }
 
+    /// The interface of this number in the section, from 0, where there is one.
+    fn interface(&self, number: u32) -> Option<Interface>
+        ensures some { IfSome result (λ interface. IsNumbered self.now.interfaces number interface) }
+        ensures none { IfNone result ((interface : Interface) → ¬ IsNumbered self.now.interfaces number interface) }
+    {
+        let number = number as usize;
+        if number >= self.interfaces.len() {
+            return None;
+        }
+        Some(self.interfaces[number])
+    }
+
     /// What the first octets of a block say that holds a packet.
     fn packet_head(&self, head: &[u8]) -> Result<BlockHead, CaptureFault>
         requires whole { length head.now ≡ 28 }
@@ -322,11 +344,9 @@ impl Capture {
         if !is_length(32, len) {
             return Err(CaptureFault::BadBlock { octet });
         }
-        let number = order.u32_at(head, 8) as usize;
-        if number >= self.interfaces.len() {
+        let Some(interface) = self.interface(order.u32_at(head, 8)) else {
             return Err(CaptureFault::BadBlock { octet });
-        }
-        let interface = self.interfaces[number];
+        };
         let captured = order.u32_at(head, 20) as usize;
         if captured > PACKET_LIMIT {
             return Err(CaptureFault::TooLong { octet });

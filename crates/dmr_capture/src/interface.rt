@@ -1,6 +1,6 @@
 //! What a pcapng says of where its packets were heard.
-ghost use Rattle.std.specs.Prelude.{◌≡◌};
-ghost use Rattle.dmr_capture.specs.Times.{time_of};
+ghost use Rattle.std.specs.Prelude.{◌≡◌, ◌≤◌, drop, length};
+ghost use Rattle.dmr_capture.specs.Times.{base_of, time_of};
 ghost use Rattle.dmr_capture.specs.Options.{Says};
 
 use crate::order::Order;
@@ -20,16 +20,31 @@ const MICROSECONDS: u8 = 6;
 /// The number of the option that says a resolution.
 const RESOLUTION: u16 = 9;
 
+/// The base of the digits of a resolution.
+fn base_of(resolution: u8) -> u128
+    ensures base { result ≡ base_of resolution }
+{
+    if resolution < 128 { 10 } else { 2 }
+}
+
 /// A count of the units of a resolution, as nanoseconds. What is finer is dropped.
 pub(crate) fn time_of(resolution: u8, count: u64) -> u128
     ensures time { result ≡ time_of resolution count }
 {
-    let base = if resolution < 128 { 10 } else { 2 };
+    let base = base_of(resolution);
     let mut time = u128::from(count) * 1_000_000_000;
     for _digit in 0..resolution % 128 {
         time /= base;
     }
     time
+}
+
+/// What stands behind so many octets.
+fn behind(octets: &[u8], count: usize) -> &[u8]
+    requires within { count ≤ length octets.now }
+    ensures rest { result.now ≡ drop count octets.now }
+{
+    &octets[count..]
 }
 
 /// The resolution that the options of an interface say: that of the first option which has one.
@@ -47,7 +62,7 @@ pub(crate) fn resolution_said(order: Order, options: &[u8]) -> u8
         if code == RESOLUTION && length == 1 {
             return rest[4];
         }
-        rest = &rest[whole..];
+        rest = behind(rest, whole);
     }
     MICROSECONDS
 }

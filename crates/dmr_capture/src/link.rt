@@ -1,6 +1,6 @@
 //! What stands in front of the datagram of a packet.
-ghost use Rattle.std.specs.Prelude.{◌≡◌, ◌≢◌, Some, None, IfSome, IfNone};
-ghost use Rattle.dmr_capture.specs.Links.{ipv4_of, behind_tags, carried, behind_link, link_number};
+ghost use Rattle.std.specs.Prelude.{◌≡◌, ◌≢◌, ◌≤◌, Some, None, IfSome, IfNone, length, true};
+ghost use Rattle.dmr_capture.specs.Links.{begins_with_tag, behind_link, behind_tags, behind_type, carried, ipv4_of, link_number};
 
 use byteorder::{BigEndian, ByteOrder};
 
@@ -36,22 +36,38 @@ impl Link {
     }
 }
 
-/// What stands behind the tags of an Ethernet packet, where its type is IPv4.
+/// Whether a tag of Ethernet stands in front, whole.
+fn is_tagged(octets: &[u8]) -> bool
+    ensures tag { result ≡ begins_with_tag octets.now }
+    ensures four { result ≡ true → 4 ≤ length octets.now }
+{
+    match octets {
+        [0x81, 0x00, _, _, ..] | [0x88, 0xa8, _, _, ..] => true,
+        _ => false,
+    }
+}
+
+/// What stands behind the type of an Ethernet packet, where that is IPv4.
+fn behind_type(octets: &[u8]) -> Option<&[u8]>
+    ensures some { IfSome result (λ packet. behind_type octets.now ≡ Some packet.now) }
+    ensures none { IfNone result (behind_type octets.now ≡ None) }
+{
+    match octets {
+        [0x08, 0x00, packet @ ..] => Some(packet),
+        _ => None,
+    }
+}
+
+/// What stands behind the tags and the type of an Ethernet packet, where that is IPv4.
 fn behind_tags(octets: &[u8]) -> Option<&[u8]>
     ensures some { IfSome result (λ packet. behind_tags octets.now ≡ Some packet.now) }
     ensures none { IfNone result (behind_tags octets.now ≡ None) }
 {
     let mut rest = octets;
-    while let [first, second, _, _, behind @ ..] = rest {
-        match (first, second) {
-            (0x81, 0x00) | (0x88, 0xa8) => rest = behind,
-            _ => break,
-        }
+    while is_tagged(rest) {
+        rest = &rest[4..];
     }
-    match rest {
-        [0x08, 0x00, packet @ ..] => Some(packet),
-        _ => None,
-    }
+    behind_type(rest)
 }
 
 /// What stands in a packet behind the head of its link, where that says or may say IPv4.
