@@ -1,2 +1,5 @@
+pub mod Blocks
 pub mod Filled
+pub mod Fronts
+pub mod Records
 pub mod Rests

@@ -15,7 +15,7 @@ use crate::interface::{Interface, resolution_said, time_of};
 use crate::link::Link;
 use crate::order::Order;
 use crate::packet::{PACKET_LIMIT, Packet};
-use crate::pcap::{Fraction, Magic, magic_of, time_in};
+use crate::pcap::{Fraction, Magic, PCAP_HEAD, link_said, magic_of, time_in};
 use crate::transfer::{Cut, fill, fill_whole};
 use arrayvec::ArrayVec;
 use dmr_record::Source;
@@ -26,9 +26,6 @@ const INTERFACE_LIMIT: usize = 256;
 
 /// How many octets may stand in front of a record or a block.
 const OCTET_LIMIT: u64 = 1 << 62;
-
-/// How many octets the head of a pcap has.
-const PCAP_HEAD: usize = 24;
 
 /// How many octets the head of a record of a pcap has.
 const RECORD_HEAD: usize = 16;
@@ -142,17 +139,9 @@ impl Capture {
         if let Err(cut) = fill_whole(source, head, 4, PCAP_HEAD) {
             return Err(cut_head(cut));
         }
-        if order.u16_at(head, 4) != 2 || order.u16_at(head, 6) != 4 {
-            return Err(CaptureFault::NoCapture);
-        }
-        let number = order.u32_at(head, 20);
-        match Link::of_number(number) {
-            Some(link) => {
-                let format = Format::Pcap { link, fraction };
-                Ok(Capture::at(format, order, 24))
-            }
-            None => Err(CaptureFault::LinkType { link: number }),
-        }
+        let link = link_said(head, order, fraction)?;
+        let format = Format::Pcap { link, fraction };
+        Ok(Capture::at(format, order, 24))
     }
 
     /// Reads the rest of the first section of a pcapng, whose first four octets stand in the buffer.
@@ -175,8 +164,13 @@ impl Capture {
         if let Err(cut) = fill_whole(source, head, 4, 8) {
             return Err(cut_block(cut, 0));
         }
-        let block = capture.read_head(source, head)?;
-        read_rest(source, 0, block, &mut [])?;
+        let block = match capture.read_head(source, head) {
+            Ok(block) => block,
+            Err(fault) => return Err(fault),
+        };
+        if let Err(fault) = read_rest(source, 0, block, &mut []) {
+            return Err(fault);
+        }
         capture.pass(block, &[]);
         Ok(capture)
     }
@@ -503,8 +497,13 @@ impl Capture {
             Ok(_) => return Err(CaptureFault::CutBlock { octet }),
             Err(_) => return Err(CaptureFault::Read { octet }),
         }
-        let block = self.read_head(source, &mut head)?;
-        read_rest(source, octet, block, room)?;
+        let block = match self.read_head(source, &mut head) {
+            Ok(block) => block,
+            Err(fault) => return Err(fault),
+        };
+        if let Err(fault) = read_rest(source, octet, block, room) {
+            return Err(fault);
+        }
         Ok(self.pass(block, &room[..block.kept]))
     }
 

@@ -1,11 +1,13 @@
 //! The head and the records of a pcap.
-ghost use Rattle.std.specs.Prelude.{◌≡◌, ◌≢◌, length, IfSome, IfNone};
+ghost use Rattle.std.specs.Prelude.{◌≡◌, ◌≢◌, ◌≤◌, length, take, false, IfSome, IfNone, IfOk, IfErr};
 ghost use Rattle.dmr_capture.specs.Times.{pcap_time};
-ghost use Rattle.dmr_capture.specs.Records.{pcap_magic};
-ghost use Rattle.dmr_capture.specs.Reading.{BeginsNone};
+ghost use Rattle.dmr_capture.specs.Records.{HasPcapMagic, IsPcapHead, pcap_magic};
+ghost use Rattle.dmr_capture.specs.Reading.{BeginsNone, ShowsBeginFault, is_of_end, is_read};
 ghost use Rattle.dmr_capture.specs.Begins.{HasMagic};
 
 use crate::block::SECTION;
+use crate::fault::CaptureFault;
+use crate::link::Link;
 use crate::order::Order;
 
 /// What the fractions of seconds count in.
@@ -16,6 +18,9 @@ pub enum Fraction {
     /// Nanoseconds.
     Nano,
 }
+
+/// How many octets the head of a pcap has.
+pub(crate) const PCAP_HEAD: usize = 24;
 
 /// What a pcap in microseconds begins with.
 const MICRO: u32 = 0xa1b2_c3d4;
@@ -62,6 +67,42 @@ pub(crate) fn magic_of(octets: &[u8]) -> Option<Magic>
         return Some(Magic::OfPcap { order, fraction });
     }
     None
+}
+
+/// The link that the head of a pcap says, whose magic was found.
+fn link_of_head(head: &[u8], order: Order, fraction: Fraction) -> Result<Link, CaptureFault>
+    requires whole { length head.now ≡ 24 }
+    requires magic { HasPcapMagic head.now order fraction }
+    ensures head { IfOk result (λ link. IsPcapHead head.now order fraction link) }
+    ensures fault { IfErr result (λ e. ShowsBeginFault e head.now) }
+    ensures text { IfErr result (λ e. is_of_end e ≡ false) }
+    ensures read { IfErr result (λ e. is_read e ≡ false) }
+{
+    let is_version_24 = order.u16_at(head, 4) == 2 && order.u16_at(head, 6) == 4;
+    if !is_version_24 {
+        return Err(CaptureFault::NoCapture);
+    }
+    let number = order.u32_at(head, 20);
+    match Link::of_number(number) {
+        Some(link) => Ok(link),
+        None => Err(CaptureFault::LinkType { link: number }),
+    }
+}
+
+/// The link that the head of a pcap says, whose magic was found. The head stands at the front of these octets.
+pub(crate) fn link_said(
+    octets: &[u8],
+    order: Order,
+    fraction: Fraction,
+) -> Result<Link, CaptureFault>
+    requires whole { 24 ≤ length octets.now }
+    requires magic { HasPcapMagic (take 24 octets.now) order fraction }
+    ensures head { IfOk result (λ link. IsPcapHead (take 24 octets.now) order fraction link) }
+    ensures fault { IfErr result (λ e. ShowsBeginFault e (take 24 octets.now)) }
+    ensures text { IfErr result (λ e. is_of_end e ≡ false) }
+    ensures read { IfErr result (λ e. is_read e ≡ false) }
+{
+    link_of_head(&octets[..PCAP_HEAD], order, fraction)
 }
 
 /// The time of a packet, by its seconds and their fraction, in nanoseconds.
