@@ -5,8 +5,9 @@ use Rattle.dmr_capture.specs.Blocks.{IsBehindBlock, IsBlock, IsBlockHead, IsBloc
 use Rattle.dmr_capture.specs.Blocks.{ShowsBlockFault, ShowsHeadFault, packets_of, section_type}
 use Rattle.dmr_capture.specs.CutFaults.{cut_block_fault}
 use Rattle.dmr_capture.specs.Found.{IfPassed, IsFound, found_packets}
+use Rattle.dmr_capture.specs.Reading.{ShowsBeginFault}
 use Rattle.dmr_capture.specs.Rests.{ShowsRestFault}
-use Rattle.dmr_capture.specs.State.{CaptureState, CapturedPacket, packet_with}
+use Rattle.dmr_capture.specs.State.{CaptureState, CapturedPacket, fresh_pcapng, packet_with}
 use Rattle.dmr_capture.specs.declared.block.Block.{Block}
 use Rattle.dmr_capture.specs.declared.block.Block.TheVariants.{NewSection, NewInterface, Captured, Passed}
 use Rattle.dmr_capture.specs.declared.block.BlockHead.{BlockHead}
@@ -122,3 +123,16 @@ section_alone Passed state head b octet kept says section = refl
 pub section_holds_none : (state : CaptureState) (head : List ℕ) (b : BlockHead) (octet : ℕ) (kept : List ℕ)
     → IsBlockHead state head b → take 4 head ≡ section_type → packets_of b.block octet kept ≡ []
 section_holds_none state head b octet kept begins section = section_alone b.block state head b octet kept begins.0 section
+
+-- what the first section shows is a fault of the begin of a capture
+pub section_fault : (e : CaptureFault) (part : List ℕ) → take 4 part ≡ section_type → ShowsBlockFault fresh_pcapng e part
+    → ShowsBeginFault e part
+section_fault (fault.LinkType number) part section shown = inr (record { section = section; shown = shown })
+section_fault (fault.Read octet) part section shown = inr (record { section = section; shown = shown })
+section_fault (fault.CutBlock octet) part section shown = record { section = section; shown = shown }
+section_fault (fault.BadBlock octet) part section shown = record { section = section; shown = shown }
+section_fault (fault.ManyInterfaces octet) part section shown = record { section = section; shown = shown }
+section_fault (fault.TooLong octet) part section shown = record { section = section; shown = shown }
+section_fault (fault.CutPacket octet) part section shown = absurd shown
+section_fault fault.NoCapture part section shown = absurd shown
+section_fault fault.CutHead part section shown = absurd shown

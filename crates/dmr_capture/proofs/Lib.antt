@@ -1,5 +1,6 @@
 pub mod Blocks
 pub mod Filled
 pub mod Fronts
+pub mod InARow
 pub mod Records
 pub mod Rests

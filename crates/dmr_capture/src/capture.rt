@@ -218,6 +218,7 @@ impl Capture {
         ensures passed { IfOk result (λ found. IfPassed found ⊥) }
         ensures end { IfOk result (λ found. IfEnd found (Consumes (S.left source.old) (S.left source.new) [] × IsAtEnd (S.left source.new) × (self.new ≡ self.old))) }
         ensures onwards { IfOk result (λ found. IfOnwards found (self.old.octet < self.new.octet)) }
+        ensures far { self.new.octet ≤ octet_limit + 2 ^ 33 }
         ensures whole { IfOk result (λ found. IsFound found (λ packet. length (take packet.length room.new) ≡ packet.length)) }
         ensures fault { IfErr result (λ e. (part : List ℕ) × Consumes (S.left source.old) (S.left source.new) part × ShowsRecordFault self.old e part) }
         ensures same { OnErr result (self.new ≡ self.old) }
@@ -482,6 +483,7 @@ impl Capture {
             × IsBlock self.old octets self.new [])) }
         ensures end { IfOk result (λ found. IfEnd found (Consumes (S.left source.old) (S.left source.new) [] × IsAtEnd (S.left source.new) × (self.new ≡ self.old))) }
         ensures onwards { IfOk result (λ found. IfOnwards found (self.old.octet < self.new.octet)) }
+        ensures far { self.new.octet ≤ octet_limit + 2 ^ 33 }
         ensures whole { IfOk result (λ found. IsFound found (λ packet. length (take packet.length room.new) ≡ packet.length)) }
         ensures fault { IfErr result (λ e. (part : List ℕ) × Consumes (S.left source.old) (S.left source.new) part × ShowsBlockFault self.old e part) }
         ensures same { OnErr result (self.new ≡ self.old) }
@@ -521,6 +523,7 @@ impl Capture {
             × IsPiece self.old octets self.new [])) }
         ensures end { IfOk result (λ found. IfEnd found (Consumes (S.left source.old) (S.left source.new) [] × IsAtEnd (S.left source.new) × (self.new ≡ self.old))) }
         ensures onwards { IfOk result (λ found. IfOnwards found (self.old.octet < self.new.octet)) }
+        ensures far { self.new.octet ≤ octet_limit + 2 ^ 33 }
         ensures whole { IfOk result (λ found. IsFound found (λ packet. length (take packet.length room.new) ≡ packet.length)) }
         ensures fault { IfErr result (λ e. (part : List ℕ) × Consumes (S.left source.old) (S.left source.new) part × ShowsFault self.old e part) }
         ensures same { OnErr result (self.new ≡ self.old) }
