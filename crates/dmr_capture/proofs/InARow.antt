@@ -41,3 +41,14 @@ read_more old mid new octets piece packets found read next =
       held = rw read.held (sym (packets_more read.pieces last));
       behind = sym (state_more old read.pieces last);
     }
+
+-- a piece in front
+pub read_first : (old mid new : CaptureState) (piece octets : List ℕ) (found packets : List CapturedPacket)
+    → IsPiece old piece mid found → AreRead mid octets new packets → AreRead old (piece ++ octets) new (found ++ packets)
+read_first old mid new piece octets found packets is read = record {
+  pieces = record { octets = piece; state = mid; found = found } ∷ read.pieces;
+  each = (is, read.each);
+  spelled = ap (λ l. piece ++ l) read.spelled;
+  held = ap (λ l. found ++ l) read.held;
+  behind = read.behind;
+}

@@ -4,3 +4,4 @@ pub mod Fronts
 pub mod InARow
 pub mod Records
 pub mod Rests
+pub mod WrittenReading
