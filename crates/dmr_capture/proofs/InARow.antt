@@ -1,6 +1,7 @@
 -- Pieces in a row.
 use Rattle.std.proofs.Common.{◌≡◌, ℕ, List, [], ◌∷◌, ◌++◌, refl, sym, ap, ◌∙◌, append-nil, append_assoc}
 use Rattle.std.specs.List.{flat_map}
+use Rattle.std.proofs.lemmas.List.Concat.{flat_map-append}
 use Rattle.dmr_capture.specs.Reading.{AreRead, ArePieces, IsPiece, Piece, state_behind}
 use Rattle.dmr_capture.specs.State.{CaptureState, CapturedPacket}
 
@@ -51,4 +52,25 @@ read_first old mid new piece octets found packets is read = record {
   spelled = ap (λ l. piece ++ l) read.spelled;
   held = ap (λ l. found ++ l) read.held;
   behind = read.behind;
+}
+
+pieces_on : (old : CaptureState) (pieces more : List Piece) → ArePieces old pieces → ArePieces (state_behind old pieces) more
+    → ArePieces old (pieces ++ more)
+pieces_on old [] more each next = next
+pieces_on old (first ∷ pieces) more (is, each) next = (is, pieces_on first.state pieces more each next)
+
+state_on : (old : CaptureState) (pieces more : List Piece)
+    → state_behind old (pieces ++ more) ≡ state_behind (state_behind old pieces) more
+state_on old [] more = refl
+state_on old (first ∷ pieces) more = state_on first.state pieces more
+
+-- pieces behind pieces
+pub read_on : (old mid new : CaptureState) (octets more : List ℕ) (packets found : List CapturedPacket)
+    → AreRead old octets mid packets → AreRead mid more new found → AreRead old (octets ++ more) new (packets ++ found)
+read_on old mid new octets more packets found read next = record {
+  pieces = read.pieces ++ next.pieces;
+  each = pieces_on old read.pieces next.pieces read.each (rw (sym read.behind) next.each);
+  spelled = rw (read.spelled, next.spelled) (sym (flat_map-append (λ p. p.octets) read.pieces next.pieces));
+  held = rw (read.held, next.held) (sym (flat_map-append (λ p. p.found) read.pieces next.pieces));
+  behind = next.behind ∙ ap (λ s. state_behind s next.pieces) read.behind ∙ sym (state_on old read.pieces next.pieces);
 }

@@ -1,5 +1,5 @@
 //! What stands in front of the datagram of a packet.
-ghost use Rattle.std.specs.Prelude.{◌≡◌, ◌≢◌, ◌≤◌, Some, None, IfSome, IfNone, length, true};
+ghost use Rattle.std.specs.Prelude.{◌≡◌, ◌≢◌, ◌^◌, ◌<◌, ◌≤◌, Some, None, IfSome, IfNone, length, true};
 ghost use Rattle.dmr_capture.specs.Links.{begins_with_tag, behind_link, behind_tags, behind_type, carried, ipv4_of, link_number};
 
 use byteorder::{BigEndian, ByteOrder};
@@ -91,6 +91,8 @@ fn behind_link(link: Link, octets: &[u8]) -> Option<&[u8]>
 /// The IPv4 packet at the front of these octets, by its total length.
 fn ipv4(octets: &[u8]) -> Option<&[u8]>
     ensures some { IfSome result (λ packet. ipv4_of octets.now ≡ Some packet.now) }
+    ensures head { IfSome result (λ packet. 20 ≤ length packet.now) }
+    ensures short { IfSome result (λ packet. length packet.now < 2 ^ 16) }
     ensures none { IfNone result (ipv4_of octets.now ≡ None) }
 {
     if octets.len() < 20 || octets[0] / 16 != 4 {
@@ -109,6 +111,8 @@ fn ipv4(octets: &[u8]) -> Option<&[u8]>
 /// IPv4 is RFC 791.
 pub fn ipv4_in(link: Link, octets: &[u8]) -> Option<&[u8]>
     ensures some { IfSome result (λ packet. carried link octets.now ≡ Some packet.now) }
+    ensures head { IfSome result (λ packet. 20 ≤ length packet.now) }
+    ensures short { IfSome result (λ packet. length packet.now < 2 ^ 16) }
     ensures none { IfNone result (carried link octets.now ≡ None) }
 {
     ipv4(behind_link(link, octets)?)

@@ -1,0 +1,1 @@
+//! Laws of captures of datagrams, as the contracts of functions that do nothing.
