@@ -20,7 +20,7 @@ pub record AreReceipts (receipts : List Receipt) : Type 0 where
 
 -- These records of a list were read, head and all, and their capture was written. It can be read.
 pub record AreExported (settings : ExportSettings) (receipts : List Receipt) (left left' held held' : Option (List ℕ)) : Type 0 where
-  pub receipts : AreReceipts receipts
+  pub are : AreReceipts receipts
   pub read : Consumes left left' (received_file receipts)
   pub fit : AllByRecursion IsWritable (exported settings receipts)
   pub written : Appends held held' (written_capture (exported settings receipts))

@@ -62,20 +62,20 @@ fn export_list<S: Source, K: Sink>(
     let mut last = None;
     let mut octet = HEAD_OCTETS;
     loop {
-        let record = match read_received(source, records, last, room) {
-            Ok(Some(record)) => record,
+        let received = match read_received(source, records, last, room) {
+            Ok(Some(received)) => received,
             Ok(None) => return Ok(ExportedDatagrams { records, written }),
             Err(fault) => return Err(fault_at(fault, octet)),
         };
-        let octets = &room[..usize::from(record.length)];
-        match export_record(settings, record, octets, sink) {
+        let octets = &room[..usize::from(received.length)];
+        match export_record(settings, received, octets, sink) {
             Ok(count) => written += count,
             Err(Unwritten::Late) => return Err(fault_at(RecordFault::TooLong, octet)),
             Err(Unwritten::Torn) => return Err(Stop::Output),
         }
         records += 1;
-        last = Some(record);
-        octet += FIELD_OCTETS + u64::from(record.length);
+        last = Some(received);
+        octet += FIELD_OCTETS + u64::from(received.length);
     }
 }
 

@@ -1,8 +1,10 @@
 //! Which packets of a capture become records of an outgoing list, and in which frames.
-ghost use Rattle.std.specs.Prelude.{◌≡◌, ◌≤◌, ◌<◌, ◌^◌, true, false, Some, None, length, IfSome, IfNone, IfOk, IfErr, OnOk};
+ghost use Rattle.std.specs.Prelude.{◌≡◌, ◌≤◌, ◌<◌, ◌+◌, ◌^◌, true, false, Some, None, length, IfSome, IfNone, IfOk, IfErr, OnOk};
+ghost use Rattle.std.specs.List.{AllByRecursion};
 ghost use Rattle.std.specs.Io.KnownBytes.{Appends};
 ghost use Rattle.dmr_record.specs.Devices.{Tears};
-ghost use Rattle.dmr_record.specs.Outgoing.{sendings_octets};
+ghost use Rattle.dmr_record.specs.Head.{record_limit};
+ghost use Rattle.dmr_record.specs.Outgoing.{IsSending, sendings_octets};
 ghost use Rattle.dmr_record.specs.Received.{IsSlot};
 ghost use Rattle.dmr_capture.specs.State.{packet_with};
 ghost use Rattle.dmr_datagrams.specs.Sendings.{IsPast, asked_frame, frame_of, progress_of, sendings_of, to_radios};
@@ -99,6 +101,9 @@ impl Progress {
         ensures progress { IfOk result (λ new. new ≡ progress_of settings self (packet_with packet octets.now)) }
         ensures records { OnOk result (Appends (K.held sink.old) (K.held sink.new)
             (sendings_octets (sendings_of settings self (packet_with packet octets.now)))) }
+        ensures fit { OnOk result (AllByRecursion IsSending (sendings_of settings self (packet_with packet octets.now))) }
+        ensures few { IfOk result (λ new. self.records ≤ record_limit → new.records ≤ record_limit) }
+        ensures one { IfOk result (λ new. new.records ≤ self.records + 1) }
         ensures well { OnOk result (K.has_failed sink.new ≡ false) }
         ensures past { IfErr result (λ e. IfPast e (IsPast settings self (packet_with packet octets.now))) }
         ensures kept { IfErr result (λ e. IfPast e (sink.new ≡ sink.old)) }

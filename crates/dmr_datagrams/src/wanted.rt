@@ -39,14 +39,14 @@ pub(crate) enum Unwritten {
 }
 
 /// Whether a record is written: a datagram, in a slot that is wanted.
-fn is_wanted(settings: ExportSettings, record: Received) -> bool
-    ensures value { result ≡ is_wanted settings record.kind record.slot }
+fn is_wanted(settings: ExportSettings, received: Received) -> bool
+    ensures value { result ≡ is_wanted settings received.kind received.slot }
 {
     let is_of_slot = match settings.slot {
-        Some(slot) => slot == record.slot,
+        Some(slot) => slot == received.slot,
         None => true,
     };
-    matches!(record.kind, ReceivedKind::Datagram) && is_of_slot
+    matches!(received.kind, ReceivedKind::Datagram) && is_of_slot
 }
 
 /// When a record came, in microseconds, where a capture can say it.
@@ -66,27 +66,27 @@ fn time_of(start: u64, frame: u32, slot: u8) -> Option<u64>
 /// Writes a record of a received list to a capture, where it is wanted, and answers how many packets that are.
 pub(crate) fn export_record<K: Sink>(
     settings: ExportSettings,
-    record: Received,
+    received: Received,
     octets: &[u8],
     sink: &mut K,
 ) -> Result<u32, Unwritten>
     requires well { K.has_failed sink.old ≡ false }
     requires short { length octets.now < 2 ^ 16 }
     ensures packets { OnOk result (Appends (K.held sink.old) (K.held sink.new)
-        (flat_map packet_record (packets_of settings (receipt_of record octets.now)))) }
-    ensures count { IfOk result (λ n. n ≡ length (packets_of settings (receipt_of record octets.now))) }
-    ensures fit { OnOk result (AllByRecursion IsWritable (packets_of settings (receipt_of record octets.now))) }
+        (flat_map packet_record (packets_of settings (receipt_of received octets.now)))) }
+    ensures count { IfOk result (λ n. n ≡ length (packets_of settings (receipt_of received octets.now))) }
+    ensures fit { OnOk result (AllByRecursion IsWritable (packets_of settings (receipt_of received octets.now))) }
     ensures well { OnOk result (K.has_failed sink.new ≡ false) }
-    ensures late { IfErr result (λ e. IfLate e (IsLate settings (receipt_of record octets.now))) }
+    ensures late { IfErr result (λ e. IfLate e (IsLate settings (receipt_of received octets.now))) }
     ensures kept { IfErr result (λ e. IfLate e (sink.new ≡ sink.old)) }
     ensures torn { IfErr result (λ e. IfTorn e (Tears (K.held sink.old) (K.held sink.new)
-        (flat_map packet_record (packets_of settings (receipt_of record octets.now))))) }
+        (flat_map packet_record (packets_of settings (receipt_of received octets.now))))) }
     ensures failed { IfErr result (λ e. IfTorn e (K.has_failed sink.new ≡ true)) }
 {
-    if !is_wanted(settings, record) {
+    if !is_wanted(settings, received) {
         return Ok(0);
     }
-    let Some(time) = time_of(settings.start, record.frame, record.slot) else {
+    let Some(time) = time_of(settings.start, received.frame, received.slot) else {
         return Err(Unwritten::Late);
     };
     match write_packet(sink, time, octets) {
