@@ -6,14 +6,12 @@
 //!
 //! Contracts say which packets a list has and when they came (`specs/Packets.antt`), and which records a capture has and in which
 //! frames (`specs/Sendings.antt`). `specs/Exports.antt` and `specs/Imports.antt` say what was read and written, also up to a fault.
-//! They cite the lists of dmr_record and the captures of dmr_capture. `laws` says that an exported capture is read as the datagrams
-//! that were written, and that an imported list is one that can be read.
+//! They cite the lists of dmr_record and the captures of dmr_capture.
 #![tactic(auto)]
 
 mod ends;
 mod export;
 mod import;
-pub mod laws;
 mod progress;
 mod wanted;
 

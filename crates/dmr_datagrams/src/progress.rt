@@ -109,6 +109,10 @@ impl Progress {
         ensures kept { IfErr result (λ e. IfPast e (sink.new ≡ sink.old)) }
         ensures torn { IfErr result (λ e. IfTorn e (Tears (K.held sink.old) (K.held sink.new)
             (sendings_octets (sendings_of settings self (packet_with packet octets.now))))) }
+        ensures whole { IfErr result (λ e. IfTorn e
+            (AllByRecursion IsSending (sendings_of settings self (packet_with packet octets.now)))) }
+        ensures room { IfErr result (λ e. IfTorn e
+            ((progress_of settings self (packet_with packet octets.now)).records ≤ record_limit)) }
         ensures failed { IfErr result (λ e. IfTorn e (K.has_failed sink.new ≡ true)) }
     {
         let Some(datagram) = to_radios(packet.link, octets) else {
