@@ -1,13 +1,13 @@
 -- Blocks of a pcapng, and their faults.
 use Rattle.std.proofs.Common.{◌≡◌, ◌≢◌, ◌≤◌, ◌<◌, ◌+◌, ℕ, List, [], ◌∷◌, ◌++◌, length, take, refl, inl, inr, arith}
 use Rattle.std.proofs.lemmas.List.{length-append}
-use Rattle.dmr_capture.specs.Blocks.{IsBehindBlock, IsBlock, IsBlockHead, IsBlockHeadOf, IsBlockRest, IsPartOfBlock}
-use Rattle.dmr_capture.specs.Blocks.{ShowsBlockFault, ShowsHeadFault, packets_of, section_type}
+use Rattle.dmr_capture.specs.Blocks.{IsBehindBlock, IsCaptureBlock, IsBlockHead, IsBlockHeadOf, IsBlockRest, IsPartOfBlock}
+use Rattle.dmr_capture.specs.Blocks.{ShowsFaultInBlock, ShowsBlockHeadFault, packets_in, section_type}
 use Rattle.dmr_capture.specs.CutFaults.{cut_block_fault}
 use Rattle.dmr_capture.specs.Found.{IfPassed, IsFound, found_packets}
 use Rattle.dmr_capture.specs.Reading.{ShowsBeginFault}
 use Rattle.dmr_capture.specs.Rests.{ShowsRestFault}
-use Rattle.dmr_capture.specs.State.{CaptureState, CapturedPacket, fresh_pcapng, packet_with}
+use Rattle.dmr_capture.specs.State.{CaptureState, CapturedPacket, fresh_pcapng, captured_packet}
 use Rattle.dmr_capture.specs.declared.block.Block.{Block}
 use Rattle.dmr_capture.specs.declared.block.Block.TheVariants.{NewSection, NewInterface, Captured, Passed}
 use Rattle.dmr_capture.specs.declared.block.BlockHead.{BlockHead}
@@ -21,12 +21,12 @@ use Rattle.dmr_capture.proofs.Fronts.{some_octets}
 
 -- less than a block shows that it is cut, or could not be read
 pub cut_front : (state : CaptureState) (cut : Cut) (part : List ℕ) → part ≢ [] → IsPartOfBlock state part
-    → ShowsBlockFault state (cut_block_fault cut state.octet) part
+    → ShowsFaultInBlock state (cut_block_fault cut state.octet) part
 cut_front state End part some less = (refl, some, less)
 cut_front state Device part some less = (refl, less)
 
 -- what the first octets show is a fault of their block
-pub head_fault : (state : CaptureState) (e : CaptureFault) (head : List ℕ) → ShowsHeadFault state e head → ShowsBlockFault state e head
+pub head_fault : (state : CaptureState) (e : CaptureFault) (head : List ℕ) → ShowsBlockHeadFault state e head → ShowsFaultInBlock state e head
 head_fault state (fault.BadBlock octet) head (same, bad) = (same, inl bad)
 head_fault state (fault.ManyInterfaces octet) head shown = shown
 head_fault state (fault.TooLong octet) head shown = shown
@@ -47,7 +47,7 @@ head_long Passed state head b (says, same, none) = omega (arith, says.whole)
 
 -- what the rest of a block shows is a fault of it
 pub rest_fault : (state : CaptureState) (e : CaptureFault) (head rest : List ℕ) (b : BlockHead) → IsBlockHead state head b
-    → ShowsRestFault state.octet b e rest → ShowsBlockFault state e (head ++ rest)
+    → ShowsRestFault state.octet b e rest → ShowsFaultInBlock state e (head ++ rest)
 rest_fault state (fault.CutBlock octet) head rest b begins (same, less) =
     let long = head_long b.block state head b begins.0 in (
       same,
@@ -84,7 +84,7 @@ rest_fault state (fault.CutPacket octet) head rest b begins shown = absurd shown
 -- a block, by its head and its rest
 pub is_block : (old new : CaptureState) (head rest kept : List ℕ) (b : BlockHead) (found : List CapturedPacket)
     → IsBlockHead old head b → IsBlockRest b kept rest → IsBehindBlock b.block old b kept new
-    → found ≡ packets_of b.block old.octet kept → IsBlock old (head ++ rest) new found
+    → found ≡ packets_in b.block old.octet kept → IsCaptureBlock old (head ++ rest) new found
 is_block old new head rest kept b found begins ends behind held = record {
   head = head;
   rest = rest;
@@ -100,7 +100,7 @@ is_block old new head rest kept b found begins ends behind held = record {
 -- what holds of a block with the packets that it was found to hold, holds of its packet
 pub as_packet : (what : Found) (room : List ℕ) (kept : ℕ) (Holds : List CapturedPacket → Type 0)
     → IsFound what (λ packet. packet.length ≡ kept) → Holds (found_packets what (take kept room))
-    → IsFound what (λ packet. Holds (packet_with packet (take packet.length room) ∷ []))
+    → IsFound what (λ packet. Holds (captured_packet packet (take packet.length room) ∷ []))
 as_packet (found.Captured packet) room kept Holds same holds = rw same holds
 as_packet found.Passed room kept Holds same holds = tt
 as_packet found.End room kept Holds same holds = tt
@@ -114,18 +114,18 @@ as_passed found.End kept Holds holds = tt
 
 -- a section holds no packet
 section_alone : (block : Block) (state : CaptureState) (head : List ℕ) (b : BlockHead) (octet : ℕ) (kept : List ℕ)
-    → IsBlockHeadOf block state head b → take 4 head ≡ section_type → packets_of block octet kept ≡ []
+    → IsBlockHeadOf block state head b → take 4 head ≡ section_type → packets_in block octet kept ≡ []
 section_alone NewSection state head b octet kept says section = refl
 section_alone (NewInterface link) state head b octet kept says section = refl
 section_alone (Captured link time) state head b octet kept says section = absurd (says.0.begins.begins.typed.other section)
 section_alone Passed state head b octet kept says section = refl
 
 pub section_holds_none : (state : CaptureState) (head : List ℕ) (b : BlockHead) (octet : ℕ) (kept : List ℕ)
-    → IsBlockHead state head b → take 4 head ≡ section_type → packets_of b.block octet kept ≡ []
+    → IsBlockHead state head b → take 4 head ≡ section_type → packets_in b.block octet kept ≡ []
 section_holds_none state head b octet kept begins section = section_alone b.block state head b octet kept begins.0 section
 
 -- what the first section shows is a fault of the begin of a capture
-pub section_fault : (e : CaptureFault) (part : List ℕ) → take 4 part ≡ section_type → ShowsBlockFault fresh_pcapng e part
+pub section_fault : (e : CaptureFault) (part : List ℕ) → take 4 part ≡ section_type → ShowsFaultInBlock fresh_pcapng e part
     → ShowsBeginFault e part
 section_fault (fault.LinkType number) part section shown = inr (record { section = section; shown = shown })
 section_fault (fault.Read octet) part section shown = inr (record { section = section; shown = shown })

@@ -2,29 +2,29 @@
 use Rattle.std.proofs.Common.{◌≡◌, ℕ, List, [], ◌∷◌, ◌++◌, refl, sym, ap, ◌∙◌, append-nil, append_assoc}
 use Rattle.std.specs.List.{flat_map}
 use Rattle.std.proofs.lemmas.List.Concat.{flat_map-append}
-use Rattle.dmr_capture.specs.Reading.{AreRead, ArePieces, IsPiece, Piece, state_behind}
+use Rattle.dmr_capture.specs.Reading.{AreRead, ArePieces, IsPiece, CapturePiece, state_behind}
 use Rattle.dmr_capture.specs.State.{CaptureState, CapturedPacket}
 
 -- no piece at all
 pub read_none : (state : CaptureState) → AreRead state [] state []
 read_none state = record { pieces = []; each = tt; spelled = refl; held = refl; behind = refl }
 
-pieces_more : (old : CaptureState) (pieces : List Piece) (piece : Piece) → ArePieces old pieces
+pieces_more : (old : CaptureState) (pieces : List CapturePiece) (piece : CapturePiece) → ArePieces old pieces
     → IsPiece (state_behind old pieces) piece.octets piece.state piece.found → ArePieces old (pieces ++ piece ∷ [])
 pieces_more old [] piece each next = (next, tt)
 pieces_more old (first ∷ pieces) piece (is, each) next = (is, pieces_more first.state pieces piece each next)
 
-state_more : (old : CaptureState) (pieces : List Piece) (piece : Piece) → state_behind old (pieces ++ piece ∷ []) ≡ piece.state
+state_more : (old : CaptureState) (pieces : List CapturePiece) (piece : CapturePiece) → state_behind old (pieces ++ piece ∷ []) ≡ piece.state
 state_more old [] piece = refl
 state_more old (first ∷ pieces) piece = state_more first.state pieces piece
 
-octets_more : (pieces : List Piece) (piece : Piece)
+octets_more : (pieces : List CapturePiece) (piece : CapturePiece)
     → flat_map (λ p. p.octets) (pieces ++ piece ∷ []) ≡ flat_map (λ p. p.octets) pieces ++ piece.octets
 octets_more [] piece = append-nil piece.octets
 octets_more (first ∷ pieces) piece =
     ap (λ l. first.octets ++ l) (octets_more pieces piece) ∙ sym (append_assoc first.octets (flat_map (λ p. p.octets) pieces) piece.octets)
 
-packets_more : (pieces : List Piece) (piece : Piece)
+packets_more : (pieces : List CapturePiece) (piece : CapturePiece)
     → flat_map (λ p. p.found) (pieces ++ piece ∷ []) ≡ flat_map (λ p. p.found) pieces ++ piece.found
 packets_more [] piece = append-nil piece.found
 packets_more (first ∷ pieces) piece =
@@ -34,7 +34,7 @@ packets_more (first ∷ pieces) piece =
 pub read_more : (old mid new : CaptureState) (octets piece : List ℕ) (packets found : List CapturedPacket)
     → AreRead old octets mid packets → IsPiece mid piece new found → AreRead old (octets ++ piece) new (packets ++ found)
 read_more old mid new octets piece packets found read next =
-    let last : Piece = record { octets = piece; state = new; found = found } in
+    let last : CapturePiece = record { octets = piece; state = new; found = found } in
     record {
       pieces = read.pieces ++ last ∷ [];
       each = pieces_more old read.pieces last read.each (rw (sym read.behind) next);
@@ -54,12 +54,12 @@ read_first old mid new piece octets found packets is read = record {
   behind = read.behind;
 }
 
-pieces_on : (old : CaptureState) (pieces more : List Piece) → ArePieces old pieces → ArePieces (state_behind old pieces) more
+pieces_on : (old : CaptureState) (pieces more : List CapturePiece) → ArePieces old pieces → ArePieces (state_behind old pieces) more
     → ArePieces old (pieces ++ more)
 pieces_on old [] more each next = next
 pieces_on old (first ∷ pieces) more (is, each) next = (is, pieces_on first.state pieces more each next)
 
-state_on : (old : CaptureState) (pieces more : List Piece)
+state_on : (old : CaptureState) (pieces more : List CapturePiece)
     → state_behind old (pieces ++ more) ≡ state_behind (state_behind old pieces) more
 state_on old [] more = refl
 state_on old (first ∷ pieces) more = state_on first.state pieces more

@@ -5,7 +5,7 @@ use Rattle.std.specs.Io.KnownBytes.{Consumes}
 use Rattle.std.proofs.KnownBytes.{Consumes-trans}
 use Rattle.dmr_capture.specs.Blocks.{IsBadRest, IsBlockRest}
 use Rattle.dmr_capture.specs.CutFaults.{cut_block_fault}
-use Rattle.dmr_capture.specs.Orders.{number_at}
+use Rattle.dmr_capture.specs.Orders.{ordered_number}
 use Rattle.dmr_capture.specs.Rests.{ShowsRestFault}
 use Rattle.dmr_capture.specs.declared.block.BlockHead.{BlockHead}
 use Rattle.dmr_capture.specs.declared.transfer.Cut.{Cut}
@@ -24,7 +24,7 @@ cut_rest Device octet b rest less = (refl, less)
 -- the rest of a block, by its parts
 pub whole_rest : (b : BlockHead) (kept passed last buffer : List ℕ) → length kept ≡ b.kept
     → length passed ≡ b.len - b.head - b.kept - 4 → b.head + b.kept + 4 ≤ b.len → 4 ≡ length last → length buffer ≡ 4
-    → take 4 buffer ≡ last → number_at b.order 4 0 buffer ≡ b.len → IsBlockRest b kept (kept ++ passed ++ last)
+    → take 4 buffer ≡ last → ordered_number b.order 4 0 buffer ≡ b.len → IsBlockRest b kept (kept ++ passed ++ last)
 whole_rest b kept passed last buffer keeps passes fits four room filled again = record {
   passed = passed;
   last = last;
@@ -32,18 +32,18 @@ whole_rest b kept passed last buffer keeps passes fits four room filled again = 
   count = keeps;
   all = omega (arith, length-append (kept ++ passed) last, length-append kept passed);
   four = sym four;
-  again = subst (λ l. number_at b.order 4 0 l ≡ b.len) (filled_whole 4 buffer last room filled) again;
+  again = subst (λ l. ordered_number b.order 4 0 l ≡ b.len) (filled_whole 4 buffer last room filled) again;
 }
 
 -- its last four octets say another length
 pub bad_rest : (b : BlockHead) (kept passed last buffer : List ℕ) → length kept ≡ b.kept
     → length passed ≡ b.len - b.head - b.kept - 4 → b.head + b.kept + 4 ≤ b.len → 4 ≡ length last → length buffer ≡ 4
-    → take 4 buffer ≡ last → number_at b.order 4 0 buffer ≢ b.len → IsBadRest b (kept ++ passed ++ last)
+    → take 4 buffer ≡ last → ordered_number b.order 4 0 buffer ≢ b.len → IsBadRest b (kept ++ passed ++ last)
 bad_rest b kept passed last buffer keeps passes fits four room filled other = record {
   front = kept ++ passed;
   last = last;
   parts = refl;
   all = omega (arith, length-append (kept ++ passed) last, length-append kept passed);
   four = sym four;
-  other = subst (λ l. number_at b.order 4 0 l ≢ b.len) (filled_whole 4 buffer last room filled) other;
+  other = subst (λ l. ordered_number b.order 4 0 l ≢ b.len) (filled_whole 4 buffer last room filled) other;
 }

@@ -4,8 +4,8 @@ use Rattle.std.proofs.lemmas.List.{length-append}
 use Rattle.std.specs.List.{AllByRecursion, flat_map}
 use Rattle.byteorder.specs.Endian.{little_bytes}
 use Rattle.byteorder.specs.Numbers.{little_number-reads_back}
-use Rattle.dmr_capture.specs.Orders.{number_at}
-use Rattle.dmr_capture.specs.Reading.{AreRead, BeginsPcap, IsCapture, IsPiece, Piece}
+use Rattle.dmr_capture.specs.Orders.{ordered_number}
+use Rattle.dmr_capture.specs.Reading.{AreRead, BeginsPcap, IsCapture, IsPiece, CapturePiece}
 use Rattle.dmr_capture.specs.Records.{IsPcapHead, IsRecord, IsRecordHead, behind_pcap_head, record_time}
 use Rattle.dmr_capture.specs.State.{CaptureState, CapturedPacket, octet_limit}
 use Rattle.dmr_capture.specs.Times.{pcap_time}
@@ -25,10 +25,10 @@ read_time : (time count : ℕ) → time < 2 ^ 32 * 1000000
     → record_time Micro Little (written_record_head (time / 1000000) (time % 1000000) count) ≡ time * 1000
 read_time time count fits =
     let head = written_record_head (time / 1000000) (time % 1000000) count in
-    let second : number_at Little 4 0 head ≡ time / 1000000 =
+    let second : ordered_number Little 4 0 head ≡ time / 1000000 =
         little_number-reads_back 4 (time / 1000000)
         (little_bytes 4 (time % 1000000) ++ little_bytes 4 count ++ little_bytes 4 count) (omega arith) in
-    let part : number_at Little 4 4 head ≡ time % 1000000 =
+    let part : ordered_number Little 4 4 head ≡ time % 1000000 =
         little_number-reads_back 4 (time % 1000000) (little_bytes 4 count ++ little_bytes 4 count) (omega arith) in
     omega (arith, second, part)
 

@@ -4,6 +4,6 @@ use Rattle.dmr_capture.specs.declared.transfer.Cut.{Cut}
 use Rattle.dmr_capture.specs.declared.transfer.Cut.TheVariants.{End, Device}
 
 -- whether the source failed
-abbrev pub is_device : Cut → Bool
-is_device End = false
-is_device Device = true
+abbrev pub is_device_cut : Cut → Bool
+is_device_cut End = false
+is_device_cut Device = true

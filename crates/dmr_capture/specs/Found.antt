@@ -1,6 +1,6 @@
 -- What one piece of a capture turned out to be.
 use Rattle.std.specs.Prelude.{◌≡◌, ℕ, ◌<◌, List, [], ◌∷◌}
-use Rattle.dmr_capture.specs.State.{CapturedPacket, interface_limit, packet_with}
+use Rattle.dmr_capture.specs.State.{CapturedPacket, interface_limit, captured_packet}
 use Rattle.dmr_capture.specs.declared.block.Block.{Block}
 use Rattle.dmr_capture.specs.declared.block.Block.TheVariants.{NewInterface}
 use Rattle.dmr_capture.specs.declared.capture.Found.{Found}
@@ -31,7 +31,7 @@ IfOnwards _ holds = holds
 
 -- the packets that it holds, with these octets
 abbrev pub found_packets : Found → List ℕ → List CapturedPacket
-found_packets (what.Captured packet) octets = packet_with packet octets ∷ []
+found_packets (what.Captured packet) octets = captured_packet packet octets ∷ []
 found_packets _ octets = []
 
 -- A section has room for one more interface, where a block describes one.

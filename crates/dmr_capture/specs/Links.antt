@@ -49,22 +49,22 @@ behind_link LinuxCooked2 octets =
     if nat_le 20 (length octets) && (slice_index octets 0 == 8) && (slice_index octets 1 == 0) then Some (drop 20 octets) else None
 
 -- the total length that an IPv4 packet says
-abbrev pub total_length : List ℕ → ℕ
-total_length octets = big_number 2 (drop 2 octets)
+abbrev pub ipv4_length : List ℕ → ℕ
+ipv4_length octets = big_number 2 (drop 2 octets)
 
 -- whether an IPv4 packet stands at the front of octets, whole: its version is 4, and its total length is at least 20 and is there
 abbrev pub is_ipv4 : List ℕ → Bool
-is_ipv4 octets = nat_le 20 (length octets) && (slice_index octets 0 / 16 == 4) && nat_le 20 (total_length octets)
-    && nat_le (total_length octets) (length octets)
+is_ipv4 octets = nat_le 20 (length octets) && (slice_index octets 0 / 16 == 4) && nat_le 20 (ipv4_length octets)
+    && nat_le (ipv4_length octets) (length octets)
 
 -- the IPv4 packet at the front of octets, by its total length
 abbrev pub ipv4_of : List ℕ → Option (List ℕ)
-ipv4_of octets = if is_ipv4 octets then Some (take (total_length octets) octets) else None
+ipv4_of octets = if is_ipv4 octets then Some (take (ipv4_length octets) octets) else None
 
 abbrev pub ipv4_of_found : Option (List ℕ) → Option (List ℕ)
 ipv4_of_found None = None
 ipv4_of_found (Some octets) = ipv4_of octets
 
 -- the IPv4 packet that a packet of this link carries
-abbrev pub carried : Link → List ℕ → Option (List ℕ)
-carried link octets = ipv4_of_found (behind_link link octets)
+abbrev pub ipv4_carried : Link → List ℕ → Option (List ℕ)
+ipv4_carried link octets = ipv4_of_found (behind_link link octets)

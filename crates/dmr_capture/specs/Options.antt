@@ -1,13 +1,13 @@
 -- The options that describe an interface.
 use Rattle.std.specs.Prelude.{◌≡◌, ◌≢◌, ℕ, ◌+◌, ◌*◌, ◌/◌, ◌<◌, ◌≤◌, ◌⊎◌, List, length, drop, slice_index}
 use Rattle.dmr_capture.specs.declared.order.Order.{Order}
-use Rattle.dmr_capture.specs.Orders.{number_at}
+use Rattle.dmr_capture.specs.Orders.{ordered_number}
 
 -- The first option of these has this number and this length.
 pub record BeginsWithOption (order : Order) (options : List ℕ) (code len : ℕ) : Type 0 where
   pub there : 4 ≤ length options
-  pub numbered : code ≡ number_at order 2 0 options
-  pub long : len ≡ number_at order 2 2 options
+  pub numbered : code ≡ ordered_number order 2 0 options
+  pub long : len ≡ ordered_number order 2 2 options
 
 -- how many octets an option has: four, and then its value, which is filled up to four octets
 abbrev pub option_length : ℕ → ℕ

@@ -10,5 +10,5 @@ number Big n octets = big_number n octets
 number Little n octets = little_number n octets
 
 -- the number of n octets from this place on
-abbrev pub number_at : Order → ℕ → ℕ → List ℕ → ℕ
-number_at order n at octets = number order n (drop at octets)
+abbrev pub ordered_number : Order → ℕ → ℕ → List ℕ → ℕ
+ordered_number order n at octets = number order n (drop at octets)

@@ -1,9 +1,9 @@
 -- The pieces of a capture, one after the other.
 use Rattle.std.specs.Prelude.{◌≡◌, ◌≢◌, ℕ, ◌<◌, ◌≤◌, ◌⊎◌, Bool, true, false, List, [], ◌∷◌, ◌++◌, length, take}
 use Rattle.std.specs.List.{flat_map}
-use Rattle.dmr_capture.specs.Blocks.{IsBlock, ShowsBlockFault, section_type}
+use Rattle.dmr_capture.specs.Blocks.{IsCaptureBlock, ShowsFaultInBlock, section_type}
 use Rattle.dmr_capture.specs.Links.{link_number}
-use Rattle.dmr_capture.specs.Orders.{number_at}
+use Rattle.dmr_capture.specs.Orders.{ordered_number}
 use Rattle.dmr_capture.specs.Records.{HasPcapMagic, IsLongRecord, IsPartOfRecord, IsPcapHead, IsRecord, IsVersion24}
 use Rattle.dmr_capture.specs.Records.{behind_pcap_head}
 use Rattle.dmr_capture.specs.State.{CaptureState, CapturedPacket, fresh_pcapng, octet_limit}
@@ -19,7 +19,7 @@ use Rattle.dmr_capture.specs.declared.pcap.Fraction.{Fraction}
 -- These octets are a piece of a capture: a record or a block. They lead from one state to the other, and hold these packets.
 abbrev pub IsPieceOf : Format → CaptureState → List ℕ → CaptureState → List CapturedPacket → Type 0
 IsPieceOf (Pcap link fraction) old octets new found = IsRecord link fraction old octets new found
-IsPieceOf Pcapng old octets new found = IsBlock old octets new found
+IsPieceOf Pcapng old octets new found = IsCaptureBlock old octets new found
 
 -- a piece that begins where a piece may begin
 pub record IsPiece (old : CaptureState) (octets : List ℕ) (new : CaptureState) (found : List CapturedPacket) : Type 0 where
@@ -27,40 +27,40 @@ pub record IsPiece (old : CaptureState) (octets : List ℕ) (new : CaptureState)
   pub piece : IsPieceOf old.format old octets new found
 
 -- A piece that was read: its octets, the state behind it, and its packets.
-pub record Piece : Type 0 where
+pub record CapturePiece : Type 0 where
   pub octets : List ℕ
   pub state : CaptureState
   pub found : List CapturedPacket
 
 -- Each of these is a piece behind those before it.
-abbrev pub ArePieces : CaptureState → List Piece → Type 0
+abbrev pub ArePieces : CaptureState → List CapturePiece → Type 0
 ArePieces old [] = Unit {0}
 ArePieces old (piece ∷ pieces) = IsPiece old piece.octets piece.state piece.found × ArePieces piece.state pieces
 
 -- the state behind these pieces
-abbrev pub state_behind : CaptureState → List Piece → CaptureState
+abbrev pub state_behind : CaptureState → List CapturePiece → CaptureState
 state_behind old [] = old
 state_behind old (piece ∷ pieces) = state_behind piece.state pieces
 
 -- These octets are pieces in a row, from one state to the other. They hold these packets.
 pub record AreRead (old : CaptureState) (octets : List ℕ) (new : CaptureState) (packets : List CapturedPacket) : Type 0 where
-  pub pieces : List Piece
+  pub pieces : List CapturePiece
   pub each : ArePieces old pieces
   pub spelled : octets ≡ flat_map (λ piece. piece.octets) pieces
   pub held : packets ≡ flat_map (λ piece. piece.found) pieces
   pub behind : new ≡ state_behind old pieces
 
 -- the faults that show only where no octet follows
-abbrev pub is_of_end : CaptureFault → Bool
-is_of_end CutHead = true
-is_of_end (CutPacket octet) = true
-is_of_end (CutBlock octet) = true
-is_of_end fault = false
+abbrev pub is_of_capture_end : CaptureFault → Bool
+is_of_capture_end CutHead = true
+is_of_capture_end (CutPacket octet) = true
+is_of_capture_end (CutBlock octet) = true
+is_of_capture_end fault = false
 
 -- the one fault that is the device's and not the capture's
-abbrev pub is_read : CaptureFault → Bool
-is_read (Read octet) = true
-is_read fault = false
+abbrev pub is_capture_read : CaptureFault → Bool
+is_capture_read (Read octet) = true
+is_capture_read fault = false
 
 -- These octets, taken as the front of a record, show this fault.
 abbrev pub ShowsRecordFault : CaptureState → CaptureFault → List ℕ → Type 0
@@ -71,7 +71,7 @@ ShowsRecordFault state fault part = ⊥
 
 abbrev pub ShowsFaultOf : Format → CaptureState → CaptureFault → List ℕ → Type 0
 ShowsFaultOf (Pcap link fraction) state fault part = ShowsRecordFault state fault part
-ShowsFaultOf Pcapng state fault part = ShowsBlockFault state fault part
+ShowsFaultOf Pcapng state fault part = ShowsFaultInBlock state fault part
 
 -- So many octets stand in front that no piece may begin here, and nothing more was taken.
 pub record IsPastLimit (state : CaptureState) (fault : CaptureFault) (part : List ℕ) : Type 0 where
@@ -95,7 +95,7 @@ pub record BeginsPcap (octets : List ℕ) (new : CaptureState) : Type 0 where
 -- These octets begin a capture, and lead to this state: the head of a pcap, or the first section of a pcapng.
 abbrev pub BeginsCapture : List ℕ → CaptureState → Type 0
 BeginsCapture octets new = BeginsPcap octets new
-    ⊎ ((take 4 octets ≡ section_type) × IsBlock fresh_pcapng octets new [])
+    ⊎ ((take 4 octets ≡ section_type) × IsCaptureBlock fresh_pcapng octets new [])
 
 -- Four octets begin no capture.
 pub record BeginsNone (octets : List ℕ) : Type 0 where
@@ -118,7 +118,7 @@ pub record HasOtherLinkType (octets : List ℕ) (number : ℕ) : Type 0 where
   pub fraction : Fraction
   pub magic : HasPcapMagic octets order fraction
   pub version : IsVersion24 octets order
-  pub says : number ≡ number_at order 4 20 octets
+  pub says : number ≡ ordered_number order 4 20 octets
   pub other : (link : Link) → number ≢ link_number link
 
 -- The four octets of the magic of a pcap, and less than its head.
@@ -139,7 +139,7 @@ IsPartOfHead part = (length part < 4) ⊎ IsPartBehindMagic part
 -- Octets of the first section of a pcapng show this fault.
 pub record ShowsSectionFault (fault : CaptureFault) (part : List ℕ) : Type 0 where
   pub section : take 4 part ≡ section_type
-  pub shown : ShowsBlockFault fresh_pcapng fault part
+  pub shown : ShowsFaultInBlock fresh_pcapng fault part
 
 -- These octets, taken as the begin of a capture, show this fault.
 abbrev pub ShowsBeginFault : CaptureFault → List ℕ → Type 0

@@ -1,7 +1,7 @@
 -- The head and the records of a pcap.
 use Rattle.std.specs.Prelude.{◌≡◌, ◌≢◌, ℕ, ◌+◌, ◌<◌, ◌≤◌, ◌⊎◌, List, [], ◌∷◌, ◌++◌, length}
 use Rattle.dmr_capture.specs.Links.{link_number}
-use Rattle.dmr_capture.specs.Orders.{number_at}
+use Rattle.dmr_capture.specs.Orders.{ordered_number}
 use Rattle.dmr_capture.specs.State.{CaptureState, CapturedPacket, packet_limit}
 use Rattle.dmr_capture.specs.Times.{pcap_time}
 use Rattle.dmr_capture.specs.declared.capture.Format.TheVariants.{Pcap}
@@ -17,12 +17,12 @@ pcap_magic Nano = 0xA1B23C4D
 
 -- These octets begin a pcap in this order of octets, whose times count in this fraction.
 abbrev pub HasPcapMagic : List ℕ → Order → Fraction → Type 0
-HasPcapMagic octets order fraction = number_at order 4 0 octets ≡ pcap_magic fraction
+HasPcapMagic octets order fraction = ordered_number order 4 0 octets ≡ pcap_magic fraction
 
 -- The version is 2.4.
 pub record IsVersion24 (octets : List ℕ) (order : Order) : Type 0 where
-  pub major : number_at order 2 4 octets ≡ 2
-  pub minor : number_at order 2 6 octets ≡ 4
+  pub major : ordered_number order 2 4 octets ≡ 2
+  pub minor : ordered_number order 2 6 octets ≡ 4
 
 -- The 24 octets that begin a pcap: its magic, its version, eight octets that count for nothing, the length to which packets were kept,
 -- which counts for nothing either, and the link type.
@@ -30,7 +30,7 @@ pub record IsPcapHead (octets : List ℕ) (order : Order) (fraction : Fraction) 
   pub whole : length octets ≡ 24
   pub magic : HasPcapMagic octets order fraction
   pub version : IsVersion24 octets order
-  pub linked : number_at order 4 20 octets ≡ link_number link
+  pub linked : ordered_number order 4 20 octets ≡ link_number link
 
 -- the state behind the head of a pcap
 abbrev pub behind_pcap_head : Order → Fraction → Link → CaptureState
@@ -40,12 +40,12 @@ behind_pcap_head order fraction link = record { format = Pcap link fraction; ord
 -- nothing.
 pub record IsRecordHead (order : Order) (head : List ℕ) (captured : ℕ) : Type 0 where
   pub whole : length head ≡ 16
-  pub says : captured ≡ number_at order 4 8 head
+  pub says : captured ≡ ordered_number order 4 8 head
   pub short : captured ≤ packet_limit
 
 -- the time that the head of a record says
 abbrev pub record_time : Fraction → Order → List ℕ → ℕ
-record_time fraction order head = pcap_time fraction (number_at order 4 0 head) (number_at order 4 4 head)
+record_time fraction order head = pcap_time fraction (ordered_number order 4 0 head) (ordered_number order 4 4 head)
 
 -- These octets are a record: its head, and then so many octets of its packet. They lead from one state to the other, and hold these
 -- packets.
@@ -74,4 +74,4 @@ IsPartOfRecord state part = (length part < 16) ⊎ IsPartOfPacket state part
 -- the head of a record that asks for more than a packet may have
 pub record IsLongRecord (state : CaptureState) (head : List ℕ) : Type 0 where
   pub whole : length head ≡ 16
-  pub long : packet_limit < number_at state.order 4 8 head
+  pub long : packet_limit < ordered_number state.order 4 8 head

@@ -17,8 +17,8 @@ pub record CapturedPacket : Type 0 where
   pub octets : List ℕ
 
 -- the packet that was read, where these are its octets
-abbrev pub packet_with : Packet → List ℕ → CapturedPacket
-packet_with p octets = record { octet = p.octet; link = p.link; time = p.time; octets = octets }
+abbrev pub captured_packet : Packet → List ℕ → CapturedPacket
+captured_packet p octets = record { octet = p.octet; link = p.link; time = p.time; octets = octets }
 
 -- What a reader remembers: which capture it is, in which order its numbers stand, the interfaces of the section of a pcapng, and how
 -- many octets were read.

@@ -12,8 +12,8 @@ abbrev pub units_in_second : ℕ → ℕ
 units_in_second resolution = base_of resolution ^ (resolution % 128)
 
 -- so many units as nanoseconds, rounded down
-abbrev pub time_of : ℕ → ℕ → ℕ
-time_of resolution count = count * 1000000000 / units_in_second resolution
+abbrev pub counted_time : ℕ → ℕ → ℕ
+counted_time resolution count = count * 1000000000 / units_in_second resolution
 
 -- how many nanoseconds the fraction of a second in a pcap counts in
 abbrev pub nanoseconds_of : Fraction → ℕ

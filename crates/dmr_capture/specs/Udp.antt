@@ -11,7 +11,7 @@ abbrev pub behind_head : ℕ → List ℕ → ℕ
 behind_head at packet = big_number 2 (drop (head_length packet + at) packet)
 
 -- A packet isn't a fragment: no more fragments follow, and none stand in front.
-pub record IsWhole (packet : List ℕ) : Type 0 where
+pub record IsUnfragmented (packet : List ℕ) : Type 0 where
   pub flags : slice_index packet 6 % 64 ≡ 0
   pub offset : slice_index packet 7 ≡ 0
 
@@ -20,7 +20,7 @@ pub record IsWhole (packet : List ℕ) : Type 0 where
 pub record CarriesUdp (packet : List ℕ) (source destination : ℕ) (payload : List ℕ) : Type 0 where
   pub head : 20 ≤ length packet
   pub protocol : slice_index packet 9 ≡ 17
-  pub whole : IsWhole packet
+  pub whole : IsUnfragmented packet
   pub ports : 20 ≤ head_length packet
   pub there : head_length packet + 8 ≤ length packet
   pub least : 8 ≤ behind_head 4 packet

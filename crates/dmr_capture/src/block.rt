@@ -3,11 +3,11 @@ ghost use Rattle.std.specs.Prelude.{◌≡◌, ◌≢◌, ◌+◌, ◌<◌, ◌�
 ghost use Rattle.std.specs.Prelude.{IsTrue, IfSome, IfNone, IfOk, IfErr, OnOk, OnErr};
 ghost use Rattle.std.specs.Io.KnownBytes.{Consumes, IsAtEnd};
 ghost use Rattle.dmr_capture.specs.Blocks.{IsLength, HasHeadLength, IsBlockRest, section_magic};
-ghost use Rattle.dmr_capture.specs.Orders.{number_at};
+ghost use Rattle.dmr_capture.specs.Orders.{ordered_number};
 ghost use Rattle.dmr_capture.specs.CutFaults.{cut_block_fault};
-ghost use Rattle.dmr_capture.specs.Cuts.{is_device};
+ghost use Rattle.dmr_capture.specs.Cuts.{is_device_cut};
 ghost use Rattle.dmr_capture.specs.Rests.{ShowsRestFault};
-ghost use Rattle.dmr_capture.specs.Reading.{is_of_end, is_read};
+ghost use Rattle.dmr_capture.specs.Reading.{is_of_capture_end, is_capture_read};
 
 use crate::fault::CaptureFault;
 use crate::link::Link;
@@ -58,8 +58,8 @@ const SECTION_MAGIC: u32 = 0x1a2b_3c4d;
 /// The order of the octets of a section, by its magic.
 pub(crate) fn section_order(head: &[u8]) -> Option<Order>
     requires whole { length head.now ≡ 12 }
-    ensures some { IfSome result (λ order. number_at order 4 8 head.now ≡ section_magic) }
-    ensures none { IfNone result ((order : Order) → number_at order 4 8 head.now ≢ section_magic) }
+    ensures some { IfSome result (λ order. ordered_number order 4 8 head.now ≡ section_magic) }
+    ensures none { IfNone result ((order : Order) → ordered_number order 4 8 head.now ≢ section_magic) }
 {
     if Order::Big.u32_at(head, 8) == SECTION_MAGIC {
         return Some(Order::Big);
@@ -96,8 +96,8 @@ pub(crate) fn head_length(order: Order, first: &[u8]) -> usize
 /// The fault of a block that is cut, or in which the source failed.
 pub(crate) fn cut_block(cut: Cut, octet: u64) -> CaptureFault
     ensures fault { result ≡ cut_block_fault cut octet }
-    ensures end { is_of_end result ≡ true → cut ≡ Cut.End }
-    ensures device { is_read result ≡ is_device cut }
+    ensures end { is_of_capture_end result ≡ true → cut ≡ Cut.End }
+    ensures device { is_capture_read result ≡ is_device_cut cut }
 {
     match cut {
         Cut::End => CaptureFault::CutBlock { octet },
@@ -121,8 +121,8 @@ pub(crate) fn read_rest<S: Source>(
     ensures well { OnOk result (S.has_failed source.new ≡ false) }
     ensures fault { IfErr result (λ e. (rest : List ℕ) × Consumes (S.left source.old) (S.left source.new) rest
         × ShowsRestFault octet head e rest) }
-    ensures cut { IfErr result (λ e. is_of_end e ≡ true → IsAtEnd (S.left source.new)) }
-    ensures device { IfErr result (λ e. S.has_failed source.new ≡ is_read e) }
+    ensures cut { IfErr result (λ e. is_of_capture_end e ≡ true → IsAtEnd (S.left source.new)) }
+    ensures device { IfErr result (λ e. S.has_failed source.new ≡ is_capture_read e) }
 {
     if let Err(cut) = fill_whole(source, room, 0, head.kept) {
         return Err(cut_block(cut, octet));

@@ -2,16 +2,16 @@
 ghost use Rattle.std.specs.Prelude.{◌≡◌, ◌≢◌, ◌+◌, ◌^◌, ◌<◌, ◌≤◌, ◌++◌, ◌∷◌, [], List, ℕ, length, take, false, true};
 ghost use Rattle.std.specs.Prelude.{IfSome, IfNone, IfOk, IfErr, OnOk, OnErr};
 ghost use Rattle.std.specs.Io.KnownBytes.{Consumes, IsAtEnd};
-ghost use Rattle.dmr_capture.specs.Cuts.{is_device};
+ghost use Rattle.dmr_capture.specs.Cuts.{is_device_cut};
 ghost use Rattle.dmr_capture.specs.CutFaults.{cut_head_fault, cut_packet_fault};
-ghost use Rattle.dmr_capture.specs.Reading.{is_of_end, is_read};
+ghost use Rattle.dmr_capture.specs.Reading.{is_of_capture_end, is_capture_read};
 
 use crate::block::{
     Block, BlockHead, INTERFACE, PACKET, SECTION, cut_block, head_length, is_length, read_rest,
     section_order,
 };
 use crate::fault::CaptureFault;
-use crate::interface::{Interface, resolution_said, time_of};
+use crate::interface::{Interface, resolution_said, counted_time};
 use crate::link::Link;
 use crate::order::Order;
 use crate::packet::{PACKET_LIMIT, Packet};
@@ -74,8 +74,8 @@ impl Model for Capture {
 /// The fault of a pcap whose record is cut, or in which the source failed.
 fn cut_packet(cut: Cut, octet: u64) -> CaptureFault
     ensures fault { result ≡ cut_packet_fault cut octet }
-    ensures end { is_of_end result ≡ true → cut ≡ Cut.End }
-    ensures device { is_read result ≡ is_device cut }
+    ensures end { is_of_capture_end result ≡ true → cut ≡ Cut.End }
+    ensures device { is_capture_read result ≡ is_device_cut cut }
 {
     match cut {
         Cut::End => CaptureFault::CutPacket { octet },
@@ -86,8 +86,8 @@ fn cut_packet(cut: Cut, octet: u64) -> CaptureFault
 /// The fault of a capture whose head is cut, or in which the source failed.
 fn cut_head(cut: Cut) -> CaptureFault
     ensures fault { result ≡ cut_head_fault cut }
-    ensures end { is_of_end result ≡ true → cut ≡ Cut.End }
-    ensures device { is_read result ≡ is_device cut }
+    ensures end { is_of_capture_end result ≡ true → cut ≡ Cut.End }
+    ensures device { is_capture_read result ≡ is_device_cut cut }
 {
     match cut {
         Cut::End => CaptureFault::CutHead,
@@ -96,14 +96,14 @@ fn cut_head(cut: Cut) -> CaptureFault
 }
 
 impl Capture {
-    ghost use Rattle.dmr_capture.specs.Blocks.{HasHeadLength, IsBehindBlock, IsBlock, IsBlockHead, IsNumbered, ShowsBlockFault, ShowsHeadFault};
-    ghost use Rattle.dmr_capture.specs.Blocks.{packets_of, section_type};
+    ghost use Rattle.dmr_capture.specs.Blocks.{HasHeadLength, IsBehindBlock, IsCaptureBlock, IsBlockHead, IsNumbered, ShowsFaultInBlock, ShowsBlockHeadFault};
+    ghost use Rattle.dmr_capture.specs.Blocks.{packets_in, section_type};
     ghost use Rattle.dmr_capture.specs.Found.{IfEnd, IfOnwards, IfPassed, IsFound, IsOfText, IsWithinRoom, found_packets};
-    ghost use Rattle.dmr_capture.specs.Orders.{number_at};
+    ghost use Rattle.dmr_capture.specs.Orders.{ordered_number};
     ghost use Rattle.dmr_capture.specs.Reading.{AreRead, BeginsCapture, IsPiece, ShowsBeginFault, ShowsFault, ShowsRecordFault};
-    ghost use Rattle.dmr_capture.specs.Reading.{is_of_end, is_read};
+    ghost use Rattle.dmr_capture.specs.Reading.{is_of_capture_end, is_capture_read};
     ghost use Rattle.dmr_capture.specs.Records.{HasPcapMagic, IsRecord};
-    ghost use Rattle.dmr_capture.specs.State.{fresh_pcapng, octet_limit, packet_with};
+    ghost use Rattle.dmr_capture.specs.State.{fresh_pcapng, octet_limit, captured_packet};
 
     /// In front of a capture of this format.
     fn at(format: Format, order: Order, octet: u64) -> Capture
@@ -133,8 +133,8 @@ impl Capture {
         ensures fault { IfErr result (λ e. (more : List ℕ) × Consumes (S.left source.old) (S.left source.new) more
             × ShowsBeginFault e (take 4 head.old ++ more)) }
         ensures well { OnOk result (S.has_failed source.new ≡ false) }
-        ensures cut { IfErr result (λ e. is_of_end e ≡ true → IsAtEnd (S.left source.new)) }
-        ensures device { IfErr result (λ e. S.has_failed source.new ≡ is_read e) }
+        ensures cut { IfErr result (λ e. is_of_capture_end e ≡ true → IsAtEnd (S.left source.new)) }
+        ensures device { IfErr result (λ e. S.has_failed source.new ≡ is_capture_read e) }
     {
         if let Err(cut) = fill_whole(source, head, 4, PCAP_HEAD) {
             return Err(cut_head(cut));
@@ -153,12 +153,12 @@ impl Capture {
         requires room { length head.old ≡ 28 }
         requires magic { take 4 head.old ≡ section_type }
         ensures head { IfOk result (λ capture. (more : List ℕ) × Consumes (S.left source.old) (S.left source.new) more
-            × IsBlock fresh_pcapng (take 4 head.old ++ more) capture []) }
+            × IsCaptureBlock fresh_pcapng (take 4 head.old ++ more) capture []) }
         ensures fault { IfErr result (λ e. (more : List ℕ) × Consumes (S.left source.old) (S.left source.new) more
-            × ShowsBlockFault fresh_pcapng e (take 4 head.old ++ more)) }
+            × ShowsFaultInBlock fresh_pcapng e (take 4 head.old ++ more)) }
         ensures well { OnOk result (S.has_failed source.new ≡ false) }
-        ensures cut { IfErr result (λ e. is_of_end e ≡ true → IsAtEnd (S.left source.new)) }
-        ensures device { IfErr result (λ e. S.has_failed source.new ≡ is_read e) }
+        ensures cut { IfErr result (λ e. is_of_capture_end e ≡ true → IsAtEnd (S.left source.new)) }
+        ensures device { IfErr result (λ e. S.has_failed source.new ≡ is_capture_read e) }
     {
         let mut capture = Capture::at(Format::Pcapng, Order::Big, 0);
         if let Err(cut) = fill_whole(source, head, 4, 8) {
@@ -184,9 +184,9 @@ impl Capture {
         // A fault is shown by the octets taken.
         ensures fault { IfErr result (λ e. (taken : List ℕ) × Consumes (S.left source.old) (S.left source.new) taken
             × ShowsBeginFault e taken) }
-        ensures cut { IfErr result (λ e. is_of_end e ≡ true → IsAtEnd (S.left source.new)) }
+        ensures cut { IfErr result (λ e. is_of_capture_end e ≡ true → IsAtEnd (S.left source.new)) }
         // `Read` is told exactly where the device failed.
-        ensures device { IfErr result (λ e. S.has_failed source.new ≡ is_read e) }
+        ensures device { IfErr result (λ e. S.has_failed source.new ≡ is_capture_read e) }
     {
         let mut head = [0u8; 28];
         if let Err(cut) = fill_whole(source, &mut head, 0, 4) {
@@ -214,7 +214,7 @@ impl Capture {
         requires room { 262144 ≤ length room.old }
         requires near { self.old.octet ≤ octet_limit }
         ensures packet { IfOk result (λ found. IsFound found (λ packet. (octets : List ℕ) × Consumes (S.left source.old) (S.left source.new) octets
-            × IsRecord link fraction self.old octets self.new (packet_with packet (take packet.length room.new) ∷ []))) }
+            × IsRecord link fraction self.old octets self.new (captured_packet packet (take packet.length room.new) ∷ []))) }
         ensures passed { IfOk result (λ found. IfPassed found ⊥) }
         ensures end { IfOk result (λ found. IfEnd found (Consumes (S.left source.old) (S.left source.new) [] × IsAtEnd (S.left source.new) × (self.new ≡ self.old))) }
         ensures onwards { IfOk result (λ found. IfOnwards found (self.old.octet < self.new.octet)) }
@@ -223,8 +223,8 @@ impl Capture {
         ensures fault { IfErr result (λ e. (part : List ℕ) × Consumes (S.left source.old) (S.left source.new) part × ShowsRecordFault self.old e part) }
         ensures same { OnErr result (self.new ≡ self.old) }
         ensures well { OnOk result (S.has_failed source.new ≡ false) }
-        ensures cut { IfErr result (λ e. is_of_end e ≡ true → IsAtEnd (S.left source.new)) }
-        ensures device { IfErr result (λ e. S.has_failed source.new ≡ is_read e) }
+        ensures cut { IfErr result (λ e. is_of_capture_end e ≡ true → IsAtEnd (S.left source.new)) }
+        ensures device { IfErr result (λ e. S.has_failed source.new ≡ is_capture_read e) }
     {
         let octet = self.octet;
         let mut head = [0u8; RECORD_HEAD];
@@ -260,7 +260,7 @@ impl Capture {
         requires whole { length head.now ≡ 12 }
         requires typed { take 4 head.now ≡ section_type }
         ensures head { IfOk result (λ b. IsBlockHead self.now head.now b) }
-        ensures fault { IfErr result (λ e. ShowsHeadFault self.now e head.now) }
+        ensures fault { IfErr result (λ e. ShowsBlockHeadFault self.now e head.now) }
         ensures text { IfErr result (λ e. IsOfText e) }
     {
         let octet = self.octet;
@@ -284,9 +284,9 @@ impl Capture {
     fn interface_head(&self, head: &[u8]) -> Result<BlockHead, CaptureFault>
         requires whole { length head.now ≡ 16 }
         requires typed { take 4 head.now ≢ section_type }
-        requires number { number_at self.now.order 4 0 head.now ≡ 1 }
+        requires number { ordered_number self.now.order 4 0 head.now ≡ 1 }
         ensures head { IfOk result (λ b. IsBlockHead self.now head.now b) }
-        ensures fault { IfErr result (λ e. ShowsHeadFault self.now e head.now) }
+        ensures fault { IfErr result (λ e. ShowsBlockHeadFault self.now e head.now) }
         ensures text { IfErr result (λ e. IsOfText e) }
     {
         let octet = self.octet;
@@ -328,9 +328,9 @@ impl Capture {
     fn packet_head(&self, head: &[u8]) -> Result<BlockHead, CaptureFault>
         requires whole { length head.now ≡ 28 }
         requires typed { take 4 head.now ≢ section_type }
-        requires number { number_at self.now.order 4 0 head.now ≡ 6 }
+        requires number { ordered_number self.now.order 4 0 head.now ≡ 6 }
         ensures head { IfOk result (λ b. IsBlockHead self.now head.now b) }
-        ensures fault { IfErr result (λ e. ShowsHeadFault self.now e head.now) }
+        ensures fault { IfErr result (λ e. ShowsBlockHeadFault self.now e head.now) }
         ensures text { IfErr result (λ e. IsOfText e) }
     {
         let octet = self.octet;
@@ -358,7 +358,7 @@ impl Capture {
         Ok(BlockHead {
             block: Block::Captured {
                 link,
-                time: time_of(interface.resolution, count),
+                time: counted_time(interface.resolution, count),
             },
             order,
             len,
@@ -371,10 +371,10 @@ impl Capture {
     fn other_head(&self, head: &[u8]) -> Result<BlockHead, CaptureFault>
         requires whole { length head.now ≡ 8 }
         requires typed { take 4 head.now ≢ section_type }
-        requires interface { number_at self.now.order 4 0 head.now ≢ 1 }
-        requires packet { number_at self.now.order 4 0 head.now ≢ 6 }
+        requires interface { ordered_number self.now.order 4 0 head.now ≢ 1 }
+        requires packet { ordered_number self.now.order 4 0 head.now ≢ 6 }
         ensures head { IfOk result (λ b. IsBlockHead self.now head.now b) }
-        ensures fault { IfErr result (λ e. ShowsHeadFault self.now e head.now) }
+        ensures fault { IfErr result (λ e. ShowsBlockHeadFault self.now e head.now) }
         ensures text { IfErr result (λ e. IsOfText e) }
     {
         let octet = self.octet;
@@ -396,7 +396,7 @@ impl Capture {
     fn block_head(&self, head: &[u8]) -> Result<BlockHead, CaptureFault>
         requires count { HasHeadLength self.now.order head.now (length head.now) }
         ensures head { IfOk result (λ b. IsBlockHead self.now head.now b) }
-        ensures fault { IfErr result (λ e. ShowsHeadFault self.now e head.now) }
+        ensures fault { IfErr result (λ e. ShowsBlockHeadFault self.now e head.now) }
         ensures text { IfErr result (λ e. IsOfText e) }
     {
         if head[..4] == SECTION[..] {
@@ -420,10 +420,10 @@ impl Capture {
         ensures head { IfOk result (λ b. (more : List ℕ) × Consumes (S.left source.old) (S.left source.new) more
             × IsBlockHead self.now (take 8 head.old ++ more) b) }
         ensures fault { IfErr result (λ e. (more : List ℕ) × Consumes (S.left source.old) (S.left source.new) more
-            × ShowsBlockFault self.now e (take 8 head.old ++ more)) }
+            × ShowsFaultInBlock self.now e (take 8 head.old ++ more)) }
         ensures well { OnOk result (S.has_failed source.new ≡ false) }
-        ensures cut { IfErr result (λ e. is_of_end e ≡ true → IsAtEnd (S.left source.new)) }
-        ensures device { IfErr result (λ e. S.has_failed source.new ≡ is_read e) }
+        ensures cut { IfErr result (λ e. is_of_capture_end e ≡ true → IsAtEnd (S.left source.new)) }
+        ensures device { IfErr result (λ e. S.has_failed source.new ≡ is_capture_read e) }
     {
         let count = head_length(self.order, &head[..8]);
         if let Err(cut) = fill_whole(source, head, 8, count) {
@@ -440,7 +440,7 @@ impl Capture {
         requires long { length kept.now ≡ head.kept }
         requires short { head.kept ≤ 262144 }
         ensures behind { IsBehindBlock head.block self.old head kept.now self.new }
-        ensures found { found_packets result kept.now ≡ packets_of head.block self.old.octet kept.now }
+        ensures found { found_packets result kept.now ≡ packets_in head.block self.old.octet kept.now }
         ensures piece { IfEnd result ⊥ }
         ensures whole { IsFound result (λ packet. packet.length ≡ head.kept) }
     {
@@ -478,18 +478,18 @@ impl Capture {
         requires room { 262144 ≤ length room.old }
         requires near { self.old.octet ≤ octet_limit }
         ensures packet { IfOk result (λ found. IsFound found (λ packet. (octets : List ℕ) × Consumes (S.left source.old) (S.left source.new) octets
-            × IsBlock self.old octets self.new (packet_with packet (take packet.length room.new) ∷ []))) }
+            × IsCaptureBlock self.old octets self.new (captured_packet packet (take packet.length room.new) ∷ []))) }
         ensures passed { IfOk result (λ found. IfPassed found ((octets : List ℕ) × Consumes (S.left source.old) (S.left source.new) octets
-            × IsBlock self.old octets self.new [])) }
+            × IsCaptureBlock self.old octets self.new [])) }
         ensures end { IfOk result (λ found. IfEnd found (Consumes (S.left source.old) (S.left source.new) [] × IsAtEnd (S.left source.new) × (self.new ≡ self.old))) }
         ensures onwards { IfOk result (λ found. IfOnwards found (self.old.octet < self.new.octet)) }
         ensures far { self.new.octet ≤ octet_limit + 2 ^ 33 }
         ensures whole { IfOk result (λ found. IsFound found (λ packet. length (take packet.length room.new) ≡ packet.length)) }
-        ensures fault { IfErr result (λ e. (part : List ℕ) × Consumes (S.left source.old) (S.left source.new) part × ShowsBlockFault self.old e part) }
+        ensures fault { IfErr result (λ e. (part : List ℕ) × Consumes (S.left source.old) (S.left source.new) part × ShowsFaultInBlock self.old e part) }
         ensures same { OnErr result (self.new ≡ self.old) }
         ensures well { OnOk result (S.has_failed source.new ≡ false) }
-        ensures cut { IfErr result (λ e. is_of_end e ≡ true → IsAtEnd (S.left source.new)) }
-        ensures device { IfErr result (λ e. S.has_failed source.new ≡ is_read e) }
+        ensures cut { IfErr result (λ e. is_of_capture_end e ≡ true → IsAtEnd (S.left source.new)) }
+        ensures device { IfErr result (λ e. S.has_failed source.new ≡ is_capture_read e) }
     {
         let octet = self.octet;
         let mut head = [0u8; 28];
@@ -518,7 +518,7 @@ impl Capture {
         requires well { S.has_failed source.old ≡ false }
         requires room { 262144 ≤ length room.old }
         ensures packet { IfOk result (λ found. IsFound found (λ packet. (octets : List ℕ) × Consumes (S.left source.old) (S.left source.new) octets
-            × IsPiece self.old octets self.new (packet_with packet (take packet.length room.new) ∷ []))) }
+            × IsPiece self.old octets self.new (captured_packet packet (take packet.length room.new) ∷ []))) }
         ensures passed { IfOk result (λ found. IfPassed found ((octets : List ℕ) × Consumes (S.left source.old) (S.left source.new) octets
             × IsPiece self.old octets self.new [])) }
         ensures end { IfOk result (λ found. IfEnd found (Consumes (S.left source.old) (S.left source.new) [] × IsAtEnd (S.left source.new) × (self.new ≡ self.old))) }
@@ -528,8 +528,8 @@ impl Capture {
         ensures fault { IfErr result (λ e. (part : List ℕ) × Consumes (S.left source.old) (S.left source.new) part × ShowsFault self.old e part) }
         ensures same { OnErr result (self.new ≡ self.old) }
         ensures well { OnOk result (S.has_failed source.new ≡ false) }
-        ensures cut { IfErr result (λ e. is_of_end e ≡ true → IsAtEnd (S.left source.new)) }
-        ensures device { IfErr result (λ e. S.has_failed source.new ≡ is_read e) }
+        ensures cut { IfErr result (λ e. is_of_capture_end e ≡ true → IsAtEnd (S.left source.new)) }
+        ensures device { IfErr result (λ e. S.has_failed source.new ≡ is_capture_read e) }
     {
         if self.octet > OCTET_LIMIT {
             return Err(CaptureFault::TooLong { octet: self.octet });
@@ -551,7 +551,7 @@ impl Capture {
         requires room { 262144 ≤ length room.old }
         // What was read holds this packet alone.
         ensures packet { IfOk result (λ found. IfSome found (λ packet. (octets : List ℕ) × Consumes (S.left source.old) (S.left source.new) octets
-            × AreRead self.old octets self.new (packet_with packet (take packet.length room.new) ∷ []))) }
+            × AreRead self.old octets self.new (captured_packet packet (take packet.length room.new) ∷ []))) }
         ensures whole { IfOk result (λ found. IfSome found (λ packet. length (take packet.length room.new) ≡ packet.length)) }
         // Or it holds none, and is all that there was.
         ensures end { IfOk result (λ found. IfNone found ((octets : List ℕ) × Consumes (S.left source.old) (S.left source.new) octets
@@ -562,8 +562,8 @@ impl Capture {
             × AreRead self.old octets self.new [] × ShowsFault self.new e part) }
         // `Read` is told exactly where the device failed.
         ensures well { OnOk result (S.has_failed source.new ≡ false) }
-        ensures cut { IfErr result (λ e. is_of_end e ≡ true → IsAtEnd (S.left source.new)) }
-        ensures device { IfErr result (λ e. S.has_failed source.new ≡ is_read e) }
+        ensures cut { IfErr result (λ e. is_of_capture_end e ≡ true → IsAtEnd (S.left source.new)) }
+        ensures device { IfErr result (λ e. S.has_failed source.new ≡ is_capture_read e) }
         // No capture goes on without end.
         ensures onwards { IfOk result (λ found. IfSome found (λ packet. self.old.octet < self.new.octet)) }
         ensures far { self.new.octet ≤ octet_limit + 2 ^ 33 }

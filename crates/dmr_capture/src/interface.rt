@@ -1,6 +1,6 @@
 //! What a pcapng says of where its packets were heard.
 ghost use Rattle.std.specs.Prelude.{◌≡◌, ◌≤◌, drop, length};
-ghost use Rattle.dmr_capture.specs.Times.{base_of, time_of};
+ghost use Rattle.dmr_capture.specs.Times.{base_of, counted_time};
 ghost use Rattle.dmr_capture.specs.Options.{Says};
 
 use crate::order::Order;
@@ -28,8 +28,8 @@ fn base_of(resolution: u8) -> u128
 }
 
 /// A count of the units of a resolution, as nanoseconds. What is finer is dropped.
-pub(crate) fn time_of(resolution: u8, count: u64) -> u128
-    ensures time { result ≡ time_of resolution count }
+pub(crate) fn counted_time(resolution: u8, count: u64) -> u128
+    ensures time { result ≡ counted_time resolution count }
 {
     let base = base_of(resolution);
     let mut time = u128::from(count) * 1_000_000_000;

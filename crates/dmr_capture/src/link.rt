@@ -1,6 +1,6 @@
 //! What stands in front of the datagram of a packet.
 ghost use Rattle.std.specs.Prelude.{◌≡◌, ◌≢◌, ◌^◌, ◌<◌, ◌≤◌, Some, None, IfSome, IfNone, length, true};
-ghost use Rattle.dmr_capture.specs.Links.{begins_with_tag, behind_link, behind_tags, behind_type, carried, ipv4_of, link_number};
+ghost use Rattle.dmr_capture.specs.Links.{begins_with_tag, behind_link, behind_tags, behind_type, ipv4_carried, ipv4_of, link_number};
 
 use byteorder::{BigEndian, ByteOrder};
 
@@ -110,10 +110,10 @@ fn ipv4(octets: &[u8]) -> Option<&[u8]>
 /// There is none where the packet is of another protocol, has fewer octets than its total length, or says less than 20 of these.
 /// IPv4 is RFC 791.
 pub fn ipv4_in(link: Link, octets: &[u8]) -> Option<&[u8]>
-    ensures some { IfSome result (λ packet. carried link octets.now ≡ Some packet.now) }
+    ensures some { IfSome result (λ packet. ipv4_carried link octets.now ≡ Some packet.now) }
     ensures head { IfSome result (λ packet. 20 ≤ length packet.now) }
     ensures short { IfSome result (λ packet. length packet.now < 2 ^ 16) }
-    ensures none { IfNone result (carried link octets.now ≡ None) }
+    ensures none { IfNone result (ipv4_carried link octets.now ≡ None) }
 {
     ipv4(behind_link(link, octets)?)
 }

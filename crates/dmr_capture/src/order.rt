@@ -1,6 +1,6 @@
 //! Numbers in the order of octets of who wrote them.
 ghost use Rattle.std.specs.Prelude.{◌≡◌, ◌+◌, ◌≤◌, length};
-ghost use Rattle.dmr_capture.specs.Orders.{number_at};
+ghost use Rattle.dmr_capture.specs.Orders.{ordered_number};
 
 use byteorder::{BigEndian, ByteOrder, LittleEndian};
 
@@ -17,7 +17,7 @@ impl Order {
     /// The number of two octets from this place on.
     pub(crate) fn u16_at(self, octets: &[u8], at: usize) -> u16
         requires within { at + 2 ≤ length octets.now }
-        ensures number { result ≡ number_at self 2 at octets.now }
+        ensures number { result ≡ ordered_number self 2 at octets.now }
     {
         match self {
             Order::Big => BigEndian::read_u16(&octets[at..]),
@@ -28,7 +28,7 @@ impl Order {
     /// The number of four octets from this place on.
     pub(crate) fn u32_at(self, octets: &[u8], at: usize) -> u32
         requires within { at + 4 ≤ length octets.now }
-        ensures number { result ≡ number_at self 4 at octets.now }
+        ensures number { result ≡ ordered_number self 4 at octets.now }
     {
         match self {
             Order::Big => BigEndian::read_u32(&octets[at..]),

@@ -2,7 +2,7 @@
 ghost use Rattle.std.specs.Prelude.{◌≡◌, ◌≢◌, ◌≤◌, length, take, false, IfSome, IfNone, IfOk, IfErr};
 ghost use Rattle.dmr_capture.specs.Times.{pcap_time};
 ghost use Rattle.dmr_capture.specs.Records.{HasPcapMagic, IsPcapHead, pcap_magic};
-ghost use Rattle.dmr_capture.specs.Reading.{BeginsNone, ShowsBeginFault, is_of_end, is_read};
+ghost use Rattle.dmr_capture.specs.Reading.{BeginsNone, ShowsBeginFault, is_of_capture_end, is_capture_read};
 ghost use Rattle.dmr_capture.specs.Begins.{HasMagic};
 
 use crate::block::SECTION;
@@ -75,8 +75,8 @@ fn link_of_head(head: &[u8], order: Order, fraction: Fraction) -> Result<Link, C
     requires magic { HasPcapMagic head.now order fraction }
     ensures head { IfOk result (λ link. IsPcapHead head.now order fraction link) }
     ensures fault { IfErr result (λ e. ShowsBeginFault e head.now) }
-    ensures text { IfErr result (λ e. is_of_end e ≡ false) }
-    ensures read { IfErr result (λ e. is_read e ≡ false) }
+    ensures text { IfErr result (λ e. is_of_capture_end e ≡ false) }
+    ensures read { IfErr result (λ e. is_capture_read e ≡ false) }
 {
     let is_version_24 = order.u16_at(head, 4) == 2 && order.u16_at(head, 6) == 4;
     if !is_version_24 {
@@ -99,8 +99,8 @@ pub(crate) fn link_said(
     requires magic { HasPcapMagic (take 24 octets.now) order fraction }
     ensures head { IfOk result (λ link. IsPcapHead (take 24 octets.now) order fraction link) }
     ensures fault { IfErr result (λ e. ShowsBeginFault e (take 24 octets.now)) }
-    ensures text { IfErr result (λ e. is_of_end e ≡ false) }
-    ensures read { IfErr result (λ e. is_read e ≡ false) }
+    ensures text { IfErr result (λ e. is_of_capture_end e ≡ false) }
+    ensures read { IfErr result (λ e. is_capture_read e ≡ false) }
 {
     link_of_head(&octets[..PCAP_HEAD], order, fraction)
 }

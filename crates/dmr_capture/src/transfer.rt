@@ -1,7 +1,7 @@
 //! Octets of a capture, as they come.
 ghost use Rattle.std.specs.Prelude.{◌≡◌, ◌+◌, ◌<◌, ◌≤◌, ◌++◌, List, ℕ, length, take, false, true, IfOk, IfErr, OnOk, OnErr};
 ghost use Rattle.std.specs.Io.KnownBytes.{Consumes, IsAtEnd};
-ghost use Rattle.dmr_capture.specs.Cuts.{is_device};
+ghost use Rattle.dmr_capture.specs.Cuts.{is_device_cut};
 
 use dmr_record::{DeviceFault, Source};
 
@@ -64,7 +64,7 @@ pub(crate) fn fill_whole<S: Source>(
     ensures part { OnErr result ((more : List ℕ) × (from + length more < to)
         × Consumes (S.left source.old) (S.left source.new) more) }
     ensures cut { IfErr result (λ e. e ≡ Cut.End → IsAtEnd (S.left source.new)) }
-    ensures device { IfErr result (λ e. S.has_failed source.new ≡ is_device e) }
+    ensures device { IfErr result (λ e. S.has_failed source.new ≡ is_device_cut e) }
 {
     match fill(source, buffer, from, to) {
         Ok(done) if done < to => Err(Cut::End),
@@ -82,7 +82,7 @@ pub(crate) fn skip<S: Source>(source: &mut S, count: usize) -> Result<(), Cut>
     ensures part { OnErr result ((passed : List ℕ) × (length passed < count)
         × Consumes (S.left source.old) (S.left source.new) passed) }
     ensures cut { IfErr result (λ e. e ≡ Cut.End → IsAtEnd (S.left source.new)) }
-    ensures device { IfErr result (λ e. S.has_failed source.new ≡ is_device e) }
+    ensures device { IfErr result (λ e. S.has_failed source.new ≡ is_device_cut e) }
 {
     let mut left = count;
     let mut chunk = [0u8; CHUNK];

@@ -1,4 +1,6 @@
 //! The packets of captures. The octets at which they begin are counted in the digits, and their times are those that tshark tells.
+ghost use Rattle.std.specs.Prelude.{◌≡◌, false};
+
 use crate::captures::{
     COOKED, COOKED_2, DATAGRAM, ETHERNET, HOTSPOT, HOTSPOT_IN_BLOCKS, RAW, SECTIONS, TWICE,
     TWICE_BY_EDITCAP,

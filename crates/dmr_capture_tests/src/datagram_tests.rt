@@ -1,4 +1,6 @@
 //! Captures of datagrams from and to lists. The lists are spelled by docs/protocol.md, and the captures are those of `captures`.
+ghost use Rattle.dmr_record.specs.Received.{IsSlot};
+
 use crate::captures::{ETHERNET, TWICE, TWICE_BY_EDITCAP};
 use dmr_capture::CaptureFault;
 use dmr_datagrams::{
@@ -104,7 +106,7 @@ fn expect_list(
     end: Result<ImportedDatagrams, ImportEnd>,
     list: &str,
 ) -> Result<(), Fail>
-    requires slot { settings.slot ≡ 1 }
+    requires slot { IsSlot settings.slot }
 {
     let alloc = rt.alloc();
     let octets = hex::decode(alloc, capture.as_bytes())?;

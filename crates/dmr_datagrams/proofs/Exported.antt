@@ -14,7 +14,7 @@ use Rattle.dmr_record.specs.Received.{FollowEachOther, Follows, IsReadable, Rece
 use Rattle.dmr_record.specs.Received.{receipt_octets, received_file, receipts_octets}
 use Rattle.dmr_capture.specs.Written.{IsWritable, WrittenPacket, packet_record, written_capture, written_head}
 use Rattle.dmr_datagrams.specs.Exports.{AreExported, AreReceipts, IsCaptureTorn}
-use Rattle.dmr_datagrams.specs.Packets.{exported, is_wanted, packet_of, packets_of}
+use Rattle.dmr_datagrams.specs.Packets.{exported, is_wanted, exported_packet, exported_packets}
 use Rattle.dmr_datagrams.specs.declared.wanted.ExportSettings.{ExportSettings}
 
 -- a record that may follow the last one keeps the list in its order
@@ -58,25 +58,25 @@ octet_more receipts next octet e =
 
 -- the packets of a list with one record more
 pub packets_more : (settings : ExportSettings) (receipts : List Receipt) (next : Receipt)
-    → exported settings (receipts ++ next ∷ []) ≡ exported settings receipts ++ packets_of settings next
+    → exported settings (receipts ++ next ∷ []) ≡ exported settings receipts ++ exported_packets settings next
 packets_more settings receipts next =
-    flat_map-append (packets_of settings) receipts (next ∷ [])
-    ∙ ap (λ l. exported settings receipts ++ l) (append-nil (packets_of settings next))
+    flat_map-append (exported_packets settings) receipts (next ∷ [])
+    ∙ ap (λ l. exported settings receipts ++ l) (append-nil (exported_packets settings next))
 
 pub count_more : (settings : ExportSettings) (receipts : List Receipt) (next : Receipt) (written more : ℕ)
-    → written ≡ length (exported settings receipts) → more ≡ length (packets_of settings next)
+    → written ≡ length (exported settings receipts) → more ≡ length (exported_packets settings next)
     → written + more ≡ length (exported settings (receipts ++ next ∷ []))
 count_more settings receipts next written more before new =
     let all = ap length (packets_more settings receipts next) in
-    omega (arith, before, new, all, length-append (exported settings receipts) (packets_of settings next))
+    omega (arith, before, new, all, length-append (exported settings receipts) (exported_packets settings next))
 
 -- a record is one packet at most
 few_packets : (settings : ExportSettings) (r : Receipt) (wanted : Bool)
-    → length (if wanted then packet_of settings r ∷ [] else []) ≤ 1
+    → length (if wanted then exported_packet settings r ∷ [] else []) ≤ 1
 few_packets settings r true = omega arith
 few_packets settings r false = omega arith
 
-pub one_packet : (settings : ExportSettings) (r : Receipt) → length (packets_of settings r) ≤ 1
+pub one_packet : (settings : ExportSettings) (r : Receipt) → length (exported_packets settings r) ≤ 1
 one_packet settings r = few_packets settings r (is_wanted settings r.kind r.slot)
 
 -- a capture with some packets more
@@ -88,10 +88,10 @@ capture_more packets more =
 
 written_more : (settings : ExportSettings) (receipts : List Receipt) (next : Receipt)
     → written_capture (exported settings (receipts ++ next ∷ []))
-    ≡ written_capture (exported settings receipts) ++ flat_map packet_record (packets_of settings next)
+    ≡ written_capture (exported settings receipts) ++ flat_map packet_record (exported_packets settings next)
 written_more settings receipts next =
     ap written_capture (packets_more settings receipts next)
-    ∙ capture_more (exported settings receipts) (packets_of settings next)
+    ∙ capture_more (exported settings receipts) (exported_packets settings next)
 
 -- in front of the records
 pub exported_none : (settings : ExportSettings) (a b d e : Option (List ℕ)) → Consumes a b (head_octets received_magic)
@@ -106,21 +106,21 @@ exported_none settings a b d e took put = record {
 -- one record more, and its packets
 pub exported_more : (settings : ExportSettings) (receipts : List Receipt) (next : Receipt) (a b c d e f : Option (List ℕ))
     → AreExported settings receipts a b d e → IsReadable next → Follows (last_fields None receipts) (received_fields next)
-    → Consumes b c (receipt_octets next) → AllByRecursion IsWritable (packets_of settings next)
-    → Appends e f (flat_map packet_record (packets_of settings next))
+    → Consumes b c (receipt_octets next) → AllByRecursion IsWritable (exported_packets settings next)
+    → Appends e f (flat_map packet_record (exported_packets settings next))
     → AreExported settings (receipts ++ next ∷ []) a c d f
 exported_more settings receipts next a b c d e f before readable follows took fit put = record {
   are = receipts_more receipts next before.are readable follows;
   read = subst (Consumes a c) (sym (file_more receipts next)) (Consumes-trans a b c _ _ before.read took);
   fit = subst (AllByRecursion IsWritable) (sym (packets_more settings receipts next))
-      (All-append IsWritable (exported settings receipts) (packets_of settings next) before.fit fit);
+      (All-append IsWritable (exported settings receipts) (exported_packets settings next) before.fit fit);
   written = subst (Appends d f) (sym (written_more settings receipts next)) (Appends-trans d e f _ _ before.written put);
 }
 
 -- the same, where its packets were torn
 pub exported_torn : (settings : ExportSettings) (receipts : List Receipt) (next : Receipt) (a b c d e f : Option (List ℕ))
     → AreExported settings receipts a b d e → IsReadable next → Follows (last_fields None receipts) (received_fields next)
-    → Consumes b c (receipt_octets next) → Tears e f (flat_map packet_record (packets_of settings next))
+    → Consumes b c (receipt_octets next) → Tears e f (flat_map packet_record (exported_packets settings next))
     → IsCaptureTorn settings a c d f
 exported_torn settings receipts next a b c d e f before readable follows took torn = record {
   list = receipts ++ next ∷ [];

@@ -8,19 +8,19 @@ use Rattle.dmr_datagrams.specs.declared.ends.ImportEnd.{ImportEnd}
 use Rattle.dmr_datagrams.specs.declared.ends.ImportEnd.TheVariants as import
 
 -- something holds of the fault, where the list is at fault
-abbrev pub IfAtFault : ExportEnd → (FaultLine → Type 0) → Type 0
-IfAtFault (export.File fault) Holds = Holds fault
-IfAtFault _ Holds = Unit {0}
+abbrev pub IfListAtFault : ExportEnd → (FaultLine → Type 0) → Type 0
+IfListAtFault (export.File fault) Holds = Holds fault
+IfListAtFault _ Holds = Unit {0}
 
 -- something holds where the capture could not be written
-abbrev pub IfUnwritten : ExportEnd → Type 0 → Type 0
-IfUnwritten export.Output holds = holds
-IfUnwritten _ holds = Unit {0}
+abbrev pub IfCaptureUnwritten : ExportEnd → Type 0 → Type 0
+IfCaptureUnwritten export.Output holds = holds
+IfCaptureUnwritten _ holds = Unit {0}
 
 -- something holds where there was no memory
-abbrev pub IfMemory : ExportEnd → Type 0 → Type 0
-IfMemory export.Memory holds = holds
-IfMemory _ holds = Unit {0}
+abbrev pub IfExportMemory : ExportEnd → Type 0 → Type 0
+IfExportMemory export.Memory holds = holds
+IfExportMemory _ holds = Unit {0}
 
 -- something holds of the fault, where the capture is at fault
 abbrev pub IfCaptureAtFault : ImportEnd → (CaptureFault → Type 0) → Type 0
@@ -33,11 +33,11 @@ IfListUnwritten import.Output holds = holds
 IfListUnwritten _ holds = Unit {0}
 
 -- something holds where there was no memory
-abbrev pub IfNoMemory : ImportEnd → Type 0 → Type 0
-IfNoMemory import.Memory holds = holds
-IfNoMemory _ holds = Unit {0}
+abbrev pub IfImportMemory : ImportEnd → Type 0 → Type 0
+IfImportMemory import.Memory holds = holds
+IfImportMemory _ holds = Unit {0}
 
 -- Nothing was read, and nothing written.
-pub record IsNotBegun {S K : Type 0} (source source' : S) (sink sink' : K) : Type 0 where
+pub record IsUntouched {S K : Type 0} (source source' : S) (sink sink' : K) : Type 0 where
   pub read : source' ≡ source
   pub written : sink' ≡ sink

@@ -26,7 +26,7 @@ pub record AreExported (settings : ExportSettings) (receipts : List Receipt) (le
   pub written : Appends held held' (written_capture (exported settings receipts))
 
 -- A list was read to its end, and its capture was written.
-pub record IsExported (settings : ExportSettings) (counted : ExportedDatagrams) (left left' held held' : Option (List ℕ))
+pub record IsListExported (settings : ExportSettings) (counted : ExportedDatagrams) (left left' held held' : Option (List ℕ))
     : Type 0 where
   pub list : List Receipt
   pub each : AreExported settings list left left' held held'
@@ -35,7 +35,7 @@ pub record IsExported (settings : ExportSettings) (counted : ExportedDatagrams) 
   pub packets : counted.written ≡ length (exported settings list)
 
 -- The head of a list shows this fault, and nothing was written.
-pub record IsHeadFault (fault : FaultLine) (left left' held held' : Option (List ℕ)) : Type 0 where
+pub record IsListHeadFault (fault : FaultLine) (left left' held held' : Option (List ℕ)) : Type 0 where
   pub taken : List ℕ
   pub read : Consumes left left' taken
   pub shown : ShowsHeadFault received_magic fault.fault taken
@@ -43,7 +43,7 @@ pub record IsHeadFault (fault : FaultLine) (left left' held held' : Option (List
   pub written : held' ≡ held
 
 -- These records were read and their capture written, and the octets behind them show this fault, at the octet where they begin.
-pub record IsRecordFault (settings : ExportSettings) (fault : FaultLine) (left left' held held' : Option (List ℕ)) : Type 0 where
+pub record IsListRecordFault (settings : ExportSettings) (fault : FaultLine) (left left' held held' : Option (List ℕ)) : Type 0 where
   pub list : List Receipt
   pub left_mid : Option (List ℕ)
   pub each : AreExported settings list left left_mid held held'
@@ -66,10 +66,10 @@ pub record IsTimeFault (settings : ExportSettings) (fault : FaultLine) (left lef
   pub octet : fault.octet ≡ length (received_file list)
 
 -- A list is at fault. The fault has no place in a recording.
-abbrev pub IsExportFault : ExportSettings → FaultLine → (left left' held held' : Option (List ℕ)) → Type 0
-IsExportFault settings fault left left' held held' = (fault.place ≡ None)
-    × (IsHeadFault fault left left' held held'
-    ⊎ IsRecordFault settings fault left left' held held'
+abbrev pub IsDatagramExportFault : ExportSettings → FaultLine → (left left' held held' : Option (List ℕ)) → Type 0
+IsDatagramExportFault settings fault left left' held held' = (fault.place ≡ None)
+    × (IsListHeadFault fault left left' held held'
+    ⊎ IsListRecordFault settings fault left left' held held'
     ⊎ IsTimeFault settings fault left left' held held')
 
 -- The capture of these records wasn't written to its end: the sink took a front of it.

@@ -9,6 +9,6 @@ IfCapture (Capture fault) Holds = Holds fault
 IfCapture Output Holds = Unit {0}
 
 -- something holds where what was made of a packet could not be given
-abbrev pub IfNotGiven : Halt → Type 0 → Type 0
-IfNotGiven (Capture fault) holds = Unit {0}
-IfNotGiven Output holds = holds
+abbrev pub IfListNotGiven : Halt → Type 0 → Type 0
+IfListNotGiven (Capture fault) holds = Unit {0}
+IfListNotGiven Output holds = holds

@@ -9,7 +9,7 @@ use Rattle.dmr_capture.specs.declared.fault.CaptureFault.TheVariants.{TooLong}
 use Rattle.dmr_record.specs.Devices.{Tears}
 use Rattle.dmr_record.specs.Head.{record_limit}
 use Rattle.dmr_record.specs.Outgoing.{AreInFrameOrder, IsSending, Sending, outgoing_file}
-use Rattle.dmr_datagrams.specs.Sendings.{IsPast, imported, no_progress, progress_behind}
+use Rattle.dmr_datagrams.specs.Sendings.{IsPastList, imported, no_progress, progress_behind}
 use Rattle.dmr_datagrams.specs.declared.ends.ImportedDatagrams.{ImportedDatagrams}
 use Rattle.dmr_datagrams.specs.declared.progress.ImportSettings.{ImportSettings}
 
@@ -36,7 +36,7 @@ pub record AreImported (settings : ImportSettings) (state : CaptureState) (packe
   pub written : Appends held held' (outgoing_file (imported settings packets))
 
 -- A capture was read to its end, and its list was written.
-pub record IsImported (settings : ImportSettings) (counted : ImportedDatagrams) (left left' held held' : Option (List ℕ))
+pub record IsCaptureImported (settings : ImportSettings) (counted : ImportedDatagrams) (left left' held held' : Option (List ℕ))
     : Type 0 where
   pub state : CaptureState
   pub packets : List CapturedPacket
@@ -76,7 +76,7 @@ pub record IsLimitFault (settings : ImportSettings) (fault : CaptureFault) (left
   pub octets : List ℕ
   pub read : Consumes left_mid left' octets
   pub next : AreRead state octets behind (past ∷ [])
-  pub shown : IsPast settings (progress_behind settings no_progress packets) past
+  pub shown : IsPastList settings (progress_behind settings no_progress packets) past
   pub long : fault ≡ TooLong past.octet
 
 -- A capture is at fault.

@@ -23,26 +23,26 @@ abbrev pub is_wanted : ExportSettings → ReceivedKind → ℕ → Bool
 is_wanted settings kind slot = is_datagram kind && is_of_slot settings.slot slot
 
 -- when a record of this frame and slot came, in microseconds: 60 milliseconds for each frame, and 30 more in slot 2
-abbrev pub time_of : ℕ → ℕ → ℕ → ℕ
-time_of start frame slot = start + (60000 * frame + (if slot == 2 then 30000 else 0))
+abbrev pub exported_time : ℕ → ℕ → ℕ → ℕ
+exported_time start frame slot = start + (60000 * frame + (if slot == 2 then 30000 else 0))
 
 -- the first time that a capture has no room for
 abbrev pub time_limit : ℕ
 time_limit = 2 ^ 32 * 1000000
 
 -- the packet of a record
-abbrev pub packet_of : ExportSettings → Receipt → WrittenPacket
-packet_of settings r = record { time = time_of settings.start r.frame r.slot; octets = r.octets }
+abbrev pub exported_packet : ExportSettings → Receipt → WrittenPacket
+exported_packet settings r = record { time = exported_time settings.start r.frame r.slot; octets = r.octets }
 
 -- the same as a list, which is empty where the record isn't written
-abbrev pub packets_of : ExportSettings → Receipt → List WrittenPacket
-packets_of settings r = if is_wanted settings r.kind r.slot then packet_of settings r ∷ [] else []
+abbrev pub exported_packets : ExportSettings → Receipt → List WrittenPacket
+exported_packets settings r = if is_wanted settings r.kind r.slot then exported_packet settings r ∷ [] else []
 
 -- the packets of a received list, in its order
 abbrev pub exported : ExportSettings → List Receipt → List WrittenPacket
-exported settings receipts = flat_map (packets_of settings) receipts
+exported settings receipts = flat_map (exported_packets settings) receipts
 
 -- A record is wanted, and came later than a capture can say.
 pub record IsLate (settings : ExportSettings) (r : Receipt) : Type 0 where
   pub wanted : is_wanted settings r.kind r.slot ≡ true
-  pub late : time_limit ≤ time_of settings.start r.frame r.slot
+  pub late : time_limit ≤ exported_time settings.start r.frame r.slot

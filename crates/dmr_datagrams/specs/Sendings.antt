@@ -1,7 +1,7 @@
 -- Which records an outgoing list has that is made of a capture, and in which frames.
 use Rattle.std.specs.Prelude.{◌≡◌, ◌⊎◌, ℕ, ◌+◌, ◌-◌, ◌/◌, ◌^◌, ◌≤◌, ◌==◌, ◌||◌, max, if◌then◌else◌, Bool, List, [], ◌∷◌, ◌++◌, Option, None, Some}
 use Rattle.std.specs.Prelude.{length, slice_index}
-use Rattle.dmr_capture.specs.Links.{carried}
+use Rattle.dmr_capture.specs.Links.{ipv4_carried}
 use Rattle.dmr_capture.specs.State.{CapturedPacket}
 use Rattle.dmr_capture.specs.declared.link.Link.{Link}
 use Rattle.dmr_record.specs.Head.{record_limit}
@@ -19,7 +19,7 @@ to_radios_found (Some datagram) = if is_to_radios datagram then Some datagram el
 
 -- the IPv4 packet that a packet of this link carries, where it is for radios
 abbrev pub to_radios : Link → List ℕ → Option (List ℕ)
-to_radios link octets = to_radios_found (carried link octets)
+to_radios link octets = to_radios_found (ipv4_carried link octets)
 
 -- the frame that a packet asks for: so many of 60 milliseconds behind the first one, rounded down
 abbrev pub asked_frame : ℕ → ℕ → ℕ → ℕ
@@ -81,7 +81,7 @@ abbrev pub imported : ImportSettings → List CapturedPacket → List Sending
 imported settings packets = sendings_from settings no_progress packets
 
 -- A packet is for radios, and there is no room for its record in the list, or for its frame in a record.
-pub record IsPast (settings : ImportSettings) (p : Progress) (packet : CapturedPacket) : Type 0 where
+pub record IsPastList (settings : ImportSettings) (p : Progress) (packet : CapturedPacket) : Type 0 where
   pub datagram : List ℕ
   pub taken : to_radios packet.link packet.octets ≡ Some datagram
   pub past : (record_limit ≤ p.records)

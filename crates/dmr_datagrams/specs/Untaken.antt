@@ -8,6 +8,6 @@ IfPast why.Past holds = holds
 IfPast why.Torn holds = Unit {0}
 
 -- something holds where the sink failed
-abbrev pub IfTorn : Untaken → Type 0 → Type 0
-IfTorn why.Torn holds = holds
-IfTorn why.Past holds = Unit {0}
+abbrev pub IfRecordTorn : Untaken → Type 0 → Type 0
+IfRecordTorn why.Torn holds = holds
+IfRecordTorn why.Past holds = Unit {0}

@@ -8,6 +8,6 @@ IfLate why.Late holds = holds
 IfLate why.Torn holds = Unit {0}
 
 -- something holds where the sink failed
-abbrev pub IfTorn : Unwritten → Type 0 → Type 0
-IfTorn why.Torn holds = holds
-IfTorn why.Late holds = Unit {0}
+abbrev pub IfPacketTorn : Unwritten → Type 0 → Type 0
+IfPacketTorn why.Torn holds = holds
+IfPacketTorn why.Late holds = Unit {0}

@@ -3,8 +3,8 @@ ghost use Rattle.std.specs.Prelude.{◌≡◌, ◌≤◌, true, false, length, I
 ghost use Rattle.std.specs.Io.KnownBytes.{IsAtEnd};
 ghost use Rattle.dmr_record.specs.Faults.{is_of_end, is_device_fault};
 ghost use Rattle.dmr_recording.specs.Endings.{IfFile, IfNotWritten};
-ghost use Rattle.dmr_datagrams.specs.Ends.{IfAtFault, IfUnwritten, IfMemory, IsNotBegun};
-ghost use Rattle.dmr_datagrams.specs.Exports.{IsCaptureTorn, IsExported, IsExportFault};
+ghost use Rattle.dmr_datagrams.specs.Ends.{IfListAtFault, IfCaptureUnwritten, IfExportMemory, IsUntouched};
+ghost use Rattle.dmr_datagrams.specs.Exports.{IsCaptureTorn, IsListExported, IsDatagramExportFault};
 
 use crate::ends::{ExportEnd, ExportedDatagrams};
 use crate::wanted::{ExportSettings, Unwritten, export_record};
@@ -39,9 +39,9 @@ fn export_list<S: Source, K: Sink>(
     requires source { S.has_failed source.old ≡ false }
     requires sink { K.has_failed sink.old ≡ false }
     requires room { 65535 ≤ length room.old }
-    ensures whole { IfOk result (λ counted. IsExported settings counted
+    ensures whole { IfOk result (λ counted. IsListExported settings counted
         (S.left source.old) (S.left source.new) (K.held sink.old) (K.held sink.new)) }
-    ensures fault { IfErr result (λ e. IfFile e (λ fault. IsExportFault settings fault
+    ensures fault { IfErr result (λ e. IfFile e (λ fault. IsDatagramExportFault settings fault
         (S.left source.old) (S.left source.new) (K.held sink.old) (K.held sink.new))) }
     ensures cut { IfErr result (λ e. IfFile e (λ fault. is_of_end fault.fault ≡ true → IsAtEnd (S.left source.new))) }
     ensures torn { IfErr result (λ e. IfNotWritten e (IsCaptureTorn settings
@@ -93,20 +93,20 @@ pub fn export_datagrams<S: Source, K: Sink>(
     requires source { S.has_failed source.old ≡ false }
     requires sink { K.has_failed sink.old ≡ false }
     // The whole list was read, and the capture of its datagrams written.
-    ensures whole { IfOk result (λ counted. IsExported settings counted
+    ensures whole { IfOk result (λ counted. IsListExported settings counted
         (S.left source.old) (S.left source.new) (K.held sink.old) (K.held sink.new)) }
     // Or it is at fault, and the capture of what stands before that was written.
-    ensures fault { IfErr result (λ e. IfAtFault e (λ fault. IsExportFault settings fault
+    ensures fault { IfErr result (λ e. IfListAtFault e (λ fault. IsDatagramExportFault settings fault
         (S.left source.old) (S.left source.new) (K.held sink.old) (K.held sink.new))) }
-    ensures cut { IfErr result (λ e. IfAtFault e (λ fault. is_of_end fault.fault ≡ true → IsAtEnd (S.left source.new))) }
+    ensures cut { IfErr result (λ e. IfListAtFault e (λ fault. is_of_end fault.fault ≡ true → IsAtEnd (S.left source.new))) }
     // Or a front of the capture of what was read was.
-    ensures torn { IfErr result (λ e. IfUnwritten e (IsCaptureTorn settings
+    ensures torn { IfErr result (λ e. IfCaptureUnwritten e (IsCaptureTorn settings
         (S.left source.old) (S.left source.new) (K.held sink.old) (K.held sink.new))) }
-    ensures memory { IfErr result (λ e. IfMemory e (IsNotBegun source.old source.new sink.old sink.new)) }
+    ensures memory { IfErr result (λ e. IfExportMemory e (IsUntouched source.old source.new sink.old sink.new)) }
     // `Read` is told exactly where the source failed, and `Output` where the sink did.
-    ensures source { IfErr result (λ e. IfAtFault e (λ fault. S.has_failed source.new ≡ is_device_fault fault.fault)) }
-    ensures sink { IfErr result (λ e. IfUnwritten e (K.has_failed sink.new ≡ true)) }
-    ensures others { IfErr result (λ e. IfAtFault e (λ fault. K.has_failed sink.new ≡ false)) }
+    ensures source { IfErr result (λ e. IfListAtFault e (λ fault. S.has_failed source.new ≡ is_device_fault fault.fault)) }
+    ensures sink { IfErr result (λ e. IfCaptureUnwritten e (K.has_failed sink.new ≡ true)) }
+    ensures others { IfErr result (λ e. IfListAtFault e (λ fault. K.has_failed sink.new ≡ false)) }
     ensures well { OnOk result (K.has_failed sink.new ≡ false) }
 {
     let Ok(mut room) = vec![in alloc; 0u8; OCTET_LIMIT] else {

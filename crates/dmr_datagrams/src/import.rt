@@ -2,10 +2,10 @@
 ghost use Rattle.std.specs.Prelude.{◌≡◌, ◌≤◌, true, false, length, IfOk, IfErr, OnOk};
 ghost use Rattle.std.specs.Io.KnownBytes.{IsAtEnd};
 ghost use Rattle.dmr_record.specs.Received.{IsSlot};
-ghost use Rattle.dmr_capture.specs.Reading.{is_of_end, is_read};
-ghost use Rattle.dmr_datagrams.specs.Ends.{IfCaptureAtFault, IfListUnwritten, IfNoMemory, IsNotBegun};
-ghost use Rattle.dmr_datagrams.specs.Halts.{IfCapture, IfNotGiven};
-ghost use Rattle.dmr_datagrams.specs.Imports.{IsImported, IsImportFault, IsListTorn};
+ghost use Rattle.dmr_capture.specs.Reading.{is_of_capture_end, is_capture_read};
+ghost use Rattle.dmr_datagrams.specs.Ends.{IfCaptureAtFault, IfListUnwritten, IfImportMemory, IsUntouched};
+ghost use Rattle.dmr_datagrams.specs.Halts.{IfCapture, IfListNotGiven};
+ghost use Rattle.dmr_datagrams.specs.Imports.{IsCaptureImported, IsImportFault, IsListTorn};
 
 use crate::ends::{ImportEnd, ImportedDatagrams};
 use crate::progress::{ImportSettings, Progress, Untaken};
@@ -33,15 +33,15 @@ fn import_list<S: Source, K: Sink>(
     requires source { S.has_failed source.old ≡ false }
     requires sink { K.has_failed sink.old ≡ false }
     requires room { 262144 ≤ length room.old }
-    ensures whole { IfOk result (λ counted. IsImported settings counted
+    ensures whole { IfOk result (λ counted. IsCaptureImported settings counted
         (S.left source.old) (S.left source.new) (K.held sink.old) (K.held sink.new)) }
     ensures fault { IfErr result (λ e. IfCapture e (λ fault. IsImportFault settings fault
         (S.left source.old) (S.left source.new) (K.held sink.old) (K.held sink.new))) }
-    ensures cut { IfErr result (λ e. IfCapture e (λ fault. is_of_end fault ≡ true → IsAtEnd (S.left source.new))) }
-    ensures torn { IfErr result (λ e. IfNotGiven e (IsListTorn settings
+    ensures cut { IfErr result (λ e. IfCapture e (λ fault. is_of_capture_end fault ≡ true → IsAtEnd (S.left source.new))) }
+    ensures torn { IfErr result (λ e. IfListNotGiven e (IsListTorn settings
         (S.left source.old) (S.left source.new) (K.held sink.old) (K.held sink.new))) }
-    ensures source { IfErr result (λ e. IfCapture e (λ fault. S.has_failed source.new ≡ is_read fault)) }
-    ensures sink { IfErr result (λ e. IfNotGiven e (K.has_failed sink.new ≡ true)) }
+    ensures source { IfErr result (λ e. IfCapture e (λ fault. S.has_failed source.new ≡ is_capture_read fault)) }
+    ensures sink { IfErr result (λ e. IfListNotGiven e (K.has_failed sink.new ≡ true)) }
     ensures others { IfErr result (λ e. IfCapture e (λ fault. K.has_failed sink.new ≡ false)) }
     ensures well { OnOk result (K.has_failed sink.new ≡ false) }
 {
@@ -94,18 +94,18 @@ pub fn import_datagrams<S: Source, K: Sink>(
     requires source { S.has_failed source.old ≡ false }
     requires sink { K.has_failed sink.old ≡ false }
     // The whole capture was read, and the list of its datagrams written.
-    ensures whole { IfOk result (λ counted. IsImported settings counted
+    ensures whole { IfOk result (λ counted. IsCaptureImported settings counted
         (S.left source.old) (S.left source.new) (K.held sink.old) (K.held sink.new)) }
     // Or it is at fault, and the list of what stands before that was written.
     ensures fault { IfErr result (λ e. IfCaptureAtFault e (λ fault. IsImportFault settings fault
         (S.left source.old) (S.left source.new) (K.held sink.old) (K.held sink.new))) }
-    ensures cut { IfErr result (λ e. IfCaptureAtFault e (λ fault. is_of_end fault ≡ true → IsAtEnd (S.left source.new))) }
+    ensures cut { IfErr result (λ e. IfCaptureAtFault e (λ fault. is_of_capture_end fault ≡ true → IsAtEnd (S.left source.new))) }
     // Or a front of the list of what was read was.
     ensures torn { IfErr result (λ e. IfListUnwritten e (IsListTorn settings
         (S.left source.old) (S.left source.new) (K.held sink.old) (K.held sink.new))) }
-    ensures memory { IfErr result (λ e. IfNoMemory e (IsNotBegun source.old source.new sink.old sink.new)) }
+    ensures memory { IfErr result (λ e. IfImportMemory e (IsUntouched source.old source.new sink.old sink.new)) }
     // `Read` is told exactly where the source failed, and `Output` where the sink did.
-    ensures source { IfErr result (λ e. IfCaptureAtFault e (λ fault. S.has_failed source.new ≡ is_read fault)) }
+    ensures source { IfErr result (λ e. IfCaptureAtFault e (λ fault. S.has_failed source.new ≡ is_capture_read fault)) }
     ensures sink { IfErr result (λ e. IfListUnwritten e (K.has_failed sink.new ≡ true)) }
     ensures others { IfErr result (λ e. IfCaptureAtFault e (λ fault. K.has_failed sink.new ≡ false)) }
     ensures well { OnOk result (K.has_failed sink.new ≡ false) }

@@ -6,9 +6,9 @@ ghost use Rattle.dmr_record.specs.Devices.{Tears};
 ghost use Rattle.dmr_record.specs.Head.{record_limit};
 ghost use Rattle.dmr_record.specs.Outgoing.{IsSending, sendings_octets};
 ghost use Rattle.dmr_record.specs.Received.{IsSlot};
-ghost use Rattle.dmr_capture.specs.State.{packet_with};
-ghost use Rattle.dmr_datagrams.specs.Sendings.{IsPast, asked_frame, frame_of, progress_of, sendings_of, to_radios};
-ghost use Rattle.dmr_datagrams.specs.Untaken.{IfPast, IfTorn};
+ghost use Rattle.dmr_capture.specs.State.{captured_packet};
+ghost use Rattle.dmr_datagrams.specs.Sendings.{IsPastList, asked_frame, frame_of, progress_of, sendings_of, to_radios};
+ghost use Rattle.dmr_datagrams.specs.Untaken.{IfPast, IfRecordTorn};
 
 use dmr_capture::{Link, Packet, ipv4_in};
 use dmr_record::{RECORD_LIMIT, Sink, write_outgoing};
@@ -98,22 +98,22 @@ impl Progress {
     ) -> Result<Progress, Untaken>
         requires slot { IsSlot settings.slot }
         requires well { K.has_failed sink.old ≡ false }
-        ensures progress { IfOk result (λ new. new ≡ progress_of settings self (packet_with packet octets.now)) }
+        ensures progress { IfOk result (λ new. new ≡ progress_of settings self (captured_packet packet octets.now)) }
         ensures records { OnOk result (Appends (K.held sink.old) (K.held sink.new)
-            (sendings_octets (sendings_of settings self (packet_with packet octets.now)))) }
-        ensures fit { OnOk result (AllByRecursion IsSending (sendings_of settings self (packet_with packet octets.now))) }
+            (sendings_octets (sendings_of settings self (captured_packet packet octets.now)))) }
+        ensures fit { OnOk result (AllByRecursion IsSending (sendings_of settings self (captured_packet packet octets.now))) }
         ensures few { IfOk result (λ new. self.records ≤ record_limit → new.records ≤ record_limit) }
         ensures one { IfOk result (λ new. new.records ≤ self.records + 1) }
         ensures well { OnOk result (K.has_failed sink.new ≡ false) }
-        ensures past { IfErr result (λ e. IfPast e (IsPast settings self (packet_with packet octets.now))) }
+        ensures past { IfErr result (λ e. IfPast e (IsPastList settings self (captured_packet packet octets.now))) }
         ensures kept { IfErr result (λ e. IfPast e (sink.new ≡ sink.old)) }
-        ensures torn { IfErr result (λ e. IfTorn e (Tears (K.held sink.old) (K.held sink.new)
-            (sendings_octets (sendings_of settings self (packet_with packet octets.now))))) }
-        ensures whole { IfErr result (λ e. IfTorn e
-            (AllByRecursion IsSending (sendings_of settings self (packet_with packet octets.now)))) }
-        ensures room { IfErr result (λ e. IfTorn e
-            ((progress_of settings self (packet_with packet octets.now)).records ≤ record_limit)) }
-        ensures failed { IfErr result (λ e. IfTorn e (K.has_failed sink.new ≡ true)) }
+        ensures torn { IfErr result (λ e. IfRecordTorn e (Tears (K.held sink.old) (K.held sink.new)
+            (sendings_octets (sendings_of settings self (captured_packet packet octets.now))))) }
+        ensures whole { IfErr result (λ e. IfRecordTorn e
+            (AllByRecursion IsSending (sendings_of settings self (captured_packet packet octets.now)))) }
+        ensures room { IfErr result (λ e. IfRecordTorn e
+            ((progress_of settings self (captured_packet packet octets.now)).records ≤ record_limit)) }
+        ensures failed { IfErr result (λ e. IfRecordTorn e (K.has_failed sink.new ≡ true)) }
     {
         let Some(datagram) = to_radios(packet.link, octets) else {
             return Ok(self);

@@ -5,8 +5,8 @@ ghost use Rattle.std.specs.List.{AllByRecursion, flat_map};
 ghost use Rattle.dmr_record.specs.Devices.{Tears};
 ghost use Rattle.dmr_record.specs.Received.{receipt_of};
 ghost use Rattle.dmr_capture.specs.Written.{IsWritable, packet_record};
-ghost use Rattle.dmr_datagrams.specs.Packets.{IsLate, is_wanted, packets_of, time_limit, time_of};
-ghost use Rattle.dmr_datagrams.specs.Unwritten.{IfLate, IfTorn};
+ghost use Rattle.dmr_datagrams.specs.Packets.{IsLate, is_wanted, exported_packets, time_limit, exported_time};
+ghost use Rattle.dmr_datagrams.specs.Unwritten.{IfLate, IfPacketTorn};
 
 use dmr_capture::write_packet;
 use dmr_record::{Received, ReceivedKind, Sink};
@@ -50,10 +50,10 @@ fn is_wanted(settings: ExportSettings, received: Received) -> bool
 }
 
 /// When a record came, in microseconds, where a capture can say it.
-fn time_of(start: u64, frame: u32, slot: u8) -> Option<u64>
-    ensures some { IfSome result (λ time. time ≡ time_of start frame slot) }
+fn exported_time(start: u64, frame: u32, slot: u8) -> Option<u64>
+    ensures some { IfSome result (λ time. time ≡ exported_time start frame slot) }
     ensures fits { IfSome result (λ time. time < time_limit) }
-    ensures none { IfNone result (time_limit ≤ time_of start frame slot) }
+    ensures none { IfNone result (time_limit ≤ exported_time start frame slot) }
 {
     let half = if slot == 2 { SLOT_2 } else { 0 };
     let behind = FRAME * u64::from(frame) + half;
@@ -73,20 +73,20 @@ pub(crate) fn export_record<K: Sink>(
     requires well { K.has_failed sink.old ≡ false }
     requires short { length octets.now < 2 ^ 16 }
     ensures packets { OnOk result (Appends (K.held sink.old) (K.held sink.new)
-        (flat_map packet_record (packets_of settings (receipt_of received octets.now)))) }
-    ensures count { IfOk result (λ n. n ≡ length (packets_of settings (receipt_of received octets.now))) }
-    ensures fit { OnOk result (AllByRecursion IsWritable (packets_of settings (receipt_of received octets.now))) }
+        (flat_map packet_record (exported_packets settings (receipt_of received octets.now)))) }
+    ensures count { IfOk result (λ n. n ≡ length (exported_packets settings (receipt_of received octets.now))) }
+    ensures fit { OnOk result (AllByRecursion IsWritable (exported_packets settings (receipt_of received octets.now))) }
     ensures well { OnOk result (K.has_failed sink.new ≡ false) }
     ensures late { IfErr result (λ e. IfLate e (IsLate settings (receipt_of received octets.now))) }
     ensures kept { IfErr result (λ e. IfLate e (sink.new ≡ sink.old)) }
-    ensures torn { IfErr result (λ e. IfTorn e (Tears (K.held sink.old) (K.held sink.new)
-        (flat_map packet_record (packets_of settings (receipt_of received octets.now))))) }
-    ensures failed { IfErr result (λ e. IfTorn e (K.has_failed sink.new ≡ true)) }
+    ensures torn { IfErr result (λ e. IfPacketTorn e (Tears (K.held sink.old) (K.held sink.new)
+        (flat_map packet_record (exported_packets settings (receipt_of received octets.now))))) }
+    ensures failed { IfErr result (λ e. IfPacketTorn e (K.has_failed sink.new ≡ true)) }
 {
     if !is_wanted(settings, received) {
         return Ok(0);
     }
-    let Some(time) = time_of(settings.start, received.frame, received.slot) else {
+    let Some(time) = exported_time(settings.start, received.frame, received.slot) else {
         return Err(Unwritten::Late);
     };
     match write_packet(sink, time, octets) {

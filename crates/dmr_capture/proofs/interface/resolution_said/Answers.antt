@@ -1,6 +1,6 @@
 use Rattle.std.proofs.Common.{◌≡◌, ◌≢◌, ◌⊎◌, ◌≤◌, ◌<◌, ℕ, List, length, drop, arith, inl, inr, subst, sym, ◌∙◌}
 use Rattle.dmr_capture.specs.declared.order.Order.{Order}
-use Rattle.dmr_capture.specs.Orders.{number_at}
+use Rattle.dmr_capture.specs.Orders.{ordered_number}
 use Rattle.dmr_capture.specs.Options.{Says, NoOption, LastOption, Resolution, OtherOption, BeginsWithOption, option_length}
 use Rattle.dmr_capture.proofs.interface.resolution_said.Goals as goal
 
@@ -27,8 +27,8 @@ returns-then-code-eq0 c =
 
 pub returns-then-length-eq1 : goal.returns-then-length-eq1
 returns-then-length-eq1 c =
-    let nine : 9 ≡ number_at c.args.order 2 0 c.loop-rest.rest.now = sym c.if-code-eq-RESOLUTION.true ∙ c.u16_at-code.ensures.number in
-    let one : 1 ≡ number_at c.args.order 2 2 c.loop-rest.rest.now =
+    let nine : 9 ≡ ordered_number c.args.order 2 0 c.loop-rest.rest.now = sym c.if-code-eq-RESOLUTION.true ∙ c.u16_at-code.ensures.number in
+    let one : 1 ≡ ordered_number c.args.order 2 2 c.loop-rest.rest.now =
         sym c.if-length-eq1.true ∙ c.from-length.ensures ∙ c.u16_at.ensures.number in
     let room : option_length 1 ≤ length c.loop-rest.rest.now =
         subst (λ n. option_length n ≤ length c.loop-rest.rest.now) c.if-length-eq1.true c.if-rest-whole.false in

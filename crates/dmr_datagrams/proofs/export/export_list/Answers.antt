@@ -8,8 +8,8 @@ use Rattle.dmr_record.specs.Received.{received_fields}
 use Rattle.dmr_record.specs.declared.received.Received.{Received}
 use Rattle.dmr_recording.specs.Endings.{IfFile}
 use Rattle.dmr_capture.specs.Written.{IsWritable, packet_record}
-use Rattle.dmr_datagrams.specs.Exports.{AreExported, IsExportFault, IsTimeFault}
-use Rattle.dmr_datagrams.specs.Packets.{IsLate, packets_of}
+use Rattle.dmr_datagrams.specs.Exports.{AreExported, IsDatagramExportFault, IsTimeFault}
+use Rattle.dmr_datagrams.specs.Packets.{IsLate, exported_packets}
 use Rattle.dmr_datagrams.proofs.Exported.{count_more, exported_more, exported_torn, head_torn, last_more, octet_more, one_packet}
 use Rattle.dmr_datagrams.proofs.Puts.{failed_holds}
 use Rattle.dmr_datagrams.proofs.export.export_list.Goals as goal
@@ -66,7 +66,7 @@ returns-in-Err-Torn-clause-torn g c =
         (subst (λ (f : ReceivedFields). Follows (last_read c.loop-received.last) f) (sym alike) follows) in
     exported_torn c.args.settings receipts next _ _ _ _ _ _ so_far (is_receipt, is_slot) later took
     (subst (λ n. Tears (g.K.Sink.held c.loop-received.sink) (g.K.Sink.held c.export_record.new.sink)
-    (flat_map packet_record (packets_of c.args.settings (receipt_of read (take n c.read_received.new.octets))))) c.from.ensures
+    (flat_map packet_record (exported_packets c.args.settings (receipt_of read (take n c.read_received.new.octets))))) c.from.ensures
     (rw c.in-Err-Torn.field-0-is at c.in-Err-Torn.ensures.torn))
 
 pub loop-received-preserved : goal.loop-received-preserved
@@ -81,10 +81,10 @@ loop-received-preserved g c =
         subst (λ (l : Option ReceivedFields). Follows l (received_fields next)) (sym last)
         (subst (λ (f : ReceivedFields). Follows (last_read c.loop-received.last) f) (sym alike) follows) in
     let of_length : ℕ → Receipt = λ n. receipt_of read (take n c.read_received.new.octets) in
-    let count = subst (λ n. c.in-Ok.count ≡ length (packets_of c.args.settings (of_length n))) c.from.ensures c.in-Ok.ensures.count in
-    let fit = subst (λ n. AllByRecursion IsWritable (packets_of c.args.settings (of_length n))) c.from.ensures c.in-Ok.ensures.fit in
+    let count = subst (λ n. c.in-Ok.count ≡ length (exported_packets c.args.settings (of_length n))) c.from.ensures c.in-Ok.ensures.count in
+    let fit = subst (λ n. AllByRecursion IsWritable (exported_packets c.args.settings (of_length n))) c.from.ensures c.in-Ok.ensures.fit in
     let put = subst (λ n. Appends (g.K.Sink.held c.loop-received.sink) (g.K.Sink.held c.export_record.new.sink)
-        (flat_map packet_record (packets_of c.args.settings (of_length n)))) c.from.ensures c.in-Ok.ensures.packets in
+        (flat_map packet_record (exported_packets c.args.settings (of_length n)))) c.from.ensures c.in-Ok.ensures.packets in
     let more = length_push receipts next in
     let from = c.from-in-loop-received.ensures in
     let short = is_receipt.octets in

@@ -5,7 +5,7 @@ use Rattle.std.specs.List.{AllByRecursion}
 use Rattle.dmr_record.specs.Devices.{Tears}
 use Rattle.dmr_record.specs.Head.{record_limit}
 use Rattle.dmr_record.specs.Outgoing.{IsSending, sendings_octets}
-use Rattle.dmr_capture.specs.State.{CapturedPacket, packet_with}
+use Rattle.dmr_capture.specs.State.{CapturedPacket, captured_packet}
 use Rattle.dmr_datagrams.specs.Imports.{AreSendings}
 use Rattle.dmr_datagrams.specs.Sendings.{imported, no_progress, progress_behind, progress_of, sendings_of}
 use Rattle.dmr_datagrams.specs.declared.progress.Progress.{Progress}
@@ -68,7 +68,7 @@ returns-in-Err-Torn-clause-torn g c =
     let settings = c.args.settings in
     let (list, counted, behind, tells, so_far) = inv.so_far in
     let (octets, took, read) = rw c.in-Ok-Some.field-0-is at c.in-Ok-Some.ensures.packet in
-    let next : CapturedPacket = packet_with c.in-Ok-Some.packet (take c.in-Ok-Some.packet.length c.next_packet.new.room) in
+    let next : CapturedPacket = captured_packet c.in-Ok-Some.packet (take c.in-Ok-Some.packet.length c.next_packet.new.room) in
     let whole = rw c.in-Err-Torn.field-0-is at c.in-Err-Torn.ensures.whole in
     let room = rw c.in-Err-Torn.field-0-is at c.in-Err-Torn.ensures.room in
     let torn = rw c.in-Err-Torn.field-0-is at c.in-Err-Torn.ensures.torn in
@@ -89,7 +89,7 @@ loop-packet-preserved g c =
     let (list, counted, behind, tells, so_far) = inv.so_far in
     let (octets, took, read) = rw c.in-Ok-Some.field-0-is at c.in-Ok-Some.ensures.packet in
     let onwards = rw c.in-Ok-Some.field-0-is at c.in-Ok-Some.ensures.onwards in
-    let next : CapturedPacket = packet_with c.in-Ok-Some.packet (take c.in-Ok-Some.packet.length c.next_packet.new.room) in
+    let next : CapturedPacket = captured_packet c.in-Ok-Some.packet (take c.in-Ok-Some.packet.length c.next_packet.new.room) in
     let told = subst (λ p. Tells p (imported settings list)) behind tells in
     let few = c.in-Ok-take.ensures.few inv.few in
     let further : c.in-Ok-take.further ≡ progress_behind settings no_progress (list ++ next ∷ []) =

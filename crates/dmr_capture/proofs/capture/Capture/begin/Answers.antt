@@ -2,7 +2,7 @@ use Rattle.std.proofs.Common.{◌≡◌, [], ◌++◌, take, refl, inr, sym, sub
 use Rattle.std.proofs.lemmas.Result.{IfErr-weaker, IfOk-weaker}
 use Rattle.std.proofs.KnownBytes.{Consumes-trans}
 use Rattle.dmr_capture.specs.Begins.{HasMagic}
-use Rattle.dmr_capture.specs.Blocks.{IsBlock, ShowsBlockFault, section_type}
+use Rattle.dmr_capture.specs.Blocks.{IsCaptureBlock, ShowsFaultInBlock, section_type}
 use Rattle.dmr_capture.specs.State.{fresh_pcapng}
 use Rattle.dmr_capture.proofs.Blocks.{section_fault}
 use Rattle.dmr_capture.proofs.capture.Capture.begin.Goals as goal
@@ -17,7 +17,7 @@ returns-in-Some-OfPcapng-clause-head g c =
       Consumes-trans _ _ _ four more took next,
       inr (
         subst (λ f. take 4 (f ++ more) ≡ section_type) (sym section) refl,
-        subst (λ f. IsBlock fresh_pcapng (f ++ more) capture []) stands block,
+        subst (λ f. IsCaptureBlock fresh_pcapng (f ++ more) capture []) stands block,
       ),
     )) c.begin_pcapng.ensures.head
 
@@ -30,5 +30,5 @@ returns-in-Some-OfPcapng-clause-fault g c =
       four ++ more,
       Consumes-trans _ _ _ four more took next,
       section_fault e (four ++ more) (subst (λ f. take 4 (f ++ more) ≡ section_type) (sym section) refl)
-          (subst (λ f. ShowsBlockFault fresh_pcapng e (f ++ more)) stands shown),
+          (subst (λ f. ShowsFaultInBlock fresh_pcapng e (f ++ more)) stands shown),
     )) c.begin_pcapng.ensures.fault

@@ -1,6 +1,6 @@
 use Rattle.std.proofs.Common.{◌≡◌, [], ◌++◌, take, refl, sym, subst, ap, ◌∙◌}
 use Rattle.std.proofs.KnownBytes.{Consumes-trans}
-use Rattle.dmr_capture.specs.Blocks.{IsBehindBlock, IsBlock, IsBlockHead, IsBlockRest, ShowsBlockFault, packets_of, section_type}
+use Rattle.dmr_capture.specs.Blocks.{IsBehindBlock, IsCaptureBlock, IsBlockHead, IsBlockRest, ShowsFaultInBlock, packets_in, section_type}
 use Rattle.dmr_capture.specs.Rests.{ShowsRestFault}
 use Rattle.dmr_capture.specs.State.{fresh_pcapng}
 use Rattle.dmr_capture.proofs.Blocks.{is_block, rest_fault, section_holds_none}
@@ -15,9 +15,9 @@ returns-in-Err-read_head-clause-fault g c =
     let e = c.in-Err-read_head.fault in (
       four ++ more,
       Consumes-trans _ _ _ four more took next,
-      subst (λ l. ShowsBlockFault fresh_pcapng e l) (joined front four more)
-          (subst (λ s. ShowsBlockFault s e (front ++ four ++ more)) c.at-capture.ensures.value
-          (subst (λ l. ShowsBlockFault c.at-capture.result e (l ++ more)) stands shown)),
+      subst (λ l. ShowsFaultInBlock fresh_pcapng e l) (joined front four more)
+          (subst (λ s. ShowsFaultInBlock s e (front ++ four ++ more)) c.at-capture.ensures.value
+          (subst (λ l. ShowsFaultInBlock c.at-capture.result e (l ++ more)) stands shown)),
     )
 
 pub returns-in-Err-read_rest-clause-fault : goal.returns-in-Err-read_rest-clause-fault
@@ -31,7 +31,7 @@ returns-in-Err-read_rest-clause-fault g c =
         (subst (λ l. IsBlockHead c.at-capture.result (l ++ more) c.in-Ok.block) stands begins) in (
       four ++ more ++ rest,
       Consumes-trans _ _ _ (four ++ more) rest (Consumes-trans _ _ _ four more took next) end,
-      subst (λ l. ShowsBlockFault fresh_pcapng c.in-Err-read_rest.fault l) (joined_more front four more rest)
+      subst (λ l. ShowsFaultInBlock fresh_pcapng c.in-Err-read_rest.fault l) (joined_more front four more rest)
           (rest_fault fresh_pcapng c.in-Err-read_rest.fault (front ++ four ++ more) rest c.in-Ok.block head shown),
     )
 
@@ -47,12 +47,12 @@ returns-clause-head g c =
         (subst (λ l. IsBlockHead c.at-capture.result (l ++ more) b) stands begins) in
     let section : take 4 (front ++ four ++ more) ≡ section_type =
         subst (λ f. take 4 (f ++ four ++ more) ≡ section_type) (sym c.requires.magic) refl in
-    let none : packets_of b.block 0 [] ≡ [] = section_holds_none fresh_pcapng (front ++ four ++ more) b 0 [] head section in
+    let none : packets_in b.block 0 [] ≡ [] = section_holds_none fresh_pcapng (front ++ four ++ more) b 0 [] head section in
     let keeps : IsBlockRest b [] rest =
         subst (λ l. IsBlockRest b l rest) (taken_of_none b.kept c.read_rest.new.room c.read_rest.auto.room) whole in
     let behind = subst (λ s. IsBehindBlock b.block s b [] c.pass.new.self) c.at-capture.ensures.value c.pass.ensures.behind in (
       four ++ more ++ rest,
       Consumes-trans _ _ _ (four ++ more) rest (Consumes-trans _ _ _ four more took next) end,
-      subst (λ l. IsBlock fresh_pcapng l c.pass.new.self []) (joined_more front four more rest)
+      subst (λ l. IsCaptureBlock fresh_pcapng l c.pass.new.self []) (joined_more front four more rest)
           (is_block fresh_pcapng c.pass.new.self (front ++ four ++ more) rest [] b [] head keeps behind (sym none)),
     )

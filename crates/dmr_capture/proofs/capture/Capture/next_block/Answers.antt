@@ -1,7 +1,7 @@
 use Rattle.std.proofs.Common.{◌≡◌, List, ℕ, ◌++◌, take, subst, sym, ap}
 use Rattle.std.specs.Io.KnownBytes.{Consumes}
 use Rattle.std.proofs.KnownBytes.{Consumes-trans}
-use Rattle.dmr_capture.specs.Blocks.{IsBlock, IsBlockHead, ShowsBlockFault}
+use Rattle.dmr_capture.specs.Blocks.{IsCaptureBlock, IsBlockHead, ShowsFaultInBlock}
 use Rattle.dmr_capture.specs.Rests.{ShowsRestFault}
 use Rattle.dmr_capture.specs.State.{CapturedPacket}
 use Rattle.dmr_capture.proofs.Blocks.{as_packet, as_passed, is_block, rest_fault}
@@ -15,7 +15,7 @@ returns-in-Err-read_head-clause-fault g c =
     let (more, next, shown) = c.in-Err-read_head.ensures.fault in (
       first ++ more,
       Consumes-trans _ _ _ first more took next,
-      subst (λ l. ShowsBlockFault c.args.self.now c.in-Err-read_head.fault (l ++ more)) eight shown,
+      subst (λ l. ShowsFaultInBlock c.args.self.now c.in-Err-read_head.fault (l ++ more)) eight shown,
     )
 
 pub returns-in-Err-read_rest-clause-fault : goal.returns-in-Err-read_rest-clause-fault
@@ -44,7 +44,7 @@ returns-clause-packet g c =
     let head = subst (λ l. IsBlockHead c.args.self.now (l ++ more) b) eight begins in
     let Holds : List CapturedPacket → Type 0 = λ packets. (octets : List ℕ)
         × Consumes (g.S.Source.left c.args.source.now) (g.S.Source.left c.read_rest.new.source) octets
-        × IsBlock c.args.self.now octets c.pass.new.self packets in
+        × IsCaptureBlock c.args.self.now octets c.pass.new.self packets in
     as_packet c.pass.result c.read_rest.new.room b.kept Holds c.pass.ensures.whole (
       first ++ more ++ rest,
       all,
@@ -63,7 +63,7 @@ returns-clause-passed g c =
     let head = subst (λ l. IsBlockHead c.args.self.now (l ++ more) b) eight begins in
     let Holds : List CapturedPacket → Type 0 = λ packets. (octets : List ℕ)
         × Consumes (g.S.Source.left c.args.source.now) (g.S.Source.left c.read_rest.new.source) octets
-        × IsBlock c.args.self.now octets c.pass.new.self packets in
+        × IsCaptureBlock c.args.self.now octets c.pass.new.self packets in
     as_passed c.pass.result (take b.kept c.read_rest.new.room) Holds (
       first ++ more ++ rest,
       all,

@@ -1,7 +1,7 @@
 use Rattle.std.proofs.Common.{◌≡◌, ◌++◌, length, take, arith, refl, inl, inr, sym, subst, ap, ◌∙◌}
 use Rattle.std.proofs.lemmas.List.{length-append, length-take-le}
 use Rattle.std.proofs.lemmas.Result.{IfErr-weaker}
-use Rattle.dmr_capture.specs.Blocks.{HasHeadLength, IsPartOfBlockHead, ShowsBlockFault, ShowsHeadFault}
+use Rattle.dmr_capture.specs.Blocks.{HasHeadLength, IsPartOfBlockHead, ShowsFaultInBlock, ShowsBlockHeadFault}
 use Rattle.dmr_capture.specs.CutFaults.{cut_block_fault}
 use Rattle.dmr_capture.specs.contracts.capture.Capture.{the_view}
 use Rattle.dmr_capture.proofs.Blocks.{cut_front, head_fault}
@@ -24,8 +24,8 @@ returns-in-Err-clause-fault g c =
     } in (
       more,
       took,
-      subst (λ e. ShowsBlockFault c.args.self.now e (first ++ more)) (sym c.cut_block.ensures.fault)
-          (subst (λ s. ShowsBlockFault s (cut_block_fault c.in-Err.cut c.self.inside.octet) (first ++ more)) c.self.view_is
+      subst (λ e. ShowsFaultInBlock c.args.self.now e (first ++ more)) (sym c.cut_block.ensures.fault)
+          (subst (λ s. ShowsFaultInBlock s (cut_block_fault c.in-Err.cut c.self.inside.octet) (first ++ more)) c.self.view_is
           (cut_front (the_view c.self.inside) c.in-Err.cut (first ++ more)
           (some_octets (first ++ more) (omega (arith, length-append first more, eight))) (inr (inl less)))),
     )
@@ -44,5 +44,5 @@ block_head-requires g c =
 pub returns-clause-fault : goal.returns-clause-fault
 returns-clause-fault g c =
     let (more, took, stands, whole) = c.in_default.ensures.octets in
-    IfErr-weaker c.block_head.result _ _ (λ e shown. (more, took, subst (λ l. ShowsBlockFault c.args.self.now e l) stands
+    IfErr-weaker c.block_head.result _ _ (λ e shown. (more, took, subst (λ l. ShowsFaultInBlock c.args.self.now e l) stands
     (head_fault c.args.self.now e _ shown))) c.block_head.ensures.fault

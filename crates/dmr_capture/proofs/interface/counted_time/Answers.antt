@@ -1,6 +1,6 @@
 use Rattle.std.proofs.Common.{◌≡◌, ℕ, suc, ◌+◌, ◌*◌, ◌/◌, ◌^◌, ap, sym, ◌∙◌, add-one}
 use Rattle.std.proofs.Math.Nat.{div-div-eq-div-mul, pow-suc}
-use Rattle.dmr_capture.proofs.interface.time_of.Goals as goal
+use Rattle.dmr_capture.proofs.interface.counted_time.Goals as goal
 
 -- one division more
 divided_more : (x base k : ℕ) → x / base ^ k / base ≡ x / base ^ (k + 1)
