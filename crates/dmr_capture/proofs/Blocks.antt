@@ -26,7 +26,8 @@ cut_front state End part some less = (refl, some, less)
 cut_front state Device part some less = (refl, less)
 
 -- what the first octets show is a fault of their block
-pub head_fault : (state : CaptureState) (e : CaptureFault) (head : List ℕ) → ShowsBlockHeadFault state e head → ShowsFaultInBlock state e head
+pub head_fault : (state : CaptureState) (e : CaptureFault) (head : List ℕ) → ShowsBlockHeadFault state e head
+    → ShowsFaultInBlock state e head
 head_fault state (fault.BadBlock octet) head (same, bad) = (same, inl bad)
 head_fault state (fault.ManyInterfaces octet) head shown = shown
 head_fault state (fault.TooLong octet) head shown = shown

@@ -1,5 +1,6 @@
 -- Numbers and types at the front of octets.
-use Rattle.std.proofs.Common.{◌≡◌, ◌≢◌, ◌≤◌, ◌<◌, ℕ, zero, suc, List, [], ◌∷◌, ◌++◌, length, take, refl, ap, ◌∙◌, append_assoc, arith}
+use Rattle.std.proofs.Common.{◌≡◌, ◌≢◌, ◌≤◌, ◌<◌, ℕ, zero, suc, List, [], ◌∷◌, ◌++◌, length, take, refl, ap, ◌∙◌, append_assoc}
+use Rattle.std.proofs.Common.{arith}
 use Rattle.std.proofs.lemmas.List.{take-append-le}
 use Rattle.byteorder.specs.Numbers.{big_from-append, little_from-append}
 use Rattle.dmr_capture.specs.Blocks.{HasHeadLength, section_type}
@@ -8,7 +9,8 @@ use Rattle.dmr_capture.specs.declared.order.Order.{Order}
 use Rattle.dmr_capture.specs.declared.order.Order.TheVariants.{Big, Little}
 
 -- a number at the front is that of the first octets
-pub number_front : (order : Order) (n : ℕ) (xs ys : List ℕ) → n ≤ length xs → ordered_number order n 0 (xs ++ ys) ≡ ordered_number order n 0 xs
+pub number_front : (order : Order) (n : ℕ) (xs ys : List ℕ) → n ≤ length xs
+    → ordered_number order n 0 (xs ++ ys) ≡ ordered_number order n 0 xs
 number_front Big n xs ys within = big_from-append n xs ys within
 number_front Little n xs ys within = little_from-append n xs ys within
 

@@ -14,7 +14,8 @@ pieces_more : (old : CaptureState) (pieces : List CapturePiece) (piece : Capture
 pieces_more old [] piece each next = (next, tt)
 pieces_more old (first ∷ pieces) piece (is, each) next = (is, pieces_more first.state pieces piece each next)
 
-state_more : (old : CaptureState) (pieces : List CapturePiece) (piece : CapturePiece) → state_behind old (pieces ++ piece ∷ []) ≡ piece.state
+state_more : (old : CaptureState) (pieces : List CapturePiece) (piece : CapturePiece)
+    → state_behind old (pieces ++ piece ∷ []) ≡ piece.state
 state_more old [] piece = refl
 state_more old (first ∷ pieces) piece = state_more first.state pieces piece
 
@@ -22,13 +23,15 @@ octets_more : (pieces : List CapturePiece) (piece : CapturePiece)
     → flat_map (λ p. p.octets) (pieces ++ piece ∷ []) ≡ flat_map (λ p. p.octets) pieces ++ piece.octets
 octets_more [] piece = append-nil piece.octets
 octets_more (first ∷ pieces) piece =
-    ap (λ l. first.octets ++ l) (octets_more pieces piece) ∙ sym (append_assoc first.octets (flat_map (λ p. p.octets) pieces) piece.octets)
+    ap (λ l. first.octets ++ l) (octets_more pieces piece) ∙ sym (append_assoc first.octets (flat_map
+    (λ p. p.octets) pieces) piece.octets)
 
 packets_more : (pieces : List CapturePiece) (piece : CapturePiece)
     → flat_map (λ p. p.found) (pieces ++ piece ∷ []) ≡ flat_map (λ p. p.found) pieces ++ piece.found
 packets_more [] piece = append-nil piece.found
 packets_more (first ∷ pieces) piece =
-    ap (λ l. first.found ++ l) (packets_more pieces piece) ∙ sym (append_assoc first.found (flat_map (λ p. p.found) pieces) piece.found)
+    ap (λ l. first.found ++ l) (packets_more pieces piece) ∙ sym (append_assoc first.found (flat_map
+    (λ p. p.found) pieces) piece.found)
 
 -- one piece more
 pub read_more : (old mid new : CaptureState) (octets piece : List ℕ) (packets found : List CapturedPacket)

@@ -1,5 +1,6 @@
 -- A capture that was written, as it is read.
-use Rattle.std.proofs.Common.{◌≡◌, ℕ, ◌+◌, ◌*◌, ◌/◌, ◌%◌, ◌^◌, ◌<◌, ◌≤◌, List, [], ◌∷◌, ◌++◌, length, drop, refl, sym, ap, ◌∙◌, inl, arith}
+use Rattle.std.proofs.Common.{◌≡◌, ℕ, ◌+◌, ◌*◌, ◌/◌, ◌%◌, ◌^◌, ◌<◌, ◌≤◌, List, [], ◌∷◌, ◌++◌, length, drop, refl, sym, ap, ◌∙◌}
+use Rattle.std.proofs.Common.{inl, arith}
 use Rattle.std.proofs.lemmas.List.{length-append}
 use Rattle.std.specs.List.{AllByRecursion, flat_map}
 use Rattle.byteorder.specs.Endian.{little_bytes}
@@ -26,10 +27,10 @@ read_time : (time count : ℕ) → time < 2 ^ 32 * 1000000
 read_time time count fits =
     let head = written_record_head (time / 1000000) (time % 1000000) count in
     let second : ordered_number Little 4 0 head ≡ time / 1000000 =
-        little_number-reads_back 4 (time / 1000000)
-        (little_bytes 4 (time % 1000000) ++ little_bytes 4 count ++ little_bytes 4 count) (omega arith) in
+    little_number-reads_back 4 (time / 1000000)
+    (little_bytes 4 (time % 1000000) ++ little_bytes 4 count ++ little_bytes 4 count) (omega arith) in
     let part : ordered_number Little 4 4 head ≡ time % 1000000 =
-        little_number-reads_back 4 (time % 1000000) (little_bytes 4 count ++ little_bytes 4 count) (omega arith) in
+    little_number-reads_back 4 (time % 1000000) (little_bytes 4 count ++ little_bytes 4 count) (omega arith) in
     omega (arith, second, part)
 
 -- the head of a record that was written
@@ -69,8 +70,8 @@ read_records octet [] all near = (state_at octet, read_none (state_at octet))
 read_records octet (p ∷ packets) (fits, all) near =
     let count = length-append (packet_record p) (flat_map packet_record packets) in
     let whole : length (packet_record p) ≡ 16 + length p.octets =
-        let head = written_record_head (p.time / 1000000) (p.time % 1000000) (length p.octets) in
-        omega (arith, length-append head p.octets) in
+    let head = written_record_head (p.time / 1000000) (p.time % 1000000) (length p.octets) in
+    omega (arith, length-append head p.octets) in
     let (last, read) = read_records (octet + (16 + length p.octets)) packets all (omega (arith, count, whole)) in
     (last, read_first _ _ _ _ _ _ _ (read_record octet p fits (omega arith)) read)
 
@@ -80,7 +81,7 @@ pub read_capture : (packets : List WrittenPacket) → AllByRecursion IsWritable 
 read_capture packets all near =
     let (last, read) = read_records 24 packets all (omega (arith, length-append written_head (flat_map packet_record packets))) in
     let is : IsPcapHead written_head Little Micro Ipv4 =
-        record { whole = refl; magic = refl; version = record { major = refl; minor = refl }; linked = refl } in
+    record { whole = refl; magic = refl; version = record { major = refl; minor = refl }; linked = refl } in
     record {
       head = written_head;
       rest = flat_map packet_record packets;

@@ -48,8 +48,8 @@ pub record BeginsInterface (state : CaptureState) (head : List ℕ) (len : ℕ) 
   pub typed : HasType state.order head 1 len
   pub fit : IsLength 20 len
 
--- A block of type 1 is of an interface: the link type in two octets, two that count for nothing, the length to which packets are kept,
--- which counts for nothing either, and options.
+-- A block of type 1 is of an interface: the link type in two octets, two that count for nothing, the length to which packets are
+-- kept, which counts for nothing either, and options.
 pub record IsInterfaceHead (state : CaptureState) (head : List ℕ) (len link : ℕ) : Type 0 where
   pub begins : BeginsInterface state head len
   pub few : length state.interfaces < interface_limit
@@ -58,7 +58,8 @@ pub record IsInterfaceHead (state : CaptureState) (head : List ℕ) (len link : 
 
 -- the time that a block of a packet says, by the resolution of its interface
 abbrev pub block_time : ℕ → Order → List ℕ → ℕ
-block_time resolution order head = counted_time resolution (ordered_number order 4 12 head * 2 ^ 32 + ordered_number order 4 16 head)
+block_time resolution order head =
+    counted_time resolution (ordered_number order 4 12 head * 2 ^ 32 + ordered_number order 4 16 head)
 
 -- An interface of this number stands among these.
 abbrev pub IsNumbered : List Interface → ℕ → Interface → Type 0
@@ -76,8 +77,8 @@ pub record IsOfInterface (state : CaptureState) (head : List ℕ) (len : ℕ) (i
   pub begins : BeginsPacket state head len
   pub numbered : IsNumbered state.interfaces (ordered_number state.order 4 8 head) interface
 
--- A block of type 6 is of a packet: its interface, its time in four octets and four, how many octets of the packet follow, and how many
--- it had, which counts for nothing.
+-- A block of type 6 is of a packet: its interface, its time in four octets and four, how many octets of the packet follow, and how
+-- many it had, which counts for nothing.
 pub record IsPacketHead (state : CaptureState) (head : List ℕ) (len : ℕ) (link : Link) (time captured : ℕ) : Type 0 where
   pub interface : Interface
   pub begins : IsOfInterface state head len interface
@@ -104,8 +105,8 @@ IsBlockHeadOf Passed state head b = IsPassedHead state head b.len × (b.order �
 abbrev pub IsBlockHead : CaptureState → List ℕ → BlockHead → Type 0
 IsBlockHead state head b = IsBlockHeadOf b.block state head b × (b.head ≡ length head)
 
--- The state behind a block that keeps these octets of what stands behind its head. A section has no interfaces yet. The options of an
--- interface say its resolution.
+-- The state behind a block that keeps these octets of what stands behind its head. A section has no interfaces yet. The options of
+-- an interface say its resolution.
 abbrev pub IsBehindBlock : Block → CaptureState → BlockHead → List ℕ → CaptureState → Type 0
 IsBehindBlock NewSection old b kept new =
     new ≡ record { format = Pcapng; order = b.order; interfaces = []; octet = old.octet + b.len }

@@ -1,5 +1,6 @@
 -- What stands in front of a datagram, and how long it is.
-use Rattle.std.specs.Prelude.{ℕ, ◌+◌, ◌*◌, ◌/◌, ◌==◌, ◌&&◌, ◌||◌, nat_le, nat_lt, if◌then◌else◌, Bool, false, List, [], ◌∷◌, Option, Some, None}
+use Rattle.std.specs.Prelude.{ℕ, ◌+◌, ◌*◌, ◌/◌, ◌==◌, ◌&&◌, ◌||◌, nat_le, nat_lt, if◌then◌else◌, Bool, false, List, [], ◌∷◌}
+use Rattle.std.specs.Prelude.{Option, Some, None}
 use Rattle.std.specs.Prelude.{length, take, drop, slice_index}
 use Rattle.byteorder.specs.Endian.{big_number}
 use Rattle.dmr_capture.specs.declared.link.Link.{Link}
@@ -37,16 +38,18 @@ behind_tags (first ∷ second ∷ third ∷ fourth ∷ rest) =
     if is_tag first second then behind_tags rest else behind_type (first ∷ second ∷ third ∷ fourth ∷ rest)
 behind_tags octets = behind_type octets
 
--- What stands in a packet behind the head of its link. Ethernet has two addresses of six octets in front of its tags and its type. The
--- heads of Linux have 16 octets with the type at 14, and 20 with the type in front.
+-- What stands in a packet behind the head of its link. Ethernet has two addresses of six octets in front of its tags and its type.
+-- The heads of Linux have 16 octets with the type at 14, and 20 with the type in front.
 abbrev pub behind_link : Link → List ℕ → Option (List ℕ)
 behind_link Ethernet octets = if nat_le 12 (length octets) then behind_tags (drop 12 octets) else None
 behind_link Raw octets = Some octets
 behind_link Ipv4 octets = Some octets
 behind_link LinuxCooked octets =
-    if nat_le 16 (length octets) && (slice_index octets 14 == 8) && (slice_index octets 15 == 0) then Some (drop 16 octets) else None
+    if nat_le 16 (length octets) && (slice_index octets 14 == 8) && (slice_index octets 15 == 0)
+    then Some (drop 16 octets) else None
 behind_link LinuxCooked2 octets =
-    if nat_le 20 (length octets) && (slice_index octets 0 == 8) && (slice_index octets 1 == 0) then Some (drop 20 octets) else None
+    if nat_le 20 (length octets) && (slice_index octets 0 == 8) && (slice_index octets 1 == 0)
+    then Some (drop 20 octets) else None
 
 -- the total length that an IPv4 packet says
 abbrev pub ipv4_length : List ℕ → ℕ

@@ -13,8 +13,8 @@ pub record BeginsWithOption (order : Order) (options : List ℕ) (code len : ℕ
 abbrev pub option_length : ℕ → ℕ
 option_length len = 4 + (len + 3) / 4 * 4
 
--- These options say this resolution: that of the first option 9 of one octet. The options end with option 0, or where none has room.
--- Those that say none say microseconds.
+-- These options say this resolution: that of the first option 9 of one octet. The options end with option 0, or where none has
+-- room. Those that say none say microseconds.
 pub data Says (order : Order) : List ℕ → ℕ → Type 0 where
   NoOption : (options : List ℕ) → length options < 4 → Says order options 6
   LastOption : (options : List ℕ) (code len : ℕ) → BeginsWithOption order options code len

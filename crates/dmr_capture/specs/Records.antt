@@ -24,8 +24,8 @@ pub record IsVersion24 (octets : List ℕ) (order : Order) : Type 0 where
   pub major : ordered_number order 2 4 octets ≡ 2
   pub minor : ordered_number order 2 6 octets ≡ 4
 
--- The 24 octets that begin a pcap: its magic, its version, eight octets that count for nothing, the length to which packets were kept,
--- which counts for nothing either, and the link type.
+-- The 24 octets that begin a pcap: its magic, its version, eight octets that count for nothing, the length to which packets were
+-- kept, which counts for nothing either, and the link type.
 pub record IsPcapHead (octets : List ℕ) (order : Order) (fraction : Fraction) (link : Link) : Type 0 where
   pub whole : length octets ≡ 24
   pub magic : HasPcapMagic octets order fraction

@@ -8,8 +8,8 @@ use Rattle.dmr_capture.specs.declared.order.Order.{Order}
 use Rattle.dmr_capture.specs.declared.order.Order.TheVariants.{Big}
 use Rattle.dmr_capture.specs.declared.packet.Packet.{Packet}
 
--- A packet of a capture: where its record or block begins, what stands in front of its datagram, when it came, in nanoseconds, and its
--- octets.
+-- A packet of a capture: where its record or block begins, what stands in front of its datagram, when it came, in nanoseconds, and
+-- its octets.
 pub record CapturedPacket : Type 0 where
   pub octet : ℕ
   pub link : Link
@@ -20,8 +20,8 @@ pub record CapturedPacket : Type 0 where
 abbrev pub captured_packet : Packet → List ℕ → CapturedPacket
 captured_packet p octets = record { octet = p.octet; link = p.link; time = p.time; octets = octets }
 
--- What a reader remembers: which capture it is, in which order its numbers stand, the interfaces of the section of a pcapng, and how
--- many octets were read.
+-- What a reader remembers: which capture it is, in which order its numbers stand, the interfaces of the section of a pcapng, and
+-- how many octets were read.
 pub record CaptureState : Type 0 where
   pub format : Format
   pub order : Order

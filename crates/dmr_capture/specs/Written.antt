@@ -5,8 +5,8 @@ use Rattle.byteorder.specs.Endian.{little_bytes}
 use Rattle.dmr_capture.specs.State.{CapturedPacket}
 use Rattle.dmr_capture.specs.declared.link.Link.TheVariants.{Ipv4}
 
--- The head: the number A1B2C3D4, the version 2.4, two zeros, the length to which packets are kept, and the link type 228, the lowest
--- octet first.
+-- The head: the number A1B2C3D4, the version 2.4, two zeros, the length to which packets are kept, and the link type 228, the
+-- lowest octet first.
 abbrev pub written_head : List ℕ
 written_head =
     0xD4 ∷ 0xC3 ∷ 0xB2 ∷ 0xA1 ∷ 2 ∷ 0 ∷ 4 ∷ 0 ∷ 0 ∷ 0 ∷ 0 ∷ 0 ∷ 0 ∷ 0 ∷ 0 ∷ 0 ∷ 0xFF ∷ 0xFF ∷ 0 ∷ 0 ∷ 0xE4 ∷ 0 ∷ 0 ∷ 0 ∷ []

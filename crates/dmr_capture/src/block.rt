@@ -105,8 +105,8 @@ pub(crate) fn cut_block(cut: Cut, octet: u64) -> CaptureFault
     }
 }
 
-/// Reads what stands behind the first octets of a block that begins at this octet: what is kept to the front of the room, the rest, and
-/// the length once more.
+/// Reads what stands behind the first octets of a block that begins at this octet: what is kept to the front of the room, the rest,
+/// and the length once more.
 pub(crate) fn read_rest<S: Source>(
     source: &mut S,
     octet: u64,

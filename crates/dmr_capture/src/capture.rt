@@ -11,7 +11,7 @@ use crate::block::{
     section_order,
 };
 use crate::fault::CaptureFault;
-use crate::interface::{Interface, resolution_said, counted_time};
+use crate::interface::{Interface, counted_time, resolution_said};
 use crate::link::Link;
 use crate::order::Order;
 use crate::packet::{PACKET_LIMIT, Packet};
@@ -96,7 +96,15 @@ fn cut_head(cut: Cut) -> CaptureFault
 }
 
 impl Capture {
-    ghost use Rattle.dmr_capture.specs.Blocks.{HasHeadLength, IsBehindBlock, IsCaptureBlock, IsBlockHead, IsNumbered, ShowsFaultInBlock, ShowsBlockHeadFault};
+    ghost use Rattle.dmr_capture.specs.Blocks.{
+      HasHeadLength,
+      IsBehindBlock,
+      IsCaptureBlock,
+      IsBlockHead,
+      IsNumbered,
+      ShowsFaultInBlock,
+      ShowsBlockHeadFault,
+    };
     ghost use Rattle.dmr_capture.specs.Blocks.{packets_in, section_type};
     ghost use Rattle.dmr_capture.specs.Found.{IfEnd, IfOnwards, IfPassed, IsFound, IsOfText, IsWithinRoom, found_packets};
     ghost use Rattle.dmr_capture.specs.Orders.{ordered_number};
@@ -145,10 +153,7 @@ impl Capture {
     }
 
     /// Reads the rest of the first section of a pcapng, whose first four octets stand in the buffer.
-    fn begin_pcapng<S: Source>(
-        source: &mut S,
-        head: &mut [u8],
-    ) -> Result<Capture, CaptureFault>
+    fn begin_pcapng<S: Source>(source: &mut S, head: &mut [u8]) -> Result<Capture, CaptureFault>
         requires well { S.has_failed source.old ≡ false }
         requires room { length head.old ≡ 28 }
         requires magic { take 4 head.old ≡ section_type }
@@ -213,14 +218,17 @@ impl Capture {
         requires well { S.has_failed source.old ≡ false }
         requires room { 262144 ≤ length room.old }
         requires near { self.old.octet ≤ octet_limit }
-        ensures packet { IfOk result (λ found. IsFound found (λ packet. (octets : List ℕ) × Consumes (S.left source.old) (S.left source.new) octets
+        ensures packet { IfOk result (λ found. IsFound found (λ packet. (octets : List ℕ)
+            × Consumes (S.left source.old) (S.left source.new) octets
             × IsRecord link fraction self.old octets self.new (captured_packet packet (take packet.length room.new) ∷ []))) }
         ensures passed { IfOk result (λ found. IfPassed found ⊥) }
-        ensures end { IfOk result (λ found. IfEnd found (Consumes (S.left source.old) (S.left source.new) [] × IsAtEnd (S.left source.new) × (self.new ≡ self.old))) }
+        ensures end { IfOk result (λ found. IfEnd found (Consumes (S.left source.old) (S.left source.new) []
+            × IsAtEnd (S.left source.new) × (self.new ≡ self.old))) }
         ensures onwards { IfOk result (λ found. IfOnwards found (self.old.octet < self.new.octet)) }
         ensures far { self.new.octet ≤ octet_limit + 2 ^ 33 }
         ensures whole { IfOk result (λ found. IsFound found (λ packet. length (take packet.length room.new) ≡ packet.length)) }
-        ensures fault { IfErr result (λ e. (part : List ℕ) × Consumes (S.left source.old) (S.left source.new) part × ShowsRecordFault self.old e part) }
+        ensures fault { IfErr result (λ e. (part : List ℕ) × Consumes (S.left source.old) (S.left source.new) part
+            × ShowsRecordFault self.old e part) }
         ensures same { OnErr result (self.new ≡ self.old) }
         ensures well { OnOk result (S.has_failed source.new ≡ false) }
         ensures cut { IfErr result (λ e. is_of_capture_end e ≡ true → IsAtEnd (S.left source.new)) }
@@ -477,15 +485,19 @@ impl Capture {
         requires well { S.has_failed source.old ≡ false }
         requires room { 262144 ≤ length room.old }
         requires near { self.old.octet ≤ octet_limit }
-        ensures packet { IfOk result (λ found. IsFound found (λ packet. (octets : List ℕ) × Consumes (S.left source.old) (S.left source.new) octets
+        ensures packet { IfOk result (λ found. IsFound found (λ packet. (octets : List ℕ)
+            × Consumes (S.left source.old) (S.left source.new) octets
             × IsCaptureBlock self.old octets self.new (captured_packet packet (take packet.length room.new) ∷ []))) }
-        ensures passed { IfOk result (λ found. IfPassed found ((octets : List ℕ) × Consumes (S.left source.old) (S.left source.new) octets
+        ensures passed { IfOk result (λ found. IfPassed found ((octets : List ℕ)
+            × Consumes (S.left source.old) (S.left source.new) octets
             × IsCaptureBlock self.old octets self.new [])) }
-        ensures end { IfOk result (λ found. IfEnd found (Consumes (S.left source.old) (S.left source.new) [] × IsAtEnd (S.left source.new) × (self.new ≡ self.old))) }
+        ensures end { IfOk result (λ found. IfEnd found (Consumes (S.left source.old) (S.left source.new) []
+            × IsAtEnd (S.left source.new) × (self.new ≡ self.old))) }
         ensures onwards { IfOk result (λ found. IfOnwards found (self.old.octet < self.new.octet)) }
         ensures far { self.new.octet ≤ octet_limit + 2 ^ 33 }
         ensures whole { IfOk result (λ found. IsFound found (λ packet. length (take packet.length room.new) ≡ packet.length)) }
-        ensures fault { IfErr result (λ e. (part : List ℕ) × Consumes (S.left source.old) (S.left source.new) part × ShowsFaultInBlock self.old e part) }
+        ensures fault { IfErr result (λ e. (part : List ℕ) × Consumes (S.left source.old) (S.left source.new) part
+            × ShowsFaultInBlock self.old e part) }
         ensures same { OnErr result (self.new ≡ self.old) }
         ensures well { OnOk result (S.has_failed source.new ≡ false) }
         ensures cut { IfErr result (λ e. is_of_capture_end e ≡ true → IsAtEnd (S.left source.new)) }
@@ -517,15 +529,19 @@ impl Capture {
     ) -> Result<Found, CaptureFault>
         requires well { S.has_failed source.old ≡ false }
         requires room { 262144 ≤ length room.old }
-        ensures packet { IfOk result (λ found. IsFound found (λ packet. (octets : List ℕ) × Consumes (S.left source.old) (S.left source.new) octets
+        ensures packet { IfOk result (λ found. IsFound found (λ packet. (octets : List ℕ)
+            × Consumes (S.left source.old) (S.left source.new) octets
             × IsPiece self.old octets self.new (captured_packet packet (take packet.length room.new) ∷ []))) }
-        ensures passed { IfOk result (λ found. IfPassed found ((octets : List ℕ) × Consumes (S.left source.old) (S.left source.new) octets
+        ensures passed { IfOk result (λ found. IfPassed found ((octets : List ℕ)
+            × Consumes (S.left source.old) (S.left source.new) octets
             × IsPiece self.old octets self.new [])) }
-        ensures end { IfOk result (λ found. IfEnd found (Consumes (S.left source.old) (S.left source.new) [] × IsAtEnd (S.left source.new) × (self.new ≡ self.old))) }
+        ensures end { IfOk result (λ found. IfEnd found (Consumes (S.left source.old) (S.left source.new) []
+            × IsAtEnd (S.left source.new) × (self.new ≡ self.old))) }
         ensures onwards { IfOk result (λ found. IfOnwards found (self.old.octet < self.new.octet)) }
         ensures far { self.new.octet ≤ octet_limit + 2 ^ 33 }
         ensures whole { IfOk result (λ found. IsFound found (λ packet. length (take packet.length room.new) ≡ packet.length)) }
-        ensures fault { IfErr result (λ e. (part : List ℕ) × Consumes (S.left source.old) (S.left source.new) part × ShowsFault self.old e part) }
+        ensures fault { IfErr result (λ e. (part : List ℕ) × Consumes (S.left source.old) (S.left source.new) part
+            × ShowsFault self.old e part) }
         ensures same { OnErr result (self.new ≡ self.old) }
         ensures well { OnOk result (S.has_failed source.new ≡ false) }
         ensures cut { IfErr result (λ e. is_of_capture_end e ≡ true → IsAtEnd (S.left source.new)) }
@@ -540,8 +556,8 @@ impl Capture {
         }
     }
 
-    /// Reads the next packet, and its octets to the front of the room, which takes `PACKET_LIMIT`. It answers `None` at the end of the
-    /// capture. What holds no packet is passed over.
+    /// Reads the next packet, and its octets to the front of the room, which takes `PACKET_LIMIT`. It answers `None` at the end of
+    /// the capture. What holds no packet is passed over.
     pub fn next_packet<S: Source>(
         &mut self,
         source: &mut S,
@@ -550,15 +566,18 @@ impl Capture {
         requires well { S.has_failed source.old ≡ false }
         requires room { 262144 ≤ length room.old }
         // What was read holds this packet alone.
-        ensures packet { IfOk result (λ found. IfSome found (λ packet. (octets : List ℕ) × Consumes (S.left source.old) (S.left source.new) octets
+        ensures packet { IfOk result (λ found. IfSome found (λ packet. (octets : List ℕ)
+            × Consumes (S.left source.old) (S.left source.new) octets
             × AreRead self.old octets self.new (captured_packet packet (take packet.length room.new) ∷ []))) }
         ensures whole { IfOk result (λ found. IfSome found (λ packet. length (take packet.length room.new) ≡ packet.length)) }
         // Or it holds none, and is all that there was.
-        ensures end { IfOk result (λ found. IfNone found ((octets : List ℕ) × Consumes (S.left source.old) (S.left source.new) octets
+        ensures end { IfOk result (λ found. IfNone found ((octets : List ℕ)
+            × Consumes (S.left source.old) (S.left source.new) octets
             × AreRead self.old octets self.new [])) }
         ensures done { IfOk result (λ found. IfNone found (IsAtEnd (S.left source.new))) }
         // A fault is shown by the octets behind those that hold none.
-        ensures fault { IfErr result (λ e. (octets : List ℕ) × (part : List ℕ) × Consumes (S.left source.old) (S.left source.new) (octets ++ part)
+        ensures fault { IfErr result (λ e. (octets : List ℕ) × (part : List ℕ)
+            × Consumes (S.left source.old) (S.left source.new) (octets ++ part)
             × AreRead self.old octets self.new [] × ShowsFault self.new e part) }
         // `Read` is told exactly where the device failed.
         ensures well { OnOk result (S.has_failed source.new ≡ false) }

@@ -2,7 +2,8 @@
 
 use thiserror::Error;
 
-/// The first fault that a capture shows, or that its device failed, and the octet at which the record or block begins that shows it.
+/// The first fault that a capture shows, or that its device failed, and the octet at which the record or block begins that shows
+/// it.
 #[derive(Clone, Copy, Debug, Drop, PartialEq, Eq, Error)]
 pub enum CaptureFault {
     /// The file begins as no capture does, or is a pcap of another version than 2.4.
@@ -27,7 +28,8 @@ pub enum CaptureFault {
     /// The packets of a pcap, or a packet of a pcapng, have a link type that isn't read.
     #[error("link type {link}")]
     LinkType { link: u32 },
-    /// A packet, or what describes an interface, has more than 262,144 octets, or so many octets stand before it that no capture has.
+    /// A packet, or what describes an interface, has more than 262,144 octets, or so many octets stand before it that no capture
+    /// has.
     #[error("too long at octet {octet}")]
     TooLong { octet: u64 },
     /// The source failed.

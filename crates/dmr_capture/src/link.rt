@@ -1,6 +1,7 @@
 //! What stands in front of the datagram of a packet.
 ghost use Rattle.std.specs.Prelude.{◌≡◌, ◌≢◌, ◌^◌, ◌<◌, ◌≤◌, Some, None, IfSome, IfNone, length, true};
-ghost use Rattle.dmr_capture.specs.Links.{begins_with_tag, behind_link, behind_tags, behind_type, ipv4_carried, ipv4_of, link_number};
+ghost use Rattle.dmr_capture.specs.Links.{begins_with_tag, behind_link, behind_tags, behind_type, ipv4_carried, ipv4_of};
+ghost use Rattle.dmr_capture.specs.Links.{link_number};
 
 use byteorder::{BigEndian, ByteOrder};
 

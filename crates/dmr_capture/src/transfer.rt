@@ -17,8 +17,8 @@ pub(crate) enum Cut {
 /// How many octets are passed over at once, at most.
 const CHUNK: usize = 1_024;
 
-/// Reads octets to the places of a buffer from `from` up to `to`, or fewer where the source ends, and answers up to which place they
-/// have come.
+/// Reads octets to the places of a buffer from `from` up to `to`, or fewer where the source ends, and answers up to which place
+/// they have come.
 pub(crate) fn fill<S: Source>(
     source: &mut S,
     buffer: &mut [u8],

@@ -20,7 +20,8 @@ pub struct Udp<'a> {
 /// There is none in a fragment, in a packet of another protocol, and where less is there than the heads say. UDP is RFC 768.
 pub fn udp_in(packet: &[u8]) -> Option<Udp<'_>>
     ensures some { IfSome result (λ udp. CarriesUdp packet.now udp.source udp.destination udp.payload.now) }
-    ensures none { IfNone result ((source destination : ℕ) (payload : List ℕ) → ¬ CarriesUdp packet.now source destination payload) }
+    ensures none { IfNone result ((source destination : ℕ) (payload : List ℕ)
+        → ¬ CarriesUdp packet.now source destination payload) }
 {
     if packet.len() < 20 || packet[9] != 17 {
         return None;

@@ -51,13 +51,9 @@ fn put_both<K: Sink>(sink: &mut K, front: &[u8], rest: &[u8]) -> Result<(), Reco
     put(sink, rest)
 }
 
-/// Writes a record of a capture: an IPv4 packet, and when it came, in microseconds behind the begin of the year 1970. At an `Err` the
-/// sink failed with a front of the record out.
-pub fn write_packet<K: Sink>(
-    sink: &mut K,
-    time: u64,
-    octets: &[u8],
-) -> Result<(), RecordFault>
+/// Writes a record of a capture: an IPv4 packet, and when it came, in microseconds behind the begin of the year 1970. At an `Err`
+/// the sink failed with a front of the record out.
+pub fn write_packet<K: Sink>(sink: &mut K, time: u64, octets: &[u8]) -> Result<(), RecordFault>
     requires well { K.has_failed sink.old ≡ false }
     requires time { time < 2 ^ 32 * 1000000 }
     requires short { length octets.now < 2 ^ 16 }

@@ -171,7 +171,12 @@ fn captures_at_fault(rt: HostRuntime) -> Result<(), Fail> {
 
 #[test]
 fn blocks_at_fault(rt: HostRuntime) -> Result<(), Fail> {
-    expect_lines(&rt, HOTSPOT_IN_BLOCKS, ALL, "48 Ipv4 1000000000 83 IPv4\nend")?;
+    expect_lines(
+        &rt,
+        HOTSPOT_IN_BLOCKS,
+        ALL,
+        "48 Ipv4 1000000000 83 IPv4\nend",
+    )?;
     expect_lines(&rt, HOTSPOT_IN_BLOCKS, 163, "cut block at octet 48")?;
     expect_lines(&rt, HOTSPOT_IN_BLOCKS, 49, "cut block at octet 48")?;
     expect_lines(&rt, HOTSPOT_IN_BLOCKS, 27, "cut block at octet 0")?;
@@ -206,13 +211,21 @@ fn blocks_at_fault(rt: HostRuntime) -> Result<(), Fail> {
 fn interfaces_without_end(rt: HostRuntime) -> Result<(), Fail> {
     let alloc = rt.alloc();
     let mut digits = String::new(alloc);
-    write!(digits, "0A0D0D0A1C0000004D3C2B1A01000000FFFFFFFFFFFFFFFF1C000000")?;
+    write!(
+        digits,
+        "0A0D0D0A1C0000004D3C2B1A01000000FFFFFFFFFFFFFFFF1C000000"
+    )?;
     for _ in 0..257u16 {
         write!(digits, "0100000014000000E4000000FFFF000014000000")?;
     }
     // 28 octets of the section, and 256 interfaces of 20.
     expect_lines(&rt, digits.as_str(), 5_148, "end")?;
-    expect_lines(&rt, digits.as_str(), ALL, "too many interfaces at octet 5148")
+    expect_lines(
+        &rt,
+        digits.as_str(),
+        ALL,
+        "too many interfaces at octet 5148",
+    )
 }
 
 #[test]

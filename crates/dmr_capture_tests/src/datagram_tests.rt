@@ -136,8 +136,8 @@ fn captures_as_an_outgoing_list(rt: HostRuntime) -> Result<(), Fail> {
         02FFFFFFEF0103001C4500001C123400004011509B0C0000010C0000021398139A0008C0A9\
         02FFFFFFFF0103001C4500001C123400004011509B0C0000010C0000021398139A0008C0A9";
     expect_list(&rt, full, TWICE, counted(2, 0), list)?;
-    // What fills up a packet isn't in its record. A nanosecond less than 60 milliseconds is the same frame, and the clock that was set
-    // back leaves the last frame.
+    // What fills up a packet isn't in its record. A nanosecond less than 60 milliseconds is the same frame, and the clock that was
+    // set back leaves the last frame.
     let list = "444D524F01000000\
         02000000000100001C4500001C123400004011509B0C0000010C0000021398139A0008C0A9\
         02000000000100001C4500001C123400004011509B0C0000010C0000021398139A0008C0A9\
@@ -195,11 +195,13 @@ fn sources_that_fail(rt: HostRuntime) -> Result<(), Fail> {
     let mut source = FailsAt::new(FromRead::new(octets.as_slice()), 1);
     let mut sink = ToWrite::new(Vec::new(alloc));
     let end = export_datagrams(alloc, BOTH, &mut source, &mut sink);
-    assert!(rt; end == Err(ExportEnd::File(FaultLine {
-        fault: RecordFault::Read,
-        octet: 8,
-        place: None,
-    })));
+    assert!(rt;
+        end == Err(ExportEnd::File(FaultLine {
+            fault: RecordFault::Read,
+            octet: 8,
+            place: None,
+        }))
+    );
     assert_eq!(rt; sink.into_inner().len(), 24);
     let capture = hex::decode(alloc, TWICE.as_bytes())?;
     let mut source = FailsAt::new(FromRead::new(capture.as_slice()), 2);

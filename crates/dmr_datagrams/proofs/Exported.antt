@@ -1,5 +1,6 @@
 -- The capture of a received list goes on, record by record.
-use Rattle.std.proofs.Common.{◌≡◌, ◌≤◌, ℕ, ◌+◌, List, [], ◌∷◌, ◌++◌, length, Bool, true, false, if◌then◌else◌, Option, None, Some, refl, sym, ap, ◌∙◌, subst}
+use Rattle.std.proofs.Common.{◌≡◌, ◌≤◌, ℕ, ◌+◌, List, [], ◌∷◌, ◌++◌, length, Bool, true, false, if◌then◌else◌, Option, None}
+use Rattle.std.proofs.Common.{Some, refl, sym, ap, ◌∙◌, subst}
 use Rattle.std.proofs.Common.{append-nil, append_assoc, arith}
 use Rattle.std.proofs.ByRecursion.{All-push, All-append}
 use Rattle.std.proofs.lemmas.List.{length-append}
@@ -41,7 +42,7 @@ file_more : (receipts : List Receipt) (next : Receipt)
     → received_file (receipts ++ next ∷ []) ≡ received_file receipts ++ receipt_octets next
 file_more receipts next =
     let records = flat_map-append receipt_octets receipts (next ∷ [])
-        ∙ ap (λ l. receipts_octets receipts ++ l) (append-nil (receipt_octets next)) in
+    ∙ ap (λ l. receipts_octets receipts ++ l) (append-nil (receipt_octets next)) in
     ap (λ l. head_octets received_magic ++ l) records
     ∙ sym (append_assoc (head_octets received_magic) (receipts_octets receipts) (receipt_octets next))
 

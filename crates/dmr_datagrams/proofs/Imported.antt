@@ -11,7 +11,8 @@ use Rattle.std.proofs.KnownBytes.{Appends-trans, Consumes-trans}
 use Rattle.dmr_record.specs.Devices.{Tears}
 use Rattle.dmr_record.proofs.Torn.{Tears_after}
 use Rattle.dmr_record.specs.Head.{head_octets, outgoing_magic, record_limit}
-use Rattle.dmr_record.specs.Outgoing.{AreInFrameOrder, IsSending, Sending, last_frame, outgoing_file, sending_octets, sendings_octets}
+use Rattle.dmr_record.specs.Outgoing.{AreInFrameOrder, IsSending, Sending, last_frame, outgoing_file, sending_octets}
+use Rattle.dmr_record.specs.Outgoing.{sendings_octets}
 use Rattle.dmr_capture.proofs.InARow.{read_none, read_on}
 use Rattle.dmr_capture.specs.Reading.{AreRead, BeginsCapture}
 use Rattle.dmr_capture.specs.State.{CaptureState, CapturedPacket}
@@ -19,10 +20,10 @@ use Rattle.dmr_datagrams.specs.Imports.{AreImported, AreSendings, IsListTorn, Is
 use Rattle.dmr_datagrams.specs.Sendings.{imported, next_frame, no_progress, progress_behind, progress_of, progress_of_found}
 use Rattle.dmr_datagrams.specs.Sendings.{sendings_from, sendings_of, sendings_of_found, to_radios}
 use Rattle.dmr_datagrams.specs.declared.progress.ImportSettings.{ImportSettings}
-use Rattle.dmr_datagrams.specs.declared.progress.Progress.{Progress}
+use Rattle.dmr_datagrams.specs.declared.progress.ListedSoFar.{ListedSoFar}
 
 -- the records of a packet more stand behind those before
-pub sendings_more : (settings : ImportSettings) (p : Progress) (packets : List CapturedPacket) (next : CapturedPacket)
+pub sendings_more : (settings : ImportSettings) (p : ListedSoFar) (packets : List CapturedPacket) (next : CapturedPacket)
     → sendings_from settings p (packets ++ next ∷ [])
     ≡ sendings_from settings p packets ++ sendings_of settings (progress_behind settings p packets) next
 sendings_more settings p [] next = append-nil (sendings_of settings p next)
@@ -32,13 +33,13 @@ sendings_more settings p (packet ∷ packets) next =
     (sendings_of settings (progress_behind settings (progress_of settings p packet) packets) next))
 
 -- and so does the progress
-pub progress_more : (settings : ImportSettings) (p : Progress) (packets : List CapturedPacket) (next : CapturedPacket)
+pub progress_more : (settings : ImportSettings) (p : ListedSoFar) (packets : List CapturedPacket) (next : CapturedPacket)
     → progress_behind settings p (packets ++ next ∷ []) ≡ progress_of settings (progress_behind settings p packets) next
 progress_more settings p [] next = refl
 progress_more settings p (packet ∷ packets) next = progress_more settings (progress_of settings p packet) packets next
 
 -- How far a list has got tells of its records: how many there are, and the frame of the last.
-pub record Tells (p : Progress) (sendings : List Sending) : Type 0 where
+pub record Tells (p : ListedSoFar) (sendings : List Sending) : Type 0 where
   pub records : p.records ≡ length sendings
   pub last : last_frame 0 sendings ≡ p.last
 
@@ -51,7 +52,7 @@ order_pushed : (last : ℕ) (sendings : List Sending) (next : Sending) → AreIn
 order_pushed last [] next order later = (later, tt)
 order_pushed last (s ∷ rest) next (first, order) later = (first, order_pushed s.frame rest next order later)
 
-tells_found : (settings : ImportSettings) (p : Progress) (time : ℕ) (found : Option (List ℕ)) (sendings : List Sending)
+tells_found : (settings : ImportSettings) (p : ListedSoFar) (time : ℕ) (found : Option (List ℕ)) (sendings : List Sending)
     → Tells p sendings → Tells (progress_of_found settings p time found) (sendings ++ sendings_of_found settings p time found)
 tells_found settings p time None sendings tells = rw (append-nil sendings) tells
 tells_found settings p time (Some datagram) sendings tells =
@@ -67,7 +68,7 @@ tells_found settings p time (Some datagram) sendings tells =
       last = last_pushed 0 sendings next;
     }
 
-order_found : (settings : ImportSettings) (p : Progress) (time : ℕ) (found : Option (List ℕ)) (sendings : List Sending)
+order_found : (settings : ImportSettings) (p : ListedSoFar) (time : ℕ) (found : Option (List ℕ)) (sendings : List Sending)
     → Tells p sendings → AreInFrameOrder 0 sendings → AreInFrameOrder 0 (sendings ++ sendings_of_found settings p time found)
 order_found settings p time None sendings tells order = rw (append-nil sendings) order
 order_found settings p time (Some datagram) sendings tells order =
@@ -145,7 +146,8 @@ read_to_none state head a b begins took = record {
 }
 
 pub imported_none : (settings : ImportSettings) (state : CaptureState) (head : List ℕ) (a b d e : Option (List ℕ))
-    → BeginsCapture head state → Consumes a b head → Appends d e (head_octets outgoing_magic) → AreImported settings state [] a b d e
+    → BeginsCapture head state → Consumes a b head → Appends d e (head_octets outgoing_magic)
+    → AreImported settings state [] a b d e
 imported_none settings state head a b d e begins took put = record {
   read = read_to_none state head a b begins took;
   list = record { each = tt; order = tt; few = omega arith };

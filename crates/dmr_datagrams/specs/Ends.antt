@@ -38,6 +38,6 @@ IfImportMemory import.Memory holds = holds
 IfImportMemory _ holds = Unit {0}
 
 -- Nothing was read, and nothing written.
-pub record IsUntouched {S K : Type 0} (source source' : S) (sink sink' : K) : Type 0 where
+pub record IsNothingCarried {S K : Type 0} (source source' : S) (sink sink' : K) : Type 0 where
   pub read : source' ≡ source
   pub written : sink' ≡ sink

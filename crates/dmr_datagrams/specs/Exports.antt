@@ -4,7 +4,8 @@ use Rattle.std.specs.Io.KnownBytes.{Appends, Consumes, IsAtEnd}
 use Rattle.std.specs.List.{AllByRecursion}
 use Rattle.dmr_record.specs.Devices.{Tears}
 use Rattle.dmr_record.specs.Head.{ShowsHeadFault, received_magic}
-use Rattle.dmr_record.specs.Received.{FollowEachOther, Follows, IsReadable, Receipt, ShowsReceivedFault, last_fields, received_fields}
+use Rattle.dmr_record.specs.Received.{FollowEachOther, Follows, IsReadable, Receipt, ShowsReceivedFault, last_fields}
+use Rattle.dmr_record.specs.Received.{received_fields}
 use Rattle.dmr_record.specs.Received.{receipt_octets, received_file, received_limit}
 use Rattle.dmr_record.specs.declared.fault.RecordFault.TheVariants.{TooLong}
 use Rattle.dmr_recording.specs.declared.fault_line.FaultLine.{FaultLine}
@@ -19,11 +20,12 @@ pub record AreReceipts (receipts : List Receipt) : Type 0 where
   pub order : FollowEachOther None receipts
 
 -- These records of a list were read, head and all, and their capture was written. It can be read.
-pub record AreExported (settings : ExportSettings) (receipts : List Receipt) (left left' held held' : Option (List ℕ)) : Type 0 where
-  pub are : AreReceipts receipts
-  pub read : Consumes left left' (received_file receipts)
-  pub fit : AllByRecursion IsWritable (exported settings receipts)
-  pub written : Appends held held' (written_capture (exported settings receipts))
+pub record AreExported (settings : ExportSettings) (receipts : List Receipt) (left left' held held' : Option (List ℕ)) : Type 0
+  where
+    pub are : AreReceipts receipts
+    pub read : Consumes left left' (received_file receipts)
+    pub fit : AllByRecursion IsWritable (exported settings receipts)
+    pub written : Appends held held' (written_capture (exported settings receipts))
 
 -- A list was read to its end, and its capture was written.
 pub record IsListExported (settings : ExportSettings) (counted : ExportedDatagrams) (left left' held held' : Option (List ℕ))
@@ -43,14 +45,15 @@ pub record IsListHeadFault (fault : FaultLine) (left left' held held' : Option (
   pub written : held' ≡ held
 
 -- These records were read and their capture written, and the octets behind them show this fault, at the octet where they begin.
-pub record IsListRecordFault (settings : ExportSettings) (fault : FaultLine) (left left' held held' : Option (List ℕ)) : Type 0 where
-  pub list : List Receipt
-  pub left_mid : Option (List ℕ)
-  pub each : AreExported settings list left left_mid held held'
-  pub part : List ℕ
-  pub read : Consumes left_mid left' part
-  pub shown : ShowsReceivedFault received_limit (length list) (last_fields None list) fault.fault part
-  pub octet : fault.octet ≡ length (received_file list)
+pub record IsListRecordFault (settings : ExportSettings) (fault : FaultLine) (left left' held held' : Option (List ℕ)) : Type 0
+  where
+    pub list : List Receipt
+    pub left_mid : Option (List ℕ)
+    pub each : AreExported settings list left left_mid held held'
+    pub part : List ℕ
+    pub read : Consumes left_mid left' part
+    pub shown : ShowsReceivedFault received_limit (length list) (last_fields None list) fault.fault part
+    pub octet : fault.octet ≡ length (received_file list)
 
 -- The same, and the record behind them came later than a capture can say.
 pub record IsTimeFault (settings : ExportSettings) (fault : FaultLine) (left left' held held' : Option (List ℕ)) : Type 0 where

@@ -1,5 +1,6 @@
 -- Which records an outgoing list has that is made of a capture, and in which frames.
-use Rattle.std.specs.Prelude.{◌≡◌, ◌⊎◌, ℕ, ◌+◌, ◌-◌, ◌/◌, ◌^◌, ◌≤◌, ◌==◌, ◌||◌, max, if◌then◌else◌, Bool, List, [], ◌∷◌, ◌++◌, Option, None, Some}
+use Rattle.std.specs.Prelude.{◌≡◌, ◌⊎◌, ℕ, ◌+◌, ◌-◌, ◌/◌, ◌^◌, ◌≤◌, ◌==◌, ◌||◌, max, if◌then◌else◌, Bool, List, [], ◌∷◌, ◌++◌}
+use Rattle.std.specs.Prelude.{Option, None, Some}
 use Rattle.std.specs.Prelude.{length, slice_index}
 use Rattle.dmr_capture.specs.Links.{ipv4_carried}
 use Rattle.dmr_capture.specs.State.{CapturedPacket}
@@ -7,7 +8,7 @@ use Rattle.dmr_capture.specs.declared.link.Link.{Link}
 use Rattle.dmr_record.specs.Head.{record_limit}
 use Rattle.dmr_record.specs.Outgoing.{Sending}
 use Rattle.dmr_datagrams.specs.declared.progress.ImportSettings.{ImportSettings}
-use Rattle.dmr_datagrams.specs.declared.progress.Progress.{Progress}
+use Rattle.dmr_datagrams.specs.declared.progress.ListedSoFar.{ListedSoFar}
 
 -- whether the destination of an IPv4 packet, which stands at 16, begins with 12 or 225
 abbrev pub is_to_radios : List ℕ → Bool
@@ -35,10 +36,10 @@ first_of None time = time
 first_of (Some first) time = first
 
 -- the frame of the record of a packet, in a list that has got this far
-abbrev pub next_frame : ImportSettings → Progress → ℕ → ℕ
+abbrev pub next_frame : ImportSettings → ListedSoFar → ℕ → ℕ
 next_frame settings p time = frame_of settings.first_frame (first_of p.first time) p.last time
 
-abbrev pub sendings_of_found : ImportSettings → Progress → ℕ → Option (List ℕ) → List Sending
+abbrev pub sendings_of_found : ImportSettings → ListedSoFar → ℕ → Option (List ℕ) → List Sending
 sendings_of_found settings p time None = []
 sendings_of_found settings p time (Some datagram) = record {
   frame = next_frame settings p time;
@@ -49,30 +50,30 @@ sendings_of_found settings p time (Some datagram) = record {
 } ∷ []
 
 -- the record of a packet, or none
-abbrev pub sendings_of : ImportSettings → Progress → CapturedPacket → List Sending
+abbrev pub sendings_of : ImportSettings → ListedSoFar → CapturedPacket → List Sending
 sendings_of settings p packet = sendings_of_found settings p packet.time (to_radios packet.link packet.octets)
 
-abbrev pub progress_of_found : ImportSettings → Progress → ℕ → Option (List ℕ) → Progress
+abbrev pub progress_of_found : ImportSettings → ListedSoFar → ℕ → Option (List ℕ) → ListedSoFar
 progress_of_found settings p time None = p
 progress_of_found settings p time (Some datagram) =
     record { first = Some (first_of p.first time); last = next_frame settings p time; records = p.records + 1 }
 
 -- where the list has got to behind a packet
-abbrev pub progress_of : ImportSettings → Progress → CapturedPacket → Progress
+abbrev pub progress_of : ImportSettings → ListedSoFar → CapturedPacket → ListedSoFar
 progress_of settings p packet = progress_of_found settings p packet.time (to_radios packet.link packet.octets)
 
 -- in front of a list
-abbrev pub no_progress : Progress
+abbrev pub no_progress : ListedSoFar
 no_progress = record { first = None; last = 0; records = 0 }
 
 -- the records of packets, in their order, in a list that has got this far
-abbrev pub sendings_from : ImportSettings → Progress → List CapturedPacket → List Sending
+abbrev pub sendings_from : ImportSettings → ListedSoFar → List CapturedPacket → List Sending
 sendings_from settings p [] = []
 sendings_from settings p (packet ∷ packets) =
     sendings_of settings p packet ++ sendings_from settings (progress_of settings p packet) packets
 
 -- where it has got to behind them
-abbrev pub progress_behind : ImportSettings → Progress → List CapturedPacket → Progress
+abbrev pub progress_behind : ImportSettings → ListedSoFar → List CapturedPacket → ListedSoFar
 progress_behind settings p [] = p
 progress_behind settings p (packet ∷ packets) = progress_behind settings (progress_of settings p packet) packets
 
@@ -81,7 +82,7 @@ abbrev pub imported : ImportSettings → List CapturedPacket → List Sending
 imported settings packets = sendings_from settings no_progress packets
 
 -- A packet is for radios, and there is no room for its record in the list, or for its frame in a record.
-pub record IsPastList (settings : ImportSettings) (p : Progress) (packet : CapturedPacket) : Type 0 where
+pub record IsPastList (settings : ImportSettings) (p : ListedSoFar) (packet : CapturedPacket) : Type 0 where
   pub datagram : List ℕ
   pub taken : to_radios packet.link packet.octets ≡ Some datagram
   pub past : (record_limit ≤ p.records)

@@ -3,7 +3,7 @@ ghost use Rattle.std.specs.Prelude.{◌≡◌, ◌≤◌, true, false, length, I
 ghost use Rattle.std.specs.Io.KnownBytes.{IsAtEnd};
 ghost use Rattle.dmr_record.specs.Faults.{is_of_end, is_device_fault};
 ghost use Rattle.dmr_recording.specs.Endings.{IfFile, IfNotWritten};
-ghost use Rattle.dmr_datagrams.specs.Ends.{IfListAtFault, IfCaptureUnwritten, IfExportMemory, IsUntouched};
+ghost use Rattle.dmr_datagrams.specs.Ends.{IfListAtFault, IfCaptureUnwritten, IfExportMemory, IsNothingCarried};
 ghost use Rattle.dmr_datagrams.specs.Exports.{IsCaptureTorn, IsListExported, IsDatagramExportFault};
 
 use crate::ends::{ExportEnd, ExportedDatagrams};
@@ -82,8 +82,8 @@ fn export_list<S: Source, K: Sink>(
 /// Writes the datagrams of a received list as a capture of IPv4 packets, as far as the list can be read, and answers how many. The
 /// source stands before the head. Each packet is written as soon as its record was read.
 ///
-/// A record came 60 milliseconds behind the begin for each frame, and 30 more in slot 2. One that came later than a capture can say,
-/// in 32 bits of seconds, is `TooLong`. The list is this project's own, and the capture a pcap of link type 228.
+/// A record came 60 milliseconds behind the begin for each frame, and 30 more in slot 2. One that came later than a capture can
+/// say, in 32 bits of seconds, is `TooLong`. The list is this project's own, and the capture a pcap of link type 228.
 pub fn export_datagrams<S: Source, K: Sink>(
     alloc: Global,
     settings: ExportSettings,
@@ -102,7 +102,7 @@ pub fn export_datagrams<S: Source, K: Sink>(
     // Or a front of the capture of what was read was.
     ensures torn { IfErr result (λ e. IfCaptureUnwritten e (IsCaptureTorn settings
         (S.left source.old) (S.left source.new) (K.held sink.old) (K.held sink.new))) }
-    ensures memory { IfErr result (λ e. IfExportMemory e (IsUntouched source.old source.new sink.old sink.new)) }
+    ensures memory { IfErr result (λ e. IfExportMemory e (IsNothingCarried source.old source.new sink.old sink.new)) }
     // `Read` is told exactly where the source failed, and `Output` where the sink did.
     ensures source { IfErr result (λ e. IfListAtFault e (λ fault. S.has_failed source.new ≡ is_device_fault fault.fault)) }
     ensures sink { IfErr result (λ e. IfCaptureUnwritten e (K.has_failed sink.new ≡ true)) }

@@ -3,12 +3,12 @@ ghost use Rattle.std.specs.Prelude.{◌≡◌, ◌≤◌, true, false, length, I
 ghost use Rattle.std.specs.Io.KnownBytes.{IsAtEnd};
 ghost use Rattle.dmr_record.specs.Received.{IsSlot};
 ghost use Rattle.dmr_capture.specs.Reading.{is_of_capture_end, is_capture_read};
-ghost use Rattle.dmr_datagrams.specs.Ends.{IfCaptureAtFault, IfListUnwritten, IfImportMemory, IsUntouched};
+ghost use Rattle.dmr_datagrams.specs.Ends.{IfCaptureAtFault, IfListUnwritten, IfImportMemory, IsNothingCarried};
 ghost use Rattle.dmr_datagrams.specs.Halts.{IfCapture, IfListNotGiven};
 ghost use Rattle.dmr_datagrams.specs.Imports.{IsCaptureImported, IsImportFault, IsListTorn};
 
 use crate::ends::{ImportEnd, ImportedDatagrams};
-use crate::progress::{ImportSettings, Progress, Untaken};
+use crate::progress::{ImportSettings, ListedSoFar, Untaken};
 use dmr_capture::{Capture, CaptureFault, PACKET_LIMIT};
 use dmr_record::{OUTGOING_MAGIC, Sink, Source, write_head};
 use std::alloc::Global;
@@ -53,7 +53,7 @@ fn import_list<S: Source, K: Sink>(
         return Err(Halt::Output);
     }
     let mut packets: u64 = 0;
-    let mut progress = Progress::new();
+    let mut progress = ListedSoFar::new();
     loop {
         let packet = match capture.next_packet(source, room) {
             Ok(Some(packet)) => packet,
@@ -77,8 +77,8 @@ fn import_list<S: Source, K: Sink>(
     }
 }
 
-/// Writes an outgoing list of the datagrams of a capture that are for radios, as far as the capture can be read, and answers how many
-/// there are. The source stands in front of the capture. Each record is written as soon as its packet was read.
+/// Writes an outgoing list of the datagrams of a capture that are for radios, as far as the capture can be read, and answers how
+/// many there are. The source stands in front of the capture. Each record is written as soon as its packet was read.
 ///
 /// A record is written for each IPv4 packet whose destination begins with 12 or 225. Nothing else of it is judged. Its frame is the
 /// first one, and one more for each 60 milliseconds that its packet came behind the first that was taken, but none before the last.
@@ -103,7 +103,7 @@ pub fn import_datagrams<S: Source, K: Sink>(
     // Or a front of the list of what was read was.
     ensures torn { IfErr result (λ e. IfListUnwritten e (IsListTorn settings
         (S.left source.old) (S.left source.new) (K.held sink.old) (K.held sink.new))) }
-    ensures memory { IfErr result (λ e. IfImportMemory e (IsUntouched source.old source.new sink.old sink.new)) }
+    ensures memory { IfErr result (λ e. IfImportMemory e (IsNothingCarried source.old source.new sink.old sink.new)) }
     // `Read` is told exactly where the source failed, and `Output` where the sink did.
     ensures source { IfErr result (λ e. IfCaptureAtFault e (λ fault. S.has_failed source.new ≡ is_capture_read fault)) }
     ensures sink { IfErr result (λ e. IfListUnwritten e (K.has_failed sink.new ≡ true)) }

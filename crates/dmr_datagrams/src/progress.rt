@@ -28,7 +28,7 @@ pub struct ImportSettings {
 
 /// Where an outgoing list that is made of a capture has got to.
 #[derive(Clone, Copy, Debug, Drop, PartialEq, Eq)]
-pub(crate) struct Progress {
+pub(crate) struct ListedSoFar {
     /// When the first packet came that was taken, in nanoseconds.
     pub(crate) first: Option<u128>,
     /// The frame of the last record, or 0.
@@ -62,8 +62,8 @@ fn to_radios(link: Link, octets: &[u8]) -> Option<&[u8]>
     }
 }
 
-/// The frame of a record, by the time of its packet and that of the first, where a record has room for it. It is no earlier than that
-/// of the last record.
+/// The frame of a record, by the time of its packet and that of the first, where a record has room for it. It is no earlier than
+/// that of the last record.
 fn frame_of(first_frame: u32, first: u128, last: u32, time: u128) -> Option<u32>
     ensures some { IfSome result (λ frame. frame ≡ frame_of first_frame first last time) }
     ensures none { IfNone result (2 ^ 32 ≤ asked_frame first_frame first time) }
@@ -76,12 +76,12 @@ fn frame_of(first_frame: u32, first: u128, last: u32, time: u128) -> Option<u32>
     }
 }
 
-impl Progress {
+impl ListedSoFar {
     /// In front of a list.
-    pub(crate) fn new() -> Progress
+    pub(crate) fn new() -> ListedSoFar
         ensures value { result ≡ record { first = None; last = 0; records = 0 } }
     {
-        Progress {
+        ListedSoFar {
             first: None,
             last: 0,
             records: 0,
@@ -95,7 +95,7 @@ impl Progress {
         packet: Packet,
         octets: &[u8],
         sink: &mut K,
-    ) -> Result<Progress, Untaken>
+    ) -> Result<ListedSoFar, Untaken>
         requires slot { IsSlot settings.slot }
         requires well { K.has_failed sink.old ≡ false }
         ensures progress { IfOk result (λ new. new ≡ progress_of settings self (captured_packet packet octets.now)) }
@@ -132,7 +132,7 @@ impl Progress {
             first_frame: _,
         } = settings;
         match write_outgoing(sink, frame, slot, confirmed, full, datagram) {
-            Ok(()) => Ok(Progress {
+            Ok(()) => Ok(ListedSoFar {
                 first: Some(first),
                 last: frame,
                 records: self.records + 1,

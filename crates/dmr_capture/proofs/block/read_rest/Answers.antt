@@ -40,7 +40,8 @@ returns-then-u32_at-head-clause-fault g c =
       Consumes-trans _ _ _ (kept ++ passed) last (Consumes-trans _ _ _ kept passed took next) end,
       (
         refl,
-        bad_rest c.args.head kept passed last _ (omega (arith, whole)) passes c.requires.fits (omega (arith, four)) c.fill_whole-2.auto.buffer filled
+        bad_rest c.args.head kept passed last _ (omega (arith, whole)) passes c.requires.fits (omega (arith, four))
+            c.fill_whole-2.auto.buffer filled
             (λ same. c.if-u32_at-head.true (c.u32_at.ensures.number ∙ same)),
       ),
     )
@@ -53,6 +54,7 @@ returns-clause-rest g c =
       kept ++ passed ++ last,
       Consumes-trans _ _ _ (kept ++ passed) last (Consumes-trans _ _ _ kept passed took next) end,
       subst (λ l. IsBlockRest c.args.head l (kept ++ passed ++ last)) (sym stands)
-          (whole_rest c.args.head kept passed last _ (omega (arith, whole)) passes c.requires.fits (omega (arith, four)) c.fill_whole-2.auto.buffer filled
+          (whole_rest c.args.head kept passed last _ (omega (arith, whole)) passes c.requires.fits (omega (arith, four))
+          c.fill_whole-2.auto.buffer filled
           (sym c.u32_at.ensures.number ∙ c.if-u32_at-head.false)),
     )

@@ -16,22 +16,23 @@ passed order options code len resolution begins more (inr other) there says =
 pub returns-then-code-eq0 : goal.returns-then-code-eq0
 returns-then-code-eq0 c =
     let begins : BeginsWithOption c.args.order c.loop-rest.rest.now c.u16_at-code.result c.from-length.result =
-        record {
-          there = c.loop-rest-test.true;
-          numbered = c.u16_at-code.ensures.number;
-          long = c.from-length.ensures ∙ c.u16_at.ensures.number;
-        } in
+    record {
+      there = c.loop-rest-test.true;
+      numbered = c.u16_at-code.ensures.number;
+      long = c.from-length.ensures ∙ c.u16_at.ensures.number;
+    } in
     let last : (c.u16_at-code.result ≡ 0) ⊎ (length c.loop-rest.rest.now < option_length c.from-length.result) =
-        elim c.then-code-eq0.either [ inl none ↦ inl none | inr less ↦ inr less.1 ] in
+    elim c.then-code-eq0.either [ inl none ↦ inl none | inr less ↦ inr less.1 ] in
     record { said = c.loop-rest.invariant.says 6 (LastOption _ _ _ begins last) }
 
 pub returns-then-length-eq1 : goal.returns-then-length-eq1
 returns-then-length-eq1 c =
-    let nine : 9 ≡ ordered_number c.args.order 2 0 c.loop-rest.rest.now = sym c.if-code-eq-RESOLUTION.true ∙ c.u16_at-code.ensures.number in
+    let nine : 9 ≡ ordered_number c.args.order 2 0 c.loop-rest.rest.now = sym c.if-code-eq-RESOLUTION.true
+    ∙ c.u16_at-code.ensures.number in
     let one : 1 ≡ ordered_number c.args.order 2 2 c.loop-rest.rest.now =
-        sym c.if-length-eq1.true ∙ c.from-length.ensures ∙ c.u16_at.ensures.number in
+    sym c.if-length-eq1.true ∙ c.from-length.ensures ∙ c.u16_at.ensures.number in
     let room : option_length 1 ≤ length c.loop-rest.rest.now =
-        subst (λ n. option_length n ≤ length c.loop-rest.rest.now) c.if-length-eq1.true c.if-rest-whole.false in
+    subst (λ n. option_length n ≤ length c.loop-rest.rest.now) c.if-length-eq1.true c.if-rest-whole.false in
     record {
       said = c.loop-rest.invariant.says _
           (Resolution _ (record { there = c.loop-rest-test.true; numbered = nine; long = one }) room);
@@ -40,11 +41,11 @@ returns-then-length-eq1 c =
 pub loop-rest-preserved : goal.loop-rest-preserved
 loop-rest-preserved c =
     let begins : BeginsWithOption c.args.order c.loop-rest.rest.now c.u16_at-code.result c.from-length.result =
-        record {
-          there = c.loop-rest-test.true;
-          numbered = c.u16_at-code.ensures.number;
-          long = c.from-length.ensures ∙ c.u16_at.ensures.number;
-        } in
+    record {
+      there = c.loop-rest-test.true;
+      numbered = c.u16_at-code.ensures.number;
+      long = c.from-length.ensures ∙ c.u16_at.ensures.number;
+    } in
     record {
       says = λ r says. c.loop-rest.invariant.says r
           (passed _ _ _ _ r begins c.if-code-eq0.false c.else-code-eq-RESOLUTION.either c.if-rest-whole.false

@@ -16,7 +16,8 @@ loop-done-preserved g c = record {
   within = search rules;
   room = search rules;
   well = search rules;
-  octets = filled_more _ _ _ _ _ _ _ _ _ _ (omega arith) c.in-Ok.ensures.count c.loop-done.invariant.octets c.in-Ok.ensures.octets.0;
+  octets = filled_more _ _ _ _ _ _ _ _ _ _ (omega arith) c.in-Ok.ensures.count c.loop-done.invariant.octets
+      c.in-Ok.ensures.octets.0;
 }
 
 pub returns-in-Err-clause-part : goal.returns-in-Err-clause-part

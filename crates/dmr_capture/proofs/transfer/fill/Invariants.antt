@@ -8,7 +8,8 @@ invariant-loop-done g l = record {
   within : l.done ≤ l.to;
   room : l.to ≤ length l.buffer;
   well : g.S.Source.has_failed l.source ≡ false;
-  octets : Filled (g.S.Source.left l.initial.source) (g.S.Source.left l.source) (take l.from l.initial.buffer) l.from l.buffer l.done;
+  octets : Filled (g.S.Source.left l.initial.source) (g.S.Source.left l.source) (take l.from l.initial.buffer) l.from l.buffer
+      l.done;
 }
 
 abbrev pub decreases-loop-done : goal.decreases-loop-done

@@ -1,4 +1,5 @@
-use Rattle.std.proofs.Common.{rules, ◌≡◌, ◌+◌, ℕ, [], ◌∷◌, ◌++◌, Option, None, Some, length, take, refl, inr, sym, ap, ◌∙◌, subst, arith}
+use Rattle.std.proofs.Common.{rules, ◌≡◌, ◌+◌, ℕ, [], ◌∷◌, ◌++◌, Option, None, Some, length, take, refl, inr, sym, ap, ◌∙◌}
+use Rattle.std.proofs.Common.{subst, arith}
 use Rattle.std.proofs.lemmas.List.{length_push}
 use Rattle.std.specs.Io.KnownBytes.{Appends}
 use Rattle.std.specs.List.{AllByRecursion, flat_map}
@@ -31,12 +32,12 @@ returns-in-Err-Late-clause-fault g c =
     let next : Receipt = receipt_of read (take read.length c.read_received.new.octets) in
     let alike : received_fields next ≡ fields_read read = ap (λ n. fields read n) whole in
     let later : Follows (last_fields None receipts) (received_fields next) =
-        subst (λ (l : Option ReceivedFields). Follows l (received_fields next)) (sym last)
-        (subst (λ (f : ReceivedFields). Follows (last_read c.loop-received.last) f) (sym alike) follows) in
+    subst (λ (l : Option ReceivedFields). Follows l (received_fields next)) (sym last)
+    (subst (λ (f : ReceivedFields). Follows (last_read c.loop-received.last) f) (sym alike) follows) in
     let kept = rw c.in-Err-Late.field-0-is at c.in-Err-Late.ensures.kept in
     let late : IsLate c.args.settings next =
-        subst (λ n. IsLate c.args.settings (receipt_of read (take n c.read_received.new.octets))) c.from.ensures
-        (rw c.in-Err-Late.field-0-is at c.in-Err-Late.ensures.late) in
+    subst (λ n. IsLate c.args.settings (receipt_of read (take n c.read_received.new.octets))) c.from.ensures
+    (rw c.in-Err-Late.field-0-is at c.in-Err-Late.ensures.late) in
     rw c.fault_at-in-Err-Late.ensures.stop (
       refl,
       inr (inr (record {
@@ -62,11 +63,12 @@ returns-in-Err-Torn-clause-torn g c =
     let next : Receipt = receipt_of read (take read.length c.read_received.new.octets) in
     let alike : received_fields next ≡ fields_read read = ap (λ n. fields read n) whole in
     let later : Follows (last_fields None receipts) (received_fields next) =
-        subst (λ (l : Option ReceivedFields). Follows l (received_fields next)) (sym last)
-        (subst (λ (f : ReceivedFields). Follows (last_read c.loop-received.last) f) (sym alike) follows) in
+    subst (λ (l : Option ReceivedFields). Follows l (received_fields next)) (sym last)
+    (subst (λ (f : ReceivedFields). Follows (last_read c.loop-received.last) f) (sym alike) follows) in
     exported_torn c.args.settings receipts next _ _ _ _ _ _ so_far (is_receipt, is_slot) later took
     (subst (λ n. Tears (g.K.Sink.held c.loop-received.sink) (g.K.Sink.held c.export_record.new.sink)
-    (flat_map packet_record (exported_packets c.args.settings (receipt_of read (take n c.read_received.new.octets))))) c.from.ensures
+    (flat_map packet_record (exported_packets c.args.settings (receipt_of read (take n c.read_received.new.octets)))))
+    c.from.ensures
     (rw c.in-Err-Torn.field-0-is at c.in-Err-Torn.ensures.torn))
 
 pub loop-received-preserved : goal.loop-received-preserved
@@ -78,13 +80,15 @@ loop-received-preserved g c =
     let next : Receipt = receipt_of read (take read.length c.read_received.new.octets) in
     let alike : received_fields next ≡ fields_read read = ap (λ n. fields read n) whole in
     let later : Follows (last_fields None receipts) (received_fields next) =
-        subst (λ (l : Option ReceivedFields). Follows l (received_fields next)) (sym last)
-        (subst (λ (f : ReceivedFields). Follows (last_read c.loop-received.last) f) (sym alike) follows) in
+    subst (λ (l : Option ReceivedFields). Follows l (received_fields next)) (sym last)
+    (subst (λ (f : ReceivedFields). Follows (last_read c.loop-received.last) f) (sym alike) follows) in
     let of_length : ℕ → Receipt = λ n. receipt_of read (take n c.read_received.new.octets) in
-    let count = subst (λ n. c.in-Ok.count ≡ length (exported_packets c.args.settings (of_length n))) c.from.ensures c.in-Ok.ensures.count in
-    let fit = subst (λ n. AllByRecursion IsWritable (exported_packets c.args.settings (of_length n))) c.from.ensures c.in-Ok.ensures.fit in
+    let count = subst (λ n. c.in-Ok.count
+    ≡ length (exported_packets c.args.settings (of_length n))) c.from.ensures c.in-Ok.ensures.count in
+    let fit = subst (λ n. AllByRecursion IsWritable (exported_packets c.args.settings (of_length n))) c.from.ensures
+    c.in-Ok.ensures.fit in
     let put = subst (λ n. Appends (g.K.Sink.held c.loop-received.sink) (g.K.Sink.held c.export_record.new.sink)
-        (flat_map packet_record (exported_packets c.args.settings (of_length n)))) c.from.ensures c.in-Ok.ensures.packets in
+    (flat_map packet_record (exported_packets c.args.settings (of_length n)))) c.from.ensures c.in-Ok.ensures.packets in
     let more = length_push receipts next in
     let from = c.from-in-loop-received.ensures in
     let short = is_receipt.octets in

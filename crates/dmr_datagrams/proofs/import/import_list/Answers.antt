@@ -8,7 +8,7 @@ use Rattle.dmr_record.specs.Outgoing.{IsSending, sendings_octets}
 use Rattle.dmr_capture.specs.State.{CapturedPacket, captured_packet}
 use Rattle.dmr_datagrams.specs.Imports.{AreSendings}
 use Rattle.dmr_datagrams.specs.Sendings.{imported, no_progress, progress_behind, progress_of, sendings_of}
-use Rattle.dmr_datagrams.specs.declared.progress.Progress.{Progress}
+use Rattle.dmr_datagrams.specs.declared.progress.ListedSoFar.{ListedSoFar}
 use Rattle.dmr_datagrams.proofs.Imported.{Tells, head_torn, imported_more, imported_none, imported_torn, list_more, progress_more}
 use Rattle.dmr_datagrams.proofs.Imported.{read_to_end, tells_more}
 use Rattle.dmr_datagrams.proofs.Puts.{failed_holds, well_holds}
@@ -74,8 +74,8 @@ returns-in-Err-Torn-clause-torn g c =
     let torn = rw c.in-Err-Torn.field-0-is at c.in-Err-Torn.ensures.torn in
     let told = subst (λ p. Tells p (imported settings list)) behind tells in
     let few : (progress_behind settings no_progress (list ++ next ∷ [])).records ≤ record_limit =
-        subst (λ p. p.records ≤ record_limit)
-        (ap (λ p. progress_of settings p next) behind ∙ sym (progress_more settings no_progress list next)) room in
+    subst (λ p. p.records ≤ record_limit)
+    (ap (λ p. progress_of settings p next) behind ∙ sym (progress_more settings no_progress list next)) room in
     let fit = subst (λ p. AllByRecursion IsSending (sendings_of settings p next)) behind whole in
     imported_torn settings c.loop-packet.capture c.next_packet.new.self list next octets _ _ _ _ _ _ so_far read took
     (list_more settings list next told so_far.list fit few)
@@ -93,13 +93,13 @@ loop-packet-preserved g c =
     let told = subst (λ p. Tells p (imported settings list)) behind tells in
     let few = c.in-Ok-take.ensures.few inv.few in
     let further : c.in-Ok-take.further ≡ progress_behind settings no_progress (list ++ next ∷ []) =
-        c.in-Ok-take.ensures.progress ∙ ap (λ p. progress_of settings p next) behind
-        ∙ sym (progress_more settings no_progress list next) in
+    c.in-Ok-take.ensures.progress ∙ ap (λ p. progress_of settings p next) behind
+    ∙ sym (progress_more settings no_progress list next) in
     let fit = subst (λ p. AllByRecursion IsSending (sendings_of settings p next)) behind c.in-Ok-take.ensures.fit in
     let put = subst (λ p. Appends (g.K.Sink.held c.loop-packet.sink) (g.K.Sink.held c.take.new.sink)
-        (sendings_octets (sendings_of settings p next))) behind c.in-Ok-take.ensures.records in
+    (sendings_octets (sendings_of settings p next))) behind c.in-Ok-take.ensures.records in
     let more : AreSendings (imported settings (list ++ next ∷ [])) =
-        list_more settings list next told so_far.list fit (subst (λ p. p.records ≤ record_limit) further few) in
+    list_more settings list next told so_far.list fit (subst (λ p. p.records ≤ record_limit) further few) in
     let count = length_push list next in
     let one = c.in-Ok-take.ensures.one in
     record {

@@ -17,6 +17,6 @@ returns-in-Ok-clause-packets g c =
     let r = receipt_of c.args.received c.args.octets.now in
     let wanted : is_wanted c.args.settings r.kind r.slot ≡ true = search rules in
     let same : written_record c.in-Some.time c.args.octets.now ≡ packet_record (exported_packet c.args.settings r) =
-        ap (λ t. written_record t c.args.octets.now) c.in-Some.ensures.some in
+    ap (λ t. written_record t c.args.octets.now) c.in-Some.ensures.some in
     subst (λ l. Appends (g.K.Sink.held c.args.sink.now) (g.K.Sink.held c.write_packet.new.sink) l)
-        (same ∙ sym (one_packet c.args.settings r wanted)) c.in-Ok.ensures.record
+    (same ∙ sym (one_packet c.args.settings r wanted)) c.in-Ok.ensures.record

@@ -19,6 +19,6 @@ pub returns-clause-some : goal.returns-clause-some
 returns-clause-some c =
     let same = c.deref.ensures.0 ∙ ap (λ s. s.interfaces) c.self.view_is in
     let within : c.args.number < length c.deref.result.now =
-        omega (arith, c.if-number-len.false, c.len.ensures.value, ap length c.deref.ensures.0) in
+    omega (arith, c.if-number-len.false, c.len.ensures.value, ap length c.deref.ensures.0) in
     subst (λ l. IsNumbered l c.args.number (get_or c.deref.result.now c.args.number (record { link = 0; resolution = 0 })))
-        same (numbered c.deref.result.now c.args.number (record { link = 0; resolution = 0 }) within)
+    same (numbered c.deref.result.now c.args.number (record { link = 0; resolution = 0 }) within)

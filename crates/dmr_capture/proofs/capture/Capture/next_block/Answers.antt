@@ -11,7 +11,7 @@ pub returns-in-Err-read_head-clause-fault : goal.returns-in-Err-read_head-clause
 returns-in-Err-read_head-clause-fault g c =
     let (first, took, stands, count) = c.in-Ok-eq8.ensures.octets in
     let eight : take 8 c.fill.new.buffer ≡ first =
-        subst (λ n. take n c.fill.new.buffer ≡ first) c.in-Ok-eq8.field-0-test stands in
+    subst (λ n. take n c.fill.new.buffer ≡ first) c.in-Ok-eq8.field-0-test stands in
     let (more, next, shown) = c.in-Err-read_head.ensures.fault in (
       first ++ more,
       Consumes-trans _ _ _ first more took next,
@@ -22,7 +22,7 @@ pub returns-in-Err-read_rest-clause-fault : goal.returns-in-Err-read_rest-clause
 returns-in-Err-read_rest-clause-fault g c =
     let (first, took, stands, count) = c.in-Ok-eq8.ensures.octets in
     let eight : take 8 c.fill.new.buffer ≡ first =
-        subst (λ n. take n c.fill.new.buffer ≡ first) c.in-Ok-eq8.field-0-test stands in
+    subst (λ n. take n c.fill.new.buffer ≡ first) c.in-Ok-eq8.field-0-test stands in
     let (more, next, begins) = c.in-Ok-read_head.ensures.head in
     let (rest, end, shown) = c.in-Err-read_rest.ensures.fault in (
       first ++ more ++ rest,
@@ -36,15 +36,15 @@ pub returns-clause-packet : goal.returns-clause-packet
 returns-clause-packet g c =
     let (first, took, stands, count) = c.in-Ok-eq8.ensures.octets in
     let eight : take 8 c.fill.new.buffer ≡ first =
-        subst (λ n. take n c.fill.new.buffer ≡ first) c.in-Ok-eq8.field-0-test stands in
+    subst (λ n. take n c.fill.new.buffer ≡ first) c.in-Ok-eq8.field-0-test stands in
     let (more, next, begins) = c.in-Ok-read_head.ensures.head in
     let (rest, end, whole) = c.in_default.ensures.rest in
     let b = c.in-Ok-read_head.block in
     let all = Consumes-trans _ _ _ (first ++ more) rest (Consumes-trans _ _ _ first more took next) end in
     let head = subst (λ l. IsBlockHead c.args.self.now (l ++ more) b) eight begins in
     let Holds : List CapturedPacket → Type 0 = λ packets. (octets : List ℕ)
-        × Consumes (g.S.Source.left c.args.source.now) (g.S.Source.left c.read_rest.new.source) octets
-        × IsCaptureBlock c.args.self.now octets c.pass.new.self packets in
+    × Consumes (g.S.Source.left c.args.source.now) (g.S.Source.left c.read_rest.new.source) octets
+    × IsCaptureBlock c.args.self.now octets c.pass.new.self packets in
     as_packet c.pass.result c.read_rest.new.room b.kept Holds c.pass.ensures.whole (
       first ++ more ++ rest,
       all,
@@ -55,15 +55,15 @@ pub returns-clause-passed : goal.returns-clause-passed
 returns-clause-passed g c =
     let (first, took, stands, count) = c.in-Ok-eq8.ensures.octets in
     let eight : take 8 c.fill.new.buffer ≡ first =
-        subst (λ n. take n c.fill.new.buffer ≡ first) c.in-Ok-eq8.field-0-test stands in
+    subst (λ n. take n c.fill.new.buffer ≡ first) c.in-Ok-eq8.field-0-test stands in
     let (more, next, begins) = c.in-Ok-read_head.ensures.head in
     let (rest, end, whole) = c.in_default.ensures.rest in
     let b = c.in-Ok-read_head.block in
     let all = Consumes-trans _ _ _ (first ++ more) rest (Consumes-trans _ _ _ first more took next) end in
     let head = subst (λ l. IsBlockHead c.args.self.now (l ++ more) b) eight begins in
     let Holds : List CapturedPacket → Type 0 = λ packets. (octets : List ℕ)
-        × Consumes (g.S.Source.left c.args.source.now) (g.S.Source.left c.read_rest.new.source) octets
-        × IsCaptureBlock c.args.self.now octets c.pass.new.self packets in
+    × Consumes (g.S.Source.left c.args.source.now) (g.S.Source.left c.read_rest.new.source) octets
+    × IsCaptureBlock c.args.self.now octets c.pass.new.self packets in
     as_passed c.pass.result (take b.kept c.read_rest.new.room) Holds (
       first ++ more ++ rest,
       all,

@@ -15,7 +15,7 @@ returns-in-Err-fill_whole-clause-fault g c =
     let (head, took, stands, count) = c.in-Ok-eq16.ensures.octets in
     let sixteen : length head ≡ 16 = omega (arith, count, c.in-Ok-eq16.field-0-test) in
     let same = filled_whole 16 c.fill.new.buffer head c.fill.auto.buffer
-        (subst (λ n. take n c.fill.new.buffer ≡ head) c.in-Ok-eq16.field-0-test stands) in
+    (subst (λ n. take n c.fill.new.buffer ≡ head) c.in-Ok-eq16.field-0-test stands) in
     let (packet, fewer, next) = c.in-Err-fill_whole.ensures.part in
     let part = head ++ packet in
     let says : IsRecordHead (the_view c.self.inside).order head c.u32_at-length.result = record {
@@ -44,7 +44,7 @@ returns-clause-packet g c =
     let (head, took, stands, count) = c.in-Ok-eq16.ensures.octets in
     let sixteen : length head ≡ 16 = omega (arith, count, c.in-Ok-eq16.field-0-test) in
     let same = filled_whole 16 c.fill.new.buffer head c.fill.auto.buffer
-        (subst (λ n. take n c.fill.new.buffer ≡ head) c.in-Ok-eq16.field-0-test stands) in
+    (subst (λ n. take n c.fill.new.buffer ≡ head) c.in-Ok-eq16.field-0-test stands) in
     let (packet, next, filled, whole) = c.in_default.ensures.octets in
     let says : IsRecordHead (the_view c.self.inside).order head c.u32_at-length.result = record {
       whole = sixteen;

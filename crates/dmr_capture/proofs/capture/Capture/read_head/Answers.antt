@@ -38,11 +38,16 @@ block_head-requires g c =
     let long : c.head_length-count.result ≡ length (first ++ more) = omega (arith, length-append first more, eight, whole) in
     let says = head_length_more _ first more _ (omega (arith, eight)) c.head_length-count.ensures.count in
     record {
-      count = rw stands (rw (sym long) (subst (λ s. HasHeadLength s.order (first ++ more) c.head_length-count.result) c.self.view_is says));
+      count = rw stands (rw (sym long) (subst
+          (λ s. HasHeadLength s.order (first ++ more) c.head_length-count.result) c.self.view_is says));
     }
 
 pub returns-clause-fault : goal.returns-clause-fault
 returns-clause-fault g c =
     let (more, took, stands, whole) = c.in_default.ensures.octets in
-    IfErr-weaker c.block_head.result _ _ (λ e shown. (more, took, subst (λ l. ShowsFaultInBlock c.args.self.now e l) stands
-    (head_fault c.args.self.now e _ shown))) c.block_head.ensures.fault
+    IfErr-weaker c.block_head.result _ _ (λ e shown. (
+      more,
+      took,
+      subst (λ l. ShowsFaultInBlock c.args.self.now e l) stands
+          (head_fault c.args.self.now e _ shown),
+    )) c.block_head.ensures.fault
