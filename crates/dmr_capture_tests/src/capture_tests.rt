@@ -1,5 +1,5 @@
 //! The packets of captures. The octets at which they begin are counted in the digits, and their times are those that tshark tells.
-ghost use Rattle.std.specs.Prelude.{◌≡◌, false};
+ghost use Rattle.std.specs.Prelude.{◌≡◌, ◌≤◌, false, length};
 
 use crate::captures::{
     COOKED, COOKED_2, DATAGRAM, ETHERNET, HOTSPOT, HOTSPOT_IN_BLOCKS, RAW, SECTIONS, TWICE,
@@ -15,9 +15,9 @@ use std::process::Abort;
 use std::test::Fail;
 
 /// What a packet carries: the datagram of the captures, another IPv4 packet, or none.
-fn carried_in(packet: Packet, octets: &[u8], datagram: &[u8]) -> &'static str {
+fn carried_in(packet: Packet, octets: &[u8]) -> &'static str {
     match ipv4_in(packet.link, octets) {
-        Some(carried) if carried == datagram => "datagram",
+        Some(carried) if carried == DATAGRAM.as_slice() => "datagram",
         Some(_) => "IPv4",
         None => "none",
     }
@@ -25,12 +25,15 @@ fn carried_in(packet: Packet, octets: &[u8], datagram: &[u8]) -> &'static str {
 
 /// The packets of a capture as lines: the octet at which each begins, its link, its time in nanoseconds, its length, and what it
 /// carries. The last line is `end`, or the fault.
-fn lines_of<S: Source>(rt: &(impl Abort + AllocGlobal), source: &mut S) -> Result<String, Fail>
+fn lines_of<S: Source>(
+    rt: &(impl Abort + AllocGlobal),
+    source: &mut S,
+    room: &mut [u8],
+) -> Result<String, Fail>
     requires source { S.has_failed source.old ≡ false }
+    requires room { 262144 ≤ length room.old }
 {
     let alloc = rt.alloc();
-    let datagram = hex::decode(alloc, DATAGRAM.as_bytes())?;
-    let mut room = vec![in alloc; 0u8; PACKET_LIMIT]?;
     let mut lines = String::new(alloc);
     let mut capture = match Capture::begin(source) {
         Ok(capture) => capture,
@@ -40,7 +43,7 @@ fn lines_of<S: Source>(rt: &(impl Abort + AllocGlobal), source: &mut S) -> Resul
         }
     };
     for _ in 0..16u8 {
-        let packet = match capture.next_packet(source, room.as_mut_slice()) {
+        let packet = match capture.next_packet(source, room) {
             Ok(Some(packet)) => packet,
             Ok(None) => {
                 write!(lines, "end")?;
@@ -57,11 +60,8 @@ fn lines_of<S: Source>(rt: &(impl Abort + AllocGlobal), source: &mut S) -> Resul
             time,
             length,
         } = packet;
-        let octets = room
-            .as_slice()
-            .get(..length as usize)
-            .unwrap_or(room.as_slice());
-        let carried = carried_in(packet, octets, datagram.as_slice());
+        let octets = room.get(..length as usize).unwrap_or(&[]);
+        let carried = carried_in(packet, octets);
         write!(lines, "{octet} {link:?} {time} {length} {carried}\n")?;
     }
     Ok(lines)
@@ -77,12 +77,14 @@ fn expect_lines(
     let alloc = rt.alloc();
     let octets = hex::decode(alloc, digits.as_bytes())?;
     let octets = octets.get(..count).unwrap_or(octets.as_slice());
+    let mut room = vec![in alloc; 0u8; PACKET_LIMIT]?;
     let mut source = FromRead::new(octets);
-    let told = lines_of(rt, &mut source)?;
+    let told = lines_of(rt, &mut source, room.as_mut_slice())?;
     assert_eq!(rt; told.as_str(), lines);
     // The same, an octet a call.
+    let mut room = vec![in alloc; 0u8; PACKET_LIMIT]?;
     let mut slow = OneByOne::new(octets);
-    let told = lines_of(rt, &mut slow)?;
+    let told = lines_of(rt, &mut slow, room.as_mut_slice())?;
     assert_eq!(rt; told.as_str(), lines);
     Ok(())
 }
@@ -240,8 +242,9 @@ fn sources_that_fail(rt: HostRuntime) -> Result<(), Fail> {
         "24 Ipv4 5280000000 28 datagram\nread failed at octet 68",
     ];
     for (calls, lines) in (0..5u64).zip(faults) {
+        let mut room = vec![in alloc; 0u8; PACKET_LIMIT]?;
         let mut source = FailsAt::new(FromRead::new(octets.as_slice()), calls);
-        let told = lines_of(&rt, &mut source)?;
+        let told = lines_of(&rt, &mut source, room.as_mut_slice())?;
         assert_eq!(&rt; told.as_str(), lines);
     }
     Ok(())
@@ -274,12 +277,11 @@ fn udp_of_packets(rt: HostRuntime) -> Result<(), Fail> {
 #[test]
 fn captures_written(rt: HostRuntime) -> Result<(), Fail> {
     let alloc = rt.alloc();
-    let datagram = hex::decode(alloc, DATAGRAM.as_bytes())?;
     let wanted = hex::decode(alloc, TWICE.as_bytes())?;
     let mut sink = ToWrite::new(Vec::new(alloc));
     assert!(rt; write_capture_head(&mut sink) == Ok(()));
-    assert!(rt; write_packet(&mut sink, 5_280_000, datagram.as_slice()) == Ok(()));
-    assert!(rt; write_packet(&mut sink, 6_270_000, datagram.as_slice()) == Ok(()));
+    assert!(rt; write_packet(&mut sink, 5_280_000, &DATAGRAM) == Ok(()));
+    assert!(rt; write_packet(&mut sink, 6_270_000, &DATAGRAM) == Ok(()));
     assert!(rt; sink.into_inner().as_slice() == wanted.as_slice());
     // A head is one write, and a packet two.
     for (calls, count) in [(0, 0), (1, 24), (2, 40)] {
@@ -287,7 +289,7 @@ fn captures_written(rt: HostRuntime) -> Result<(), Fail> {
         let head = write_capture_head(&mut sink);
         if calls > 0 {
             assert!(rt; head == Ok(()));
-            let packet = write_packet(&mut sink, 5_280_000, datagram.as_slice());
+            let packet = write_packet(&mut sink, 5_280_000, &DATAGRAM);
             assert!(rt; packet == Err(RecordFault::Write));
         } else {
             assert!(rt; head == Err(RecordFault::Write));
