@@ -1,5 +1,5 @@
 -- Blocks of a pcapng, and their faults.
-use Rattle.std.proofs.Common.{◌≡◌, ◌≢◌, ◌≤◌, ◌<◌, ◌+◌, ℕ, List, [], ◌∷◌, ◌++◌, length, take, refl, inl, inr, arith}
+use Rattle.std.proofs.Common.{◌≡◌, ◌≢◌, ◌≤◌, ℕ, List, [], ◌∷◌, ◌++◌, length, take, refl, inl, inr, arith}
 use Rattle.std.proofs.lemmas.List.{length-append}
 use Rattle.dmr_capture.specs.Blocks.{IsBehindBlock, IsCaptureBlock, IsBlockHead, IsBlockHeadOf, IsBlockRest, IsPartOfBlock}
 use Rattle.dmr_capture.specs.Blocks.{ShowsFaultInBlock, ShowsBlockHeadFault, packets_in, section_type}

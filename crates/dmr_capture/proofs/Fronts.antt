@@ -3,8 +3,8 @@ use Rattle.std.proofs.Common.{◌≡◌, ◌≢◌, ◌≤◌, ◌<◌, ℕ, zer
 use Rattle.std.proofs.Common.{arith}
 use Rattle.std.proofs.lemmas.List.{take-append-le}
 use Rattle.byteorder.specs.Numbers.{big_from-append, little_from-append}
-use Rattle.dmr_capture.specs.Blocks.{HasHeadLength, section_type}
-use Rattle.dmr_capture.specs.Orders.{number, ordered_number}
+use Rattle.dmr_capture.specs.Blocks.{HasHeadLength}
+use Rattle.dmr_capture.specs.Orders.{ordered_number}
 use Rattle.dmr_capture.specs.declared.order.Order.{Order}
 use Rattle.dmr_capture.specs.declared.order.Order.TheVariants.{Big, Little}
 

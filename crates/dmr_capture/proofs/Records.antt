@@ -1,10 +1,10 @@
 -- Records of a pcap.
-use Rattle.std.proofs.Common.{◌≡◌, ◌≢◌, ◌<◌, ℕ, ◌+◌, List, [], ◌∷◌, ◌++◌, length, refl, ap, subst, arith}
+use Rattle.std.proofs.Common.{◌≡◌, ◌≢◌, ℕ, ◌+◌, List, [], ◌∷◌, ◌++◌, length, refl, ap, subst, arith}
 use Rattle.std.proofs.lemmas.List.{length-append}
 use Rattle.dmr_capture.specs.CutFaults.{cut_packet_fault}
 use Rattle.dmr_capture.specs.Reading.{ShowsRecordFault}
 use Rattle.dmr_capture.specs.Records.{IsPartOfRecord, IsRecord, IsRecordHead, record_time}
-use Rattle.dmr_capture.specs.State.{CaptureState, CapturedPacket}
+use Rattle.dmr_capture.specs.State.{CaptureState}
 use Rattle.dmr_capture.specs.declared.link.Link.{Link}
 use Rattle.dmr_capture.specs.declared.pcap.Fraction.{Fraction}
 use Rattle.dmr_capture.specs.declared.transfer.Cut.{Cut}

@@ -1,15 +1,14 @@
 -- A capture that was written, as it is read.
-use Rattle.std.proofs.Common.{◌≡◌, ℕ, ◌+◌, ◌*◌, ◌/◌, ◌%◌, ◌^◌, ◌<◌, ◌≤◌, List, [], ◌∷◌, ◌++◌, length, drop, refl, sym, ap, ◌∙◌}
+use Rattle.std.proofs.Common.{◌≡◌, ℕ, ◌+◌, ◌*◌, ◌/◌, ◌%◌, ◌^◌, ◌<◌, ◌≤◌, List, [], ◌∷◌, ◌++◌, length, refl, sym, ap}
 use Rattle.std.proofs.Common.{inl, arith}
 use Rattle.std.proofs.lemmas.List.{length-append}
 use Rattle.std.specs.List.{AllByRecursion, flat_map}
 use Rattle.byteorder.specs.Endian.{little_bytes}
 use Rattle.byteorder.specs.Numbers.{little_number-reads_back}
 use Rattle.dmr_capture.specs.Orders.{ordered_number}
-use Rattle.dmr_capture.specs.Reading.{AreRead, BeginsPcap, IsCapture, IsPiece, CapturePiece}
-use Rattle.dmr_capture.specs.Records.{IsPcapHead, IsRecord, IsRecordHead, behind_pcap_head, record_time}
-use Rattle.dmr_capture.specs.State.{CaptureState, CapturedPacket, octet_limit}
-use Rattle.dmr_capture.specs.Times.{pcap_time}
+use Rattle.dmr_capture.specs.Reading.{AreRead, IsCapture, IsPiece}
+use Rattle.dmr_capture.specs.Records.{IsPcapHead, IsRecordHead, behind_pcap_head, record_time}
+use Rattle.dmr_capture.specs.State.{CaptureState, octet_limit}
 use Rattle.dmr_capture.specs.Written.{IsWritable, WrittenPacket, packet_record, packets_at, written_capture, written_head}
 use Rattle.dmr_capture.specs.Written.{written_record_head}
 use Rattle.dmr_capture.specs.declared.link.Link.TheVariants.{Ipv4}

@@ -1,5 +1,5 @@
 -- What one piece of a capture turned out to be.
-use Rattle.std.specs.Prelude.{◌≡◌, ℕ, ◌<◌, List, [], ◌∷◌}
+use Rattle.std.specs.Prelude.{ℕ, ◌<◌, List, [], ◌∷◌}
 use Rattle.dmr_capture.specs.State.{CapturedPacket, interface_limit, captured_packet}
 use Rattle.dmr_capture.specs.declared.block.Block.{Block}
 use Rattle.dmr_capture.specs.declared.block.Block.TheVariants.{NewInterface}

@@ -10,8 +10,8 @@ use Rattle.dmr_capture.specs.State.{CaptureState, CapturedPacket, fresh_pcapng, 
 use Rattle.dmr_capture.specs.declared.capture.Format.{Format}
 use Rattle.dmr_capture.specs.declared.capture.Format.TheVariants.{Pcap, Pcapng}
 use Rattle.dmr_capture.specs.declared.fault.CaptureFault.{CaptureFault}
-use Rattle.dmr_capture.specs.declared.fault.CaptureFault.TheVariants.{NoCapture, CutHead, CutPacket, CutBlock, BadBlock}
-use Rattle.dmr_capture.specs.declared.fault.CaptureFault.TheVariants.{ManyInterfaces, LinkType, TooLong, Read}
+use Rattle.dmr_capture.specs.declared.fault.CaptureFault.TheVariants.{NoCapture, CutHead, CutPacket, CutBlock}
+use Rattle.dmr_capture.specs.declared.fault.CaptureFault.TheVariants.{LinkType, TooLong, Read}
 use Rattle.dmr_capture.specs.declared.link.Link.{Link}
 use Rattle.dmr_capture.specs.declared.order.Order.{Order}
 use Rattle.dmr_capture.specs.declared.pcap.Fraction.{Fraction}

@@ -1,5 +1,5 @@
 -- The head and the records of a pcap.
-use Rattle.std.specs.Prelude.{◌≡◌, ◌≢◌, ℕ, ◌+◌, ◌<◌, ◌≤◌, ◌⊎◌, List, [], ◌∷◌, ◌++◌, length}
+use Rattle.std.specs.Prelude.{◌≡◌, ℕ, ◌+◌, ◌<◌, ◌≤◌, ◌⊎◌, List, [], ◌∷◌, ◌++◌, length}
 use Rattle.dmr_capture.specs.Links.{link_number}
 use Rattle.dmr_capture.specs.Orders.{ordered_number}
 use Rattle.dmr_capture.specs.State.{CaptureState, CapturedPacket, packet_limit}

@@ -1,7 +1,7 @@
 -- What a reader remembers of a capture.
-use Rattle.std.specs.Prelude.{ℕ, ◌^◌, List, [], Option}
+use Rattle.std.specs.Prelude.{ℕ, ◌^◌, List, []}
 use Rattle.dmr_capture.specs.declared.capture.Format.{Format}
-use Rattle.dmr_capture.specs.declared.capture.Format.TheVariants.{Pcap, Pcapng}
+use Rattle.dmr_capture.specs.declared.capture.Format.TheVariants.{Pcapng}
 use Rattle.dmr_capture.specs.declared.interface.Interface.{Interface}
 use Rattle.dmr_capture.specs.declared.link.Link.{Link}
 use Rattle.dmr_capture.specs.declared.order.Order.{Order}

@@ -2,8 +2,7 @@
 
 use thiserror::Error;
 
-/// The first fault that a capture shows, or that its device failed, and the octet at which the record or block begins that shows
-/// it.
+/// The first fault that a capture shows, or that its device failed. It tells the octet at which the record or the block begins.
 #[derive(Clone, Copy, Debug, Drop, PartialEq, Eq, Error)]
 pub enum CaptureFault {
     /// The file begins as no capture does, or is a pcap of another version than 2.4.
@@ -28,8 +27,8 @@ pub enum CaptureFault {
     /// The packets of a pcap, or a packet of a pcapng, have a link type that isn't read.
     #[error("link type {link}")]
     LinkType { link: u32 },
-    /// A packet, or what describes an interface, has more than 262,144 octets, or so many octets stand before it that no capture
-    /// has.
+    /// A packet or the options of an interface have more than 262,144 octets, or more octets stand in front than any capture has.
+    /// Who makes a list of a capture tells so too of a packet that the list has no room for.
     #[error("too long at octet {octet}")]
     TooLong { octet: u64 },
     /// The source failed.

@@ -2,7 +2,7 @@
 use Rattle.std.specs.Prelude.{◌≡◌, ◌⊎◌, ℕ, ◌+◌, ◌≤◌, List, [], ◌∷◌, ◌++◌, Option, length}
 use Rattle.std.specs.Io.KnownBytes.{Appends, Consumes, IsAtEnd}
 use Rattle.std.specs.List.{AllByRecursion}
-use Rattle.dmr_capture.specs.Reading.{AreRead, BeginsCapture, IsCapture, ShowsBeginFault, ShowsFault}
+use Rattle.dmr_capture.specs.Reading.{AreRead, BeginsCapture, ShowsBeginFault, ShowsFault}
 use Rattle.dmr_capture.specs.State.{CaptureState, CapturedPacket}
 use Rattle.dmr_capture.specs.declared.fault.CaptureFault.{CaptureFault}
 use Rattle.dmr_capture.specs.declared.fault.CaptureFault.TheVariants.{TooLong}

@@ -1,7 +1,7 @@
 -- Which records an outgoing list has that is made of a capture, and in which frames.
 use Rattle.std.specs.Prelude.{◌≡◌, ◌⊎◌, ℕ, ◌+◌, ◌-◌, ◌/◌, ◌^◌, ◌≤◌, ◌==◌, ◌||◌, max, if◌then◌else◌, Bool, List, [], ◌∷◌, ◌++◌}
 use Rattle.std.specs.Prelude.{Option, None, Some}
-use Rattle.std.specs.Prelude.{length, slice_index}
+use Rattle.std.specs.Prelude.{slice_index}
 use Rattle.dmr_capture.specs.Links.{ipv4_carried}
 use Rattle.dmr_capture.specs.State.{CapturedPacket}
 use Rattle.dmr_capture.specs.declared.link.Link.{Link}

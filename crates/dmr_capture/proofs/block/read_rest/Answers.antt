@@ -1,4 +1,4 @@
-use Rattle.std.proofs.Common.{refl, ◌++◌, length, arith, ◌∙◌, sym, subst}
+use Rattle.std.proofs.Common.{refl, ◌++◌, arith, ◌∙◌, sym, subst}
 use Rattle.std.proofs.lemmas.List.{length-append}
 use Rattle.std.proofs.KnownBytes.{Consumes-trans}
 use Rattle.dmr_capture.specs.Blocks.{IsBlockRest}

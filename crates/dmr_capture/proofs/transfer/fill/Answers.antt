@@ -1,4 +1,4 @@
-use Rattle.std.proofs.Common.{arith, rules, ◌+◌, length}
+use Rattle.std.proofs.Common.{arith, rules}
 use Rattle.std.proofs.KnownBytes.{Consumes-kept}
 use Rattle.dmr_capture.proofs.Filled.{filled_more, filled_none}
 use Rattle.dmr_capture.proofs.transfer.fill.Goals as goal

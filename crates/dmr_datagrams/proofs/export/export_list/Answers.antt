@@ -1,4 +1,4 @@
-use Rattle.std.proofs.Common.{rules, ◌≡◌, ◌+◌, ℕ, [], ◌∷◌, ◌++◌, Option, None, Some, length, take, refl, inr, sym, ap, ◌∙◌}
+use Rattle.std.proofs.Common.{◌≡◌, ◌+◌, ℕ, [], ◌∷◌, ◌++◌, Option, None, Some, length, take, refl, inr, sym, ap, ◌∙◌}
 use Rattle.std.proofs.Common.{subst, arith}
 use Rattle.std.proofs.lemmas.List.{length_push}
 use Rattle.std.specs.Io.KnownBytes.{Appends}
@@ -7,9 +7,8 @@ use Rattle.dmr_record.specs.Devices.{Tears}
 use Rattle.dmr_record.specs.Received.{Follows, Receipt, ReceivedFields, fields_read, kind_octet, last_fields, last_read, receipt_of}
 use Rattle.dmr_record.specs.Received.{received_fields}
 use Rattle.dmr_record.specs.declared.received.Received.{Received}
-use Rattle.dmr_recording.specs.Endings.{IfFile}
 use Rattle.dmr_capture.specs.Written.{IsWritable, packet_record}
-use Rattle.dmr_datagrams.specs.Exports.{AreExported, IsDatagramExportFault, IsTimeFault}
+use Rattle.dmr_datagrams.specs.Exports.{AreExported}
 use Rattle.dmr_datagrams.specs.Packets.{IsLate, exported_packets}
 use Rattle.dmr_datagrams.proofs.Exported.{count_more, exported_more, exported_torn, head_torn, last_more, octet_more, one_packet}
 use Rattle.dmr_datagrams.proofs.Puts.{failed_holds}

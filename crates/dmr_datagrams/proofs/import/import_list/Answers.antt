@@ -1,4 +1,4 @@
-use Rattle.std.proofs.Common.{rules, ◌≡◌, ◌≤◌, ◌+◌, ℕ, List, [], ◌∷◌, ◌++◌, length, take, refl, sym, ap, ◌∙◌, subst, arith}
+use Rattle.std.proofs.Common.{rules, ◌≡◌, ◌≤◌, [], ◌∷◌, ◌++◌, take, refl, sym, ap, ◌∙◌, subst, arith}
 use Rattle.std.proofs.lemmas.List.{length_push}
 use Rattle.std.specs.Io.KnownBytes.{Appends}
 use Rattle.std.specs.List.{AllByRecursion}
@@ -8,7 +8,6 @@ use Rattle.dmr_record.specs.Outgoing.{IsSending, sendings_octets}
 use Rattle.dmr_capture.specs.State.{CapturedPacket, captured_packet}
 use Rattle.dmr_datagrams.specs.Imports.{AreSendings}
 use Rattle.dmr_datagrams.specs.Sendings.{imported, no_progress, progress_behind, progress_of, sendings_of}
-use Rattle.dmr_datagrams.specs.declared.progress.ListedSoFar.{ListedSoFar}
 use Rattle.dmr_datagrams.proofs.Imported.{Tells, head_torn, imported_more, imported_none, imported_torn, list_more, progress_more}
 use Rattle.dmr_datagrams.proofs.Imported.{read_to_end, tells_more}
 use Rattle.dmr_datagrams.proofs.Puts.{failed_holds, well_holds}

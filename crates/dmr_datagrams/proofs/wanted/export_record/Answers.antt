@@ -1,9 +1,9 @@
-use Rattle.std.proofs.Common.{rules, ◌≡◌, ℕ, List, [], ◌∷◌, true, refl, sym, ◌∙◌, ap, subst, append-nil}
+use Rattle.std.proofs.Common.{rules, ◌≡◌, true, sym, ◌∙◌, ap, subst, append-nil}
 use Rattle.std.specs.Io.KnownBytes.{Appends}
 use Rattle.std.specs.List.{flat_map}
 use Rattle.dmr_record.specs.Received.{Receipt, receipt_of}
 use Rattle.dmr_capture.specs.Written.{packet_record, written_record}
-use Rattle.dmr_datagrams.specs.Packets.{is_wanted, exported_packet, exported_packets, exported_time}
+use Rattle.dmr_datagrams.specs.Packets.{is_wanted, exported_packet, exported_packets}
 use Rattle.dmr_datagrams.specs.declared.wanted.ExportSettings.{ExportSettings}
 use Rattle.dmr_datagrams.proofs.wanted.export_record.Goals as goal
 

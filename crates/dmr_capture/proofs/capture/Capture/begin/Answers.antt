@@ -1,7 +1,6 @@
 use Rattle.std.proofs.Common.{◌≡◌, [], ◌++◌, take, refl, inr, sym, subst, ◌∙◌}
 use Rattle.std.proofs.lemmas.Result.{IfErr-weaker, IfOk-weaker}
 use Rattle.std.proofs.KnownBytes.{Consumes-trans}
-use Rattle.dmr_capture.specs.Begins.{HasMagic}
 use Rattle.dmr_capture.specs.Blocks.{IsCaptureBlock, ShowsFaultInBlock, section_type}
 use Rattle.dmr_capture.specs.State.{fresh_pcapng}
 use Rattle.dmr_capture.proofs.Blocks.{section_fault}

@@ -1,5 +1,5 @@
-use Rattle.std.proofs.Common.{◌≡◌, ◌++◌, length, take, arith, sym, subst, ◌∙◌}
-use Rattle.std.proofs.lemmas.List.{length-append, length-take-le}
+use Rattle.std.proofs.Common.{◌≡◌, length, take, arith, sym, subst, ◌∙◌}
+use Rattle.std.proofs.lemmas.List.{length-take-le}
 use Rattle.dmr_capture.specs.Records.{HasPcapMagic}
 use Rattle.dmr_capture.proofs.Fronts.{number_front}
 use Rattle.dmr_capture.proofs.capture.Capture.begin_pcap.Goals as goal

@@ -1,8 +1,7 @@
-use Rattle.std.proofs.Common.{◌≡◌, [], ◌++◌, take, refl, sym, subst, ap, ◌∙◌}
+use Rattle.std.proofs.Common.{◌≡◌, [], ◌++◌, take, refl, sym, subst}
 use Rattle.std.proofs.KnownBytes.{Consumes-trans}
 use Rattle.dmr_capture.specs.Blocks.{IsBehindBlock, IsCaptureBlock, IsBlockHead, IsBlockRest, ShowsFaultInBlock, packets_in}
 use Rattle.dmr_capture.specs.Blocks.{section_type}
-use Rattle.dmr_capture.specs.Rests.{ShowsRestFault}
 use Rattle.dmr_capture.specs.State.{fresh_pcapng}
 use Rattle.dmr_capture.proofs.Blocks.{is_block, rest_fault, section_holds_none}
 use Rattle.dmr_capture.proofs.Fronts.{joined, joined_more, taken_of_none}

@@ -1,4 +1,4 @@
-use Rattle.std.proofs.Common.{◌≡◌, List, ℕ, ◌++◌, take, subst, sym, ap}
+use Rattle.std.proofs.Common.{◌≡◌, List, ℕ, ◌++◌, take, subst}
 use Rattle.std.specs.Io.KnownBytes.{Consumes}
 use Rattle.std.proofs.KnownBytes.{Consumes-trans}
 use Rattle.dmr_capture.specs.Blocks.{IsCaptureBlock, IsBlockHead, ShowsFaultInBlock}

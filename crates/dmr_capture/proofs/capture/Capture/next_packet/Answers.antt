@@ -1,4 +1,4 @@
-use Rattle.std.proofs.Common.{rules, arith, ◌++◌, [], ◌∷◌, subst, append-nil}
+use Rattle.std.proofs.Common.{rules, arith, ◌++◌, []}
 use Rattle.std.proofs.KnownBytes.{Consumes-nil, Consumes-trans}
 use Rattle.dmr_capture.proofs.InARow.{read_more, read_none}
 use Rattle.dmr_capture.proofs.capture.Capture.next_packet.Goals as goal

@@ -1,7 +1,7 @@
-use Rattle.std.proofs.Common.{◌≡◌, ◌++◌, length, take, arith, refl, inl, inr, sym, subst, ap, ◌∙◌}
+use Rattle.std.proofs.Common.{◌≡◌, ◌++◌, length, take, arith, refl, inl, inr, sym, subst}
 use Rattle.std.proofs.lemmas.List.{length-append, length-take-le}
 use Rattle.std.proofs.lemmas.Result.{IfErr-weaker}
-use Rattle.dmr_capture.specs.Blocks.{HasHeadLength, IsPartOfBlockHead, ShowsFaultInBlock, ShowsBlockHeadFault}
+use Rattle.dmr_capture.specs.Blocks.{HasHeadLength, IsPartOfBlockHead, ShowsFaultInBlock}
 use Rattle.dmr_capture.specs.CutFaults.{cut_block_fault}
 use Rattle.dmr_capture.specs.contracts.capture.Capture.{the_view}
 use Rattle.dmr_capture.proofs.Blocks.{cut_front, head_fault}
