@@ -1,0 +1,15 @@
+pub mod Begins
+pub mod Blocks
+pub mod CutFaults
+pub mod Cuts
+pub mod Found
+pub mod Links
+pub mod Options
+pub mod Orders
+pub mod Reading
+pub mod Records
+pub mod Rests
+pub mod State
+pub mod Times
+pub mod Udp
+pub mod Written
