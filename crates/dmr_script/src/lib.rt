@@ -1,0 +1,31 @@
+//! The statements of a script, from which a recording is made.
+//!
+//! A script is a text. Each of its lines is a statement, or empty. `read_script` reads the statements with their lines
+//! (`NumberedStatement`), up to the end of the text or to the first line that is refused (`RefusedLine`). A `Statement` says what
+//! its line says, and nothing of when it is sent: that hangs on all lines, and is the matter of whoever makes a recording of them.
+#![tactic(auto)]
+
+mod call;
+mod cited;
+mod control;
+mod expected;
+mod fault;
+mod packet;
+mod script;
+mod send;
+mod shape;
+mod statement;
+
+pub use call::{Call, Carried};
+pub use cited::Cited;
+pub use control::LoneBurst;
+pub use expected::Expected;
+pub use fault::{Refusal, RefusedLine};
+pub use packet::{
+    Again, Answer, AnswerKind, Body, PacketTry, PartialTry, ShortDataTry, StatusSent, UdpMessage,
+    Wanted,
+};
+pub use script::Script;
+pub use send::{AddressedMessage, Datagram, Send};
+pub use shape::{CallShape, CallStart, HeaderKind, Headers, PacketShape, Place};
+pub use statement::{NumberedStatement, Sender, Slot, Statement, Transmission, Transmit};
