@@ -1,11 +1,12 @@
 //! What has to stand in a line.
+use crate::keyword::Keyword;
 use std::fmt;
 
 /// What has to stand at a place of a line.
 #[derive(Clone, Copy, Debug, Drop, PartialEq, Eq)]
 pub enum Expected {
     /// This word.
-    Word(&'static str),
+    Word(Keyword),
     /// A decimal number in this range.
     Number {
         /// The least one.
@@ -33,8 +34,14 @@ pub enum Expected {
     Carried,
     /// A body or a datagram.
     Body,
+    /// The rate of a block.
+    Rate,
+    /// A statement.
+    Statement,
     /// A transmission.
     Transmission,
+    /// A colon and a shape, or nothing more.
+    Shape,
     /// Nothing more.
     End,
 }
@@ -56,7 +63,10 @@ impl fmt::Display for Expected {
             Expected::LinkControl => write!(f, "a link control"),
             Expected::Carried => write!(f, "'own', 'none', 'alias' or a link control"),
             Expected::Body => write!(f, "'UDP' or 'octets'"),
+            Expected::Rate => write!(f, "'1/2', '3/4' or '1'"),
+            Expected::Statement => write!(f, "a statement"),
             Expected::Transmission => write!(f, "a transmission"),
+            Expected::Shape => write!(f, "':' or the end of the line"),
             Expected::End => write!(f, "the end of the line"),
         }
     }

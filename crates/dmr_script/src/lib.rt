@@ -6,25 +6,43 @@
 #![tactic(auto)]
 
 mod call;
+mod call_shapes;
+mod carrying;
 mod cited;
 mod control;
+mod controls;
 mod expected;
 mod fault;
+mod halt;
+mod keyword;
+mod letters;
+mod lines;
+mod link_controls;
+mod numbers;
+mod order;
 mod packet;
+mod packet_shapes;
+mod packets;
+mod reading;
 mod script;
 mod send;
+mod sends;
 mod shape;
 mod statement;
+mod token;
+mod transmissions;
 
 pub use call::{Call, Carried};
 pub use cited::Cited;
 pub use control::LoneBurst;
 pub use expected::Expected;
 pub use fault::{Refusal, RefusedLine};
+pub use keyword::Keyword;
 pub use packet::{
     Again, Answer, AnswerKind, Body, PacketTry, PartialTry, ShortDataTry, StatusSent, UdpMessage,
     Wanted,
 };
+pub use reading::read_script;
 pub use script::Script;
 pub use send::{AddressedMessage, Datagram, Send};
 pub use shape::{CallShape, CallStart, HeaderKind, Headers, PacketShape, Place};

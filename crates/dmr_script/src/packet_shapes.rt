@@ -1,0 +1,132 @@
+//! The shape of a packet from its letters.
+ghost use Rattle.std.specs.Prelude.{◌≡◌, ◌+◌, ◌<◌, ◌≤◌, length, take, drop, true, false, IfOk, OnOk, IfSome};
+
+use crate::fault::Refusal;
+use crate::halt::Halt;
+use crate::letters::{Letter, shape_letters};
+use crate::shape::{PacketShape, Place};
+use crate::token::Cursor;
+use std::alloc::Global;
+
+/// How many bursts the last preamble but its own can count: what eight bits can say.
+const COUNT_LIMIT: usize = 255;
+
+/// How many blocks a packet has at most.
+pub(crate) const MOST_BLOCKS: usize = 127;
+
+/// How many CSBKs stand in front.
+fn csbks_in_front(letters: &[Letter]) -> usize
+    ensures within { result ≤ length letters.now }
+{
+    let mut count = 0;
+    while count < letters.len() && letters[count] == Letter::Csbk {
+        count += 1;
+    }
+    count
+}
+
+/// Which blocks are sent.
+fn blocks_of(alloc: Global, letters: &[Letter]) -> Result<Vec<bool>, Halt>
+    ensures count { IfOk result (λ blocks. length blocks.items ≡ length letters.now) }
+{
+    let mut blocks = Vec::new(alloc);
+    for letter in letters {
+        match *letter {
+            Letter::Block => blocks.push(true)?,
+            Letter::Absent => blocks.push(false)?,
+            _ => return Err(Halt::Refused(Refusal::PacketShape)),
+        }
+    }
+    Ok(blocks)
+}
+
+/// That a shape has as many blocks as its packet, where it is known how many that has, and not more than any packet.
+fn fit_blocks(shape: usize, packet: Option<usize>) -> Result<(), Refusal>
+    requires few { shape ≤ 1048576 }
+    requires most { IfSome packet (λ packet. packet ≤ 127) }
+    ensures count { OnOk result (IfSome packet (λ packet. shape ≡ packet)) }
+    ensures most { OnOk result (shape ≤ 127) }
+{
+    match packet {
+        Some(packet) if packet != shape => Err(Refusal::BlockCount {
+            shape: shape as u32,
+            packet: packet as u32,
+        }),
+        _ if shape > MOST_BLOCKS => Err(Refusal::LongPacket),
+        _ => Ok(()),
+    }
+}
+
+/// The shape of a packet of so many blocks, where that is known.
+pub(crate) fn packet_shape(
+    alloc: Global,
+    letters: &[Letter],
+    packet: Option<usize>,
+) -> Result<PacketShape, Halt>
+    requires few { length letters.now ≤ 1048576 }
+    requires most { IfSome packet (λ packet. packet ≤ 127) }
+    ensures count { IfOk result (λ shape. IfSome packet (λ packet. length shape.blocks.items ≡ packet)) }
+    ensures most { IfOk result (λ shape. length shape.blocks.items ≤ 127) }
+    ensures counted { IfOk result (λ shape. shape.preambles + length shape.blocks.items ≤ 255) }
+{
+    let (preambles, behind) = letters.split_at(csbks_in_front(letters));
+    let [Letter::Place(Place::D), blocks @ ..] = behind else {
+        return Err(Halt::Refused(Refusal::PacketShape));
+    };
+    let blocks = blocks_of(alloc, blocks)?;
+    fit_blocks(blocks.len(), packet)?;
+    if preambles.len() > COUNT_LIMIT - blocks.len() {
+        return Err(Halt::Refused(Refusal::PacketShape));
+    }
+    Ok(PacketShape {
+        preambles: preambles.len() as u8,
+        blocks,
+    })
+}
+
+/// A header and all of so many blocks.
+fn whole(alloc: Global, blocks: usize) -> Result<PacketShape, Halt>
+    requires few { blocks ≤ 127 }
+    ensures blocks { IfOk result (λ shape. length shape.blocks.items ≡ blocks) }
+    ensures counted { IfOk result (λ shape. shape.preambles + length shape.blocks.items ≤ 255) }
+{
+    Ok(PacketShape {
+        preambles: 0,
+        blocks: vec![in alloc; true; blocks]?,
+    })
+}
+
+/// The shape of a packet of so many blocks, to the end of the line: its header and all of them, where the line says none.
+pub(crate) fn known_shape(
+    alloc: Global,
+    cursor: &mut Cursor,
+    packet: usize,
+) -> Result<PacketShape, Halt>
+    requires most { packet ≤ 127 }
+    ensures count { IfOk result (λ shape. length shape.blocks.items ≡ packet) }
+    ensures counted { IfOk result (λ shape. shape.preambles + length shape.blocks.items ≤ 255) }
+{
+    match shape_letters(alloc, cursor)? {
+        Some(letters) => packet_shape(alloc, letters.as_slice(), Some(packet)),
+        None => whole(alloc, packet),
+    }
+}
+
+/// The shape of a packet whose blocks other lines say, to the end of the line, where there is one.
+pub(crate) fn any_shape(alloc: Global, cursor: &mut Cursor) -> Result<Option<PacketShape>, Halt>
+    ensures most { IfOk result (λ shape. IfSome shape (λ shape. length shape.blocks.items ≤ 127)) }
+    ensures counted { IfOk result (λ shape. IfSome shape (λ shape. shape.preambles + length shape.blocks.items ≤ 255)) }
+{
+    match shape_letters(alloc, cursor)? {
+        Some(letters) => Ok(Some(packet_shape(alloc, letters.as_slice(), None)?)),
+        None => Ok(None),
+    }
+}
+
+/// That what has this shape may have another colour code: it ends with a burst.
+pub(crate) fn may_be_foreign(shape: &PacketShape) -> Result<(), Refusal> {
+    match shape.blocks.as_slice() {
+        [.., false] => Err(Refusal::ForeignEnds),
+        _ => Ok(()),
+    }
+}
