@@ -11,7 +11,6 @@ const SHOWN: usize = 20;
 pub struct Cited {
     octets: [u8; SHOWN],
     length: usize,
-    ghost within: { length ≤ 20 },
 }
 
 impl Cited {
@@ -36,7 +35,7 @@ fn shown(octet: u8) -> char {
 
 impl fmt::Display for Cited {
     fn fmt<W: fmt::Write>(&self, f: &mut fmt::Formatter<W>) -> fmt::Result {
-        for octet in &self.octets[..self.length] {
+        for octet in self.octets.iter().take(self.length) {
             f.write_char(shown(*octet))?;
         }
         Ok(())
