@@ -1,5 +1,5 @@
 //! The shape of a call from its letters.
-ghost use Rattle.std.specs.Prelude.{◌≡◌, ◌+◌, ◌*◌, ◌%◌, ◌<◌, ◌≤◌, length, take, drop, true, false, IfOk, OnOk};
+ghost use Rattle.std.specs.Prelude.{◌≡◌, ◌+◌, ◌*◌, ◌%◌, ◌<◌, ◌≤◌, length, take, drop, true, false, IfOk, IfSome, OnOk};
 
 use crate::fault::Refusal;
 use crate::halt::Halt;
@@ -13,37 +13,39 @@ const BEFORE_VOICE: usize = 5;
 /// How many places a superframe has.
 const PLACES: usize = 6;
 
+/// Whether a letter is a header.
+fn is_header(letter: Letter) -> bool {
+    letter == Letter::Header || letter == Letter::PiHeader
+}
+
 /// How many headers stand in front.
 fn headers_in_front(letters: &[Letter]) -> usize
     ensures within { result ≤ length letters.now }
 {
-    let mut count = 0;
-    while count < letters.len() && matches!(letters[count], Letter::Header | Letter::PiHeader) {
-        count += 1;
-    }
-    count
+    letters
+        .iter()
+        .position(|letter| !is_header(*letter))
+        .unwrap_or(letters.len())
 }
 
 /// How many silences stand in front.
 fn silences_in_front(letters: &[Letter]) -> usize
     ensures within { result ≤ length letters.now }
 {
-    let mut count = 0;
-    while count < letters.len() && letters[count] == Letter::Absent {
-        count += 1;
-    }
-    count
+    letters
+        .iter()
+        .position(|letter| *letter != Letter::Absent)
+        .unwrap_or(letters.len())
 }
 
 /// How many letters stand in front of the first terminator, or in all where there is none.
 fn voice_length(letters: &[Letter]) -> usize
     ensures within { result ≤ length letters.now }
 {
-    let mut count = 0;
-    while count < letters.len() && letters[count] != Letter::Terminator {
-        count += 1;
-    }
-    count
+    letters
+        .iter()
+        .position(|letter| *letter == Letter::Terminator)
+        .unwrap_or(letters.len())
 }
 
 /// Where the first A stands.

@@ -1,5 +1,5 @@
 //! What the superframes of a call carry.
-ghost use Rattle.std.specs.Prelude.{◌≡◌, ◌<◌, ◌≤◌, length};
+ghost use Rattle.std.specs.Prelude.{◌≡◌, ◌+◌, ◌<◌, ◌≤◌, length};
 
 use crate::call::Carried;
 use crate::expected::Expected;

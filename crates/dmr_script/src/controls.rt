@@ -1,5 +1,5 @@
 //! Control signalling blocks, and data bursts by themselves, of a line.
-ghost use Rattle.std.specs.Prelude.{◌≡◌, ◌<◌, ◌≤◌, ◌^◌, length, IfOk};
+ghost use Rattle.std.specs.Prelude.{◌≡◌, ◌<◌, ◌≤◌, ◌^◌, length, IfOk, IfSome};
 
 use crate::control::LoneBurst;
 use crate::expected::Expected;

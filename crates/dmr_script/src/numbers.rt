@@ -1,5 +1,5 @@
 //! Numbers and octets of a line.
-ghost use Rattle.std.specs.Prelude.{◌≡◌, ◌<◌, ◌≤◌, ◌^◌, length, IfOk, OnOk};
+ghost use Rattle.std.specs.Prelude.{◌≡◌, ◌*◌, ◌<◌, ◌≤◌, ◌^◌, length, IfOk, OnOk};
 
 use crate::expected::Expected;
 use crate::fault::Refusal;
@@ -113,7 +113,7 @@ pub(crate) fn all_octets(alloc: Global, cursor: &mut Cursor) -> Result<Vec<u8>, 
 
 /// The data of a datagram, as octets or as a text.
 pub(crate) fn data(alloc: Global, cursor: &mut Cursor) -> Result<Vec<u8>, Halt>
-    ensures most { IfOk result (λ data. length data.items ≤ 1372) }
+    ensures most { IfOk result (λ octets. length octets.items ≤ 1372) }
 {
     let token = cursor.next();
     let data = match token {

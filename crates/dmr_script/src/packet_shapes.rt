@@ -18,11 +18,10 @@ pub(crate) const MOST_BLOCKS: usize = 127;
 fn csbks_in_front(letters: &[Letter]) -> usize
     ensures within { result ≤ length letters.now }
 {
-    let mut count = 0;
-    while count < letters.len() && letters[count] == Letter::Csbk {
-        count += 1;
-    }
-    count
+    letters
+        .iter()
+        .position(|letter| *letter != Letter::Csbk)
+        .unwrap_or(letters.len())
 }
 
 /// Which blocks are sent.

@@ -1,5 +1,5 @@
 //! Packets, short data, status and answers of a line.
-ghost use Rattle.std.specs.Prelude.{◌≡◌, ◌+◌, ◌*◌, ◌<◌, ◌≤◌, ◌^◌, length, IfOk};
+ghost use Rattle.std.specs.Prelude.{◌≡◌, ◌+◌, ◌*◌, ◌<◌, ◌≤◌, ◌^◌, length, IfOk, IfSome, IfNone, OnOk};
 
 use crate::expected::Expected;
 use crate::fault::Refusal;
@@ -227,6 +227,8 @@ pub(crate) fn full_try(alloc: Global, cursor: &mut Cursor) -> Result<Again, Halt
 
 /// Adds the serial number of a block.
 fn add_serial(serials: &mut Vec<u8>, cursor: &mut Cursor) -> Result<(), Halt>
+    requires most { length serials.old.items ≤ 127 }
+    ensures most { OnOk result (length serials.new.items ≤ 127) }
     ensures shorter { OnOk result (length cursor.new.rest.now < length cursor.old.rest.now) }
 {
     let serial = number(cursor, 0, 126)? as u8;

@@ -1,5 +1,5 @@
 //! The words of a line.
-ghost use Rattle.std.specs.Prelude.{◌≡◌, ◌≢◌, ◌<◌, ◌≤◌, length, true, OnOk};
+ghost use Rattle.std.specs.Prelude.{◌≡◌, ◌≢◌, ◌+◌, ◌<◌, ◌≤◌, length, true, OnOk};
 ghost use Rattle.dmr_script.specs.declared.token.Token.TheVariants.{End};
 
 use crate::cited::Cited;
@@ -49,11 +49,10 @@ fn is_blank(octet: u8) -> bool {
 fn blanks_in_front(octets: &[u8]) -> usize
     ensures within { result ≤ length octets.now }
 {
-    let mut count = 0;
-    while count < octets.len() && is_blank(octets[count]) {
-        count += 1;
-    }
-    count
+    octets
+        .iter()
+        .position(|octet| !is_blank(*octet))
+        .unwrap_or(octets.len())
 }
 
 /// Whether a word ends in front of these octets.
@@ -120,7 +119,7 @@ impl<'a> Cursor<'a> {
     /// What stands next. The rest stands behind it.
     pub(crate) fn next(&mut self) -> Token<'a>
         ensures kept { length self.new.rest.now ≤ length self.old.rest.now }
-        ensures shorter { result.exit ≢ End → length self.new.rest.now < length self.old.rest.now }
+        ensures shorter { result ≢ End → length self.new.rest.now < length self.old.rest.now }
     {
         self.take(blanks_in_front(self.rest));
         match self.rest {
