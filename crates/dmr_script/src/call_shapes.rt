@@ -190,6 +190,14 @@ fn place_before(count: usize) -> Place {
     }
 }
 
+/// Whether one of the five places behind the first is there.
+fn has_companion(places: &[bool]) -> bool {
+    match places {
+        [] => false,
+        [_, behind @ ..] => is_there_within(behind, PLACES - 1, false),
+    }
+}
+
 /// The shape of a call whose headers went by unheard.
 fn late(alloc: Global, letters: &[Letter]) -> Result<CallShape, Halt>
     requires few { length letters.now ≤ 1048576 }
@@ -205,7 +213,7 @@ fn late(alloc: Global, letters: &[Letter]) -> Result<CallShape, Halt>
     let (voice, ends) = voice.split_at(voice_length(voice));
     let terminators = terminators_of(ends)?;
     let places = places_of(alloc, voice, Place::A, before)?;
-    if !is_there_within(&places.as_slice()[1..], PLACES - 1, false) {
+    if !has_companion(places.as_slice()) {
         return Err(Halt::Refused(Refusal::LoneA));
     }
     end_well(places.as_slice(), terminators)?;

@@ -1,5 +1,7 @@
 //! What the superframes of a call carry.
 ghost use Rattle.std.specs.Prelude.{◌≡◌, ◌+◌, ◌<◌, ◌≤◌, length};
+ghost use Rattle.std.specs.Prelude.{All, OnOk, IfOk};
+ghost use Rattle.dmr_script.specs.Fits.{FitsCarried};
 
 use crate::call::Carried;
 use crate::expected::Expected;
@@ -32,6 +34,8 @@ fn letters_behind<const BEFORE: usize>(front: [u8; BEFORE], letters: &[u8]) -> [
 /// 102 361-2, clause 7.1.1.4.
 fn add_alias(carried: &mut Vec<Carried>, alias: &[u8]) -> Result<(), Halt>
     requires most { length alias.now ≤ 27 }
+    requires fit { All FitsCarried carried.old.items }
+    ensures fit { OnOk result (All FitsCarried carried.new.items) }
 {
     let (front, mut rest) = alias.split_at(alias.len().min(HEADER_LETTERS));
     let count = 0x80 + 2 * alias.len() as u8;
@@ -51,6 +55,8 @@ fn add_alias(carried: &mut Vec<Carried>, alias: &[u8]) -> Result<(), Halt>
 
 /// Adds what an alias behind its word stands for.
 fn alias(carried: &mut Vec<Carried>, cursor: &mut Cursor) -> Result<(), Halt>
+    requires fit { All FitsCarried carried.old.items }
+    ensures fit { OnOk result (All FitsCarried carried.new.items) }
     ensures kept { length cursor.new.rest.now ≤ length cursor.old.rest.now }
 {
     match cursor.next() {
@@ -61,6 +67,8 @@ fn alias(carried: &mut Vec<Carried>, cursor: &mut Cursor) -> Result<(), Halt>
 
 /// Adds what one item says.
 fn item(carried: &mut Vec<Carried>, cursor: &mut Cursor) -> Result<(), Halt>
+    requires fit { All FitsCarried carried.old.items }
+    ensures fit { OnOk result (All FitsCarried carried.new.items) }
     ensures kept { length cursor.new.rest.now ≤ length cursor.old.rest.now }
 {
     let word = cursor.word(Expected::Carried)?;
@@ -77,7 +85,9 @@ fn item(carried: &mut Vec<Carried>, cursor: &mut Cursor) -> Result<(), Halt>
 }
 
 /// What superframes carry in turn, where that stands next: `, carrying ITEM / ITEM ..`.
-pub(crate) fn carrying(alloc: Global, cursor: &mut Cursor) -> Result<Vec<Carried>, Halt> {
+pub(crate) fn carrying(alloc: Global, cursor: &mut Cursor) -> Result<Vec<Carried>, Halt>
+    ensures fit { IfOk result (λ carried. All FitsCarried carried.items) }
+{
     let mut carried = Vec::new(alloc);
     if !cursor.takes_further(Keyword::Carrying) {
         return Ok(carried);

@@ -1,5 +1,6 @@
 //! Control signalling blocks, and data bursts by themselves, of a line.
 ghost use Rattle.std.specs.Prelude.{◌≡◌, ◌<◌, ◌≤◌, ◌^◌, length, IfOk, IfSome};
+ghost use Rattle.dmr_script.specs.Fits.{FitsBurst};
 
 use crate::control::LoneBurst;
 use crate::expected::Expected;
@@ -131,7 +132,9 @@ pub(crate) fn begun_control(word: &[u8], cursor: &mut Cursor) -> Result<Option<C
 }
 
 /// A part of a multi-block CSBK behind its first word: `header HEX24`, `block HEX24`.
-fn multi_block(cursor: &mut Cursor) -> Result<LoneBurst, Refusal> {
+fn multi_block(cursor: &mut Cursor) -> Result<LoneBurst, Refusal>
+    ensures fits { IfOk result FitsBurst }
+{
     if cursor.takes(Keyword::Header) {
         return Ok(LoneBurst::MbcHeader(octets(cursor, 24)?));
     }
@@ -140,19 +143,25 @@ fn multi_block(cursor: &mut Cursor) -> Result<LoneBurst, Refusal> {
 }
 
 /// A PI header behind its first word: `header HEX24`.
-fn pi_header(cursor: &mut Cursor) -> Result<LoneBurst, Refusal> {
+fn pi_header(cursor: &mut Cursor) -> Result<LoneBurst, Refusal>
+    ensures fits { IfOk result FitsBurst }
+{
     cursor.expect(Keyword::Header)?;
     Ok(LoneBurst::PiHeader(octets(cursor, 24)?))
 }
 
 /// Unified single block data behind its first word: `block HEX24`.
-fn unified_block(cursor: &mut Cursor) -> Result<LoneBurst, Refusal> {
+fn unified_block(cursor: &mut Cursor) -> Result<LoneBurst, Refusal>
+    ensures fits { IfOk result FitsBurst }
+{
     cursor.expect(Keyword::Block)?;
     Ok(LoneBurst::UnifiedBlock(octets(cursor, 24)?))
 }
 
 /// A block of a packet behind its first word: `1/2 HEX24`, or `3/4` and `1` with 49 digits.
-fn block_at_rate(cursor: &mut Cursor) -> Result<LoneBurst, Refusal> {
+fn block_at_rate(cursor: &mut Cursor) -> Result<LoneBurst, Refusal>
+    ensures fits { IfOk result FitsBurst }
+{
     match cursor.next() {
         Token::Word(b"1/2") => Ok(LoneBurst::RateHalf(octets(cursor, 24)?)),
         Token::Word(b"3/4") => Ok(LoneBurst::RateThreeQuarters(information(cursor)?)),
@@ -162,7 +171,9 @@ fn block_at_rate(cursor: &mut Cursor) -> Result<LoneBurst, Refusal> {
 }
 
 /// The data burst by itself that begins with this word, to the end of the line, where one does.
-pub(crate) fn begun_burst(word: &[u8], cursor: &mut Cursor) -> Result<Option<LoneBurst>, Refusal> {
+pub(crate) fn begun_burst(word: &[u8], cursor: &mut Cursor) -> Result<Option<LoneBurst>, Refusal>
+    ensures fits { IfOk result (λ burst. IfSome burst FitsBurst) }
+{
     let burst = match word {
         b"terminator" => LoneBurst::Terminator(link_control(cursor)?),
         b"PI" => pi_header(cursor)?,

@@ -97,7 +97,7 @@ fn add_word(letters: &mut Vec<Letter>, word: &[u8]) -> Result<(), Halt>
     let Some(group) = group_of(word) else {
         return Err(Halt::Refused(Refusal::NoShape(Cited::of(word))));
     };
-    for time in 0..group.times {
+    for _past in 0..group.times {
         if group.letters.len() > LETTER_LIMIT - letters.len() {
             return Err(Halt::Refused(Refusal::TooLong));
         }

@@ -1,5 +1,7 @@
 //! The statement of a line.
 ghost use Rattle.std.specs.Prelude.{◌≡◌, ◌<◌, ◌≤◌, ◌^◌, length, IfOk};
+ghost use Rattle.std.specs.Prelude.{IfSome};
+ghost use Rattle.dmr_script.specs.Fits.{FitsStatement};
 
 use crate::expected::Expected;
 use crate::fault::Refusal;
@@ -15,7 +17,9 @@ use std::alloc::Global;
 const LINE_LIMIT: usize = 65_536;
 
 /// A number that ends its line.
-fn last_number(cursor: &mut Cursor) -> Result<u32, Refusal> {
+fn last_number(cursor: &mut Cursor) -> Result<u32, Refusal>
+    ensures fits { IfOk result (λ n. n < 2 ^ 32) }
+{
     let number = number(cursor, 0, u32::MAX)?;
     cursor.expect_end()?;
     Ok(number)
@@ -38,7 +42,9 @@ fn slot(cursor: &mut Cursor) -> Result<Slot, Refusal> {
 }
 
 /// The statement that begins with this word, to the end of the line.
-fn begun(alloc: Global, word: &[u8], cursor: &mut Cursor) -> Result<Statement, Halt> {
+fn begun(alloc: Global, word: &[u8], cursor: &mut Cursor) -> Result<Statement, Halt>
+    ensures fits { IfOk result FitsStatement }
+{
     let statement = match word {
         b"colour" => Statement::Colour(colour(cursor)?),
         b"slot" => Statement::Slot(slot(cursor)?),
@@ -53,7 +59,9 @@ fn begun(alloc: Global, word: &[u8], cursor: &mut Cursor) -> Result<Statement, H
 }
 
 /// What a line says, where it says anything.
-pub(crate) fn statement(alloc: Global, line: &[u8]) -> Result<Option<Statement>, Halt> {
+pub(crate) fn statement(alloc: Global, line: &[u8]) -> Result<Option<Statement>, Halt>
+    ensures fits { IfOk result (λ statement. IfSome statement FitsStatement) }
+{
     if line.len() > LINE_LIMIT {
         return Err(Halt::Refused(Refusal::LongLine));
     }

@@ -56,7 +56,9 @@ fn of_call(voice: VoiceLc) -> FullLc
 }
 
 /// The bits of an option behind a comma, where it stands next.
-fn option_bits(cursor: &mut Cursor, keyword: Keyword, option: ServiceOptions) -> u8 {
+fn option_bits(cursor: &mut Cursor, keyword: Keyword, option: ServiceOptions) -> u8
+    ensures kept { length cursor.new.rest.now ≤ length cursor.old.rest.now }
+{
     if cursor.takes_further(keyword) {
         option.0
     } else {
@@ -65,7 +67,9 @@ fn option_bits(cursor: &mut Cursor, keyword: Keyword, option: ServiceOptions) ->
 }
 
 /// The priority of a call, where it stands next.
-fn priority(cursor: &mut Cursor) -> Result<u8, Refusal> {
+fn priority(cursor: &mut Cursor) -> Result<u8, Refusal>
+    ensures kept { length cursor.new.rest.now ≤ length cursor.old.rest.now }
+{
     if cursor.takes_further(Keyword::Priority) {
         return octet(cursor, 3);
     }
@@ -73,7 +77,9 @@ fn priority(cursor: &mut Cursor) -> Result<u8, Refusal> {
 }
 
 /// The service options of a call, as far as they stand next.
-fn options(cursor: &mut Cursor) -> Result<ServiceOptions, Refusal> {
+fn options(cursor: &mut Cursor) -> Result<ServiceOptions, Refusal>
+    ensures kept { length cursor.new.rest.now ≤ length cursor.old.rest.now }
+{
     let emergency = option_bits(cursor, Keyword::Emergency, ServiceOptions::EMERGENCY);
     let privacy = option_bits(cursor, Keyword::Privacy, ServiceOptions::PRIVACY);
     let broadcast = option_bits(cursor, Keyword::Broadcast, ServiceOptions::BROADCAST);
@@ -84,6 +90,7 @@ fn options(cursor: &mut Cursor) -> Result<ServiceOptions, Refusal> {
 /// A call behind its first word: `call S -> T`, and its options.
 fn call(cursor: &mut Cursor, kind: CallKind) -> Result<FullLc, Refusal>
     ensures fits { IfOk result (λ lc. lc.flco < 64) }
+    ensures kept { length cursor.new.rest.now ≤ length cursor.old.rest.now }
 {
     cursor.expect(Keyword::Call)?;
     let source = address(cursor)?;
@@ -101,6 +108,7 @@ fn call(cursor: &mut Cursor, kind: CallKind) -> Result<FullLc, Refusal>
 /// A part of a talker alias behind its first word: `alias header HEX14`, `alias block N HEX14`.
 fn talker_alias(cursor: &mut Cursor) -> Result<FullLc, Refusal>
     ensures fits { IfOk result (λ lc. lc.flco < 64) }
+    ensures kept { length cursor.new.rest.now ≤ length cursor.old.rest.now }
 {
     cursor.expect(Keyword::Alias)?;
     if cursor.takes(Keyword::Header) {
@@ -114,13 +122,16 @@ fn talker_alias(cursor: &mut Cursor) -> Result<FullLc, Refusal>
 /// GPS info behind its first word: `info HEX14`.
 fn gps_info(cursor: &mut Cursor) -> Result<FullLc, Refusal>
     ensures fits { IfOk result (λ lc. lc.flco < 64) }
+    ensures kept { length cursor.new.rest.now ≤ length cursor.old.rest.now }
 {
     cursor.expect(Keyword::Info)?;
     Ok(standard(GPS_INFO, octets(cursor, 14)?))
 }
 
 /// The feature set of a link control between commas, where it stands next.
-fn feature_set(cursor: &mut Cursor) -> Result<u8, Refusal> {
+fn feature_set(cursor: &mut Cursor) -> Result<u8, Refusal>
+    ensures kept { length cursor.new.rest.now ≤ length cursor.old.rest.now }
+{
     if !cursor.takes_further(Keyword::Fid) {
         return Ok(0);
     }
@@ -132,6 +143,7 @@ fn feature_set(cursor: &mut Cursor) -> Result<u8, Refusal> {
 /// A link control by its fields behind its first word: `opcode N HEX14`, `opcode N, fid N, HEX14`.
 fn of_opcode(cursor: &mut Cursor) -> Result<FullLc, Refusal>
     ensures fits { IfOk result (λ lc. lc.flco < 64) }
+    ensures kept { length cursor.new.rest.now ≤ length cursor.old.rest.now }
 {
     cursor.expect(Keyword::Opcode)?;
     let flco = octet(cursor, 63)?;
@@ -168,6 +180,7 @@ pub(crate) fn begun_link_control(
 /// A link control.
 pub(crate) fn link_control(cursor: &mut Cursor) -> Result<FullLc, Refusal>
     ensures fits { IfOk result (λ lc. lc.flco < 64) }
+    ensures kept { length cursor.new.rest.now ≤ length cursor.old.rest.now }
 {
     let word = cursor.word(Expected::LinkControl)?;
     match begun_link_control(word, cursor)? {

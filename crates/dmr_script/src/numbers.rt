@@ -22,6 +22,7 @@ pub(crate) fn number(cursor: &mut Cursor, least: u32, greatest: u32) -> Result<u
     ensures least { IfOk result (λ n. least ≤ n) }
     ensures greatest { IfOk result (λ n. n ≤ greatest) }
     ensures shorter { OnOk result (length cursor.new.rest.now < length cursor.old.rest.now) }
+    ensures kept { length cursor.new.rest.now ≤ length cursor.old.rest.now }
 {
     let wanted = Expected::Number { least, greatest };
     let word = cursor.word(wanted)?;
@@ -34,6 +35,7 @@ pub(crate) fn number(cursor: &mut Cursor, least: u32, greatest: u32) -> Result<u
 /// An address of 24 bits.
 pub(crate) fn address(cursor: &mut Cursor) -> Result<u32, Refusal>
     ensures fits { IfOk result (λ n. n < 2 ^ 24) }
+    ensures kept { length cursor.new.rest.now ≤ length cursor.old.rest.now }
 {
     let word = cursor.word(Expected::Address)?;
     match decimal(word) {
@@ -45,6 +47,7 @@ pub(crate) fn address(cursor: &mut Cursor) -> Result<u32, Refusal>
 /// A number of a field of at most eight bits.
 pub(crate) fn octet(cursor: &mut Cursor, greatest: u8) -> Result<u8, Refusal>
     ensures greatest { IfOk result (λ n. n ≤ greatest) }
+    ensures kept { length cursor.new.rest.now ≤ length cursor.old.rest.now }
 {
     Ok(number(cursor, 0, u32::from(greatest))? as u8)
 }
@@ -68,6 +71,7 @@ pub(crate) fn access_point(cursor: &mut Cursor, otherwise: u8) -> Result<u8, Ref
 /// So many octets, as two hexadecimal digits each.
 pub(crate) fn octets<const N: usize>(cursor: &mut Cursor, digits: u32) -> Result<[u8; N], Refusal>
     requires two { digits ≡ 2 * N }
+    ensures kept { length cursor.new.rest.now ≤ length cursor.old.rest.now }
 {
     let word = cursor.word(Expected::Digits(digits))?;
     let mut octets = [0; N];

@@ -1,5 +1,6 @@
 //! The shape of a packet from its letters.
 ghost use Rattle.std.specs.Prelude.{◌≡◌, ◌+◌, ◌<◌, ◌≤◌, length, take, drop, true, false, IfOk, OnOk, IfSome};
+ghost use Rattle.dmr_script.specs.Fits.{HasBlocks};
 
 use crate::fault::Refusal;
 use crate::halt::Halt;
@@ -65,8 +66,7 @@ pub(crate) fn packet_shape(
     requires few { length letters.now ≤ 1048576 }
     requires most { IfSome packet (λ packet. packet ≤ 127) }
     ensures count { IfOk result (λ shape. IfSome packet (λ packet. length shape.blocks.items ≡ packet)) }
-    ensures most { IfOk result (λ shape. length shape.blocks.items ≤ 127) }
-    ensures counted { IfOk result (λ shape. shape.preambles + length shape.blocks.items ≤ 255) }
+    ensures shape { IfOk result (λ shape. HasBlocks (length shape.blocks.items) shape) }
 {
     let (preambles, behind) = letters.split_at(csbks_in_front(letters));
     let [Letter::Place(Place::D), blocks @ ..] = behind else {
@@ -86,8 +86,7 @@ pub(crate) fn packet_shape(
 /// A header and all of so many blocks.
 fn whole(alloc: Global, blocks: usize) -> Result<PacketShape, Halt>
     requires few { blocks ≤ 127 }
-    ensures blocks { IfOk result (λ shape. length shape.blocks.items ≡ blocks) }
-    ensures counted { IfOk result (λ shape. shape.preambles + length shape.blocks.items ≤ 255) }
+    ensures shape { IfOk result (λ shape. HasBlocks blocks shape) }
 {
     Ok(PacketShape {
         preambles: 0,
@@ -102,8 +101,7 @@ pub(crate) fn known_shape(
     packet: usize,
 ) -> Result<PacketShape, Halt>
     requires most { packet ≤ 127 }
-    ensures count { IfOk result (λ shape. length shape.blocks.items ≡ packet) }
-    ensures counted { IfOk result (λ shape. shape.preambles + length shape.blocks.items ≤ 255) }
+    ensures shape { IfOk result (λ shape. HasBlocks packet shape) }
 {
     match shape_letters(alloc, cursor)? {
         Some(letters) => packet_shape(alloc, letters.as_slice(), Some(packet)),
@@ -113,8 +111,7 @@ pub(crate) fn known_shape(
 
 /// The shape of a packet whose blocks other lines say, to the end of the line, where there is one.
 pub(crate) fn any_shape(alloc: Global, cursor: &mut Cursor) -> Result<Option<PacketShape>, Halt>
-    ensures most { IfOk result (λ shape. IfSome shape (λ shape. length shape.blocks.items ≤ 127)) }
-    ensures counted { IfOk result (λ shape. IfSome shape (λ shape. shape.preambles + length shape.blocks.items ≤ 255)) }
+    ensures shape { IfOk result (λ shape. IfSome shape (λ shape. HasBlocks (length shape.blocks.items) shape)) }
 {
     match shape_letters(alloc, cursor)? {
         Some(letters) => Ok(Some(packet_shape(alloc, letters.as_slice(), None)?)),

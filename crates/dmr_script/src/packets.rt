@@ -1,5 +1,10 @@
 //! Packets, short data, status and answers of a line.
 ghost use Rattle.std.specs.Prelude.{◌≡◌, ◌+◌, ◌*◌, ◌<◌, ◌≤◌, ◌^◌, length, IfOk, IfSome, IfNone, OnOk};
+ghost use Rattle.std.specs.Prelude.{All, false};
+ghost use Rattle.dmr_data.specs.Block.{payload};
+ghost use Rattle.dmr_script.specs.Fits.{FitsAgain, FitsAnswer, FitsBody, FitsKind, FitsMessage, FitsPacket, FitsShortData};
+ghost use Rattle.dmr_script.specs.Fits.{FitsStatus, FitsStatusHeader, FitsWanted, HoldsBody, body_octets, flag_blocks};
+ghost use Rattle.dmr_script.specs.Fits.{port_octets};
 
 use crate::expected::Expected;
 use crate::fault::Refusal;
@@ -98,7 +103,7 @@ pub(crate) fn message(
     source_port: u16,
     destination_port: u16,
 ) -> Result<UdpMessage, Halt>
-    ensures most { IfOk result (λ message. length message.data.items ≤ 1372) }
+    ensures fits { IfOk result FitsMessage }
 {
     let identification = if cursor.takes_further(Keyword::Id) {
         word_number(cursor)?
@@ -119,7 +124,9 @@ pub(crate) fn message(
 }
 
 /// What a packet carries.
-fn body(alloc: Global, cursor: &mut Cursor) -> Result<Body, Halt> {
+fn body(alloc: Global, cursor: &mut Cursor) -> Result<Body, Halt>
+    ensures fits { IfOk result FitsBody }
+{
     match cursor.next() {
         Token::Word(b"UDP") => {
             let source_port = word_number(cursor)?;
@@ -134,7 +141,7 @@ fn body(alloc: Global, cursor: &mut Cursor) -> Result<Body, Halt> {
 
 /// How many octets a port has in a compressed form.
 fn port_length(port: u16) -> usize
-    ensures most { result ≤ 2 }
+    ensures value { result ≡ port_octets port }
 {
     match port {
         5016 | 5017 => 0,
@@ -143,7 +150,10 @@ fn port_length(port: u16) -> usize
 }
 
 /// How many octets the body of a packet has.
-fn body_length(body: &Body, sap: u8) -> usize {
+fn body_length(body: &Body, sap: u8) -> usize
+    requires fits { FitsBody body.now }
+    ensures value { result ≡ body_octets sap body.now }
+{
     match body {
         Body::Octets(octets) => octets.len(),
         Body::Udp(message) if sap == COMPRESSED_UDP => {
@@ -158,6 +168,7 @@ fn body_length(body: &Body, sap: u8) -> usize {
 
 /// How many octets of a packet a block has.
 fn block_octets(rate: Rate, confirmed: bool) -> usize
+    ensures value { result ≡ payload rate confirmed }
     ensures some { 10 ≤ result }
     ensures most { result ≤ 24 }
 {
@@ -177,8 +188,7 @@ fn block_count(body: usize, block: usize, most: usize) -> Option<usize>
     requires some { 0 < block }
     requires narrow { block ≤ 24 }
     requires few { most ≤ 127 }
-    ensures fits { IfSome result (λ count. body + 4 ≤ count * block) }
-    ensures fewest { IfSome result (λ count. count * block < body + 4 + block) }
+    ensures holds { IfSome result (λ count. HoldsBody count body block) }
     ensures most { IfSome result (λ count. count ≤ most) }
     ensures none { IfNone result (most * block < body + 4) }
 {
@@ -193,7 +203,9 @@ pub(crate) fn packet_try(
     alloc: Global,
     cursor: &mut Cursor,
     confirmed: bool,
-) -> Result<PacketTry, Halt> {
+) -> Result<PacketTry, Halt>
+    ensures fits { IfOk result FitsPacket }
+{
     let way = way_of(cursor)?;
     let sap = access_point(cursor, IP_PACKET)?;
     let number = packet_number(cursor)?;
@@ -221,14 +233,18 @@ pub(crate) fn packet_try(
 }
 
 /// `full`: a try of all of the last packet.
-pub(crate) fn full_try(alloc: Global, cursor: &mut Cursor) -> Result<Again, Halt> {
+pub(crate) fn full_try(alloc: Global, cursor: &mut Cursor) -> Result<Again, Halt>
+    ensures fits { IfOk result FitsAgain }
+{
     Ok(Again::Full(any_shape(alloc, cursor)?))
 }
 
 /// Adds the serial number of a block.
 fn add_serial(serials: &mut Vec<u8>, cursor: &mut Cursor) -> Result<(), Halt>
     requires most { length serials.old.items ≤ 127 }
+    requires serials { All (λ serial. serial < 127) serials.old.items }
     ensures most { OnOk result (length serials.new.items ≤ 127) }
+    ensures serials { OnOk result (All (λ serial. serial < 127) serials.new.items) }
     ensures shorter { OnOk result (length cursor.new.rest.now < length cursor.old.rest.now) }
 {
     let serial = number(cursor, 0, 126)? as u8;
@@ -240,7 +256,9 @@ fn add_serial(serials: &mut Vec<u8>, cursor: &mut Cursor) -> Result<(), Halt>
 }
 
 /// `partial N N ..`: a try of these blocks of the last packet.
-pub(crate) fn partial_try(alloc: Global, cursor: &mut Cursor) -> Result<Again, Halt> {
+pub(crate) fn partial_try(alloc: Global, cursor: &mut Cursor) -> Result<Again, Halt>
+    ensures fits { IfOk result FitsAgain }
+{
     let mut serials = Vec::new(alloc);
     add_serial(&mut serials, cursor)?;
     while !cursor.is_at_shape() {
@@ -251,7 +269,9 @@ pub(crate) fn partial_try(alloc: Global, cursor: &mut Cursor) -> Result<Again, H
 }
 
 /// Short data behind its first word: `data S -> [group] T, format N, octets HEX`.
-pub(crate) fn short_data_try(alloc: Global, cursor: &mut Cursor) -> Result<ShortDataTry, Halt> {
+pub(crate) fn short_data_try(alloc: Global, cursor: &mut Cursor) -> Result<ShortDataTry, Halt>
+    ensures fits { IfOk result FitsShortData }
+{
     cursor.expect(Keyword::Data)?;
     let way = way_of(cursor)?;
     cursor.expect_further(Keyword::Format)?;
@@ -273,7 +293,9 @@ pub(crate) fn short_data_try(alloc: Global, cursor: &mut Cursor) -> Result<Short
 }
 
 /// The header of a status behind its first word: `S -> [group] T, port N -> N, status N`.
-fn status_header(cursor: &mut Cursor) -> Result<Status, Refusal> {
+fn status_header(cursor: &mut Cursor) -> Result<Status, Refusal>
+    ensures fits { IfOk result FitsStatusHeader }
+{
     let way = way_of(cursor)?;
     cursor.expect_further(Keyword::Port)?;
     let source_port = octet(cursor, 7)?;
@@ -293,7 +315,9 @@ fn status_header(cursor: &mut Cursor) -> Result<Status, Refusal> {
 }
 
 /// A status behind its first word.
-pub(crate) fn status_sent(alloc: Global, cursor: &mut Cursor) -> Result<StatusSent, Halt> {
+pub(crate) fn status_sent(alloc: Global, cursor: &mut Cursor) -> Result<StatusSent, Halt>
+    ensures fits { IfOk result FitsStatus }
+{
     let header = status_header(cursor)?;
     let shape = known_shape(alloc, cursor, 0)?;
     Ok(StatusSent { header, shape })
@@ -308,7 +332,11 @@ struct AnswerFront {
 }
 
 /// Who answers which packet.
-fn front_of(cursor: &mut Cursor) -> Result<AnswerFront, Refusal> {
+fn front_of(cursor: &mut Cursor) -> Result<AnswerFront, Refusal>
+    ensures source { IfOk result (λ front. front.source < 2 ^ 24) }
+    ensures destination { IfOk result (λ front. front.destination < 2 ^ 24) }
+    ensures number { IfOk result (λ front. front.number < 8) }
+{
     let source = address(cursor)?;
     cursor.expect(Keyword::Arrow)?;
     let destination = address(cursor)?;
@@ -326,7 +354,11 @@ pub(crate) fn plain_answer(
     alloc: Global,
     cursor: &mut Cursor,
     kind: AnswerKind,
-) -> Result<Answer, Halt> {
+) -> Result<Answer, Halt>
+    requires kind { FitsKind kind }
+    requires none { flag_blocks kind ≡ 0 }
+    ensures fits { IfOk result FitsAnswer }
+{
     let front = front_of(cursor)?;
     let sap = access_point(cursor, IP_PACKET)?;
     let shape = known_shape(alloc, cursor, 0)?;
@@ -341,7 +373,9 @@ pub(crate) fn plain_answer(
 }
 
 /// The blocks that are wanted behind their word: `N N .. of N`.
-fn wanted_blocks(alloc: Global, cursor: &mut Cursor) -> Result<Wanted, Halt> {
+fn wanted_blocks(alloc: Global, cursor: &mut Cursor) -> Result<Wanted, Halt>
+    ensures fits { IfOk result FitsWanted }
+{
     let mut serials = Vec::new(alloc);
     add_serial(&mut serials, cursor)?;
     while !cursor.takes(Keyword::Of) {
@@ -355,7 +389,9 @@ fn wanted_blocks(alloc: Global, cursor: &mut Cursor) -> Result<Wanted, Halt> {
 }
 
 /// Selective repeat behind its first word.
-pub(crate) fn selective_repeat(alloc: Global, cursor: &mut Cursor) -> Result<Answer, Halt> {
+pub(crate) fn selective_repeat(alloc: Global, cursor: &mut Cursor) -> Result<Answer, Halt>
+    ensures fits { IfOk result FitsAnswer }
+{
     cursor.expect(Keyword::Repeat)?;
     let front = front_of(cursor)?;
     cursor.expect_further(Keyword::Wanted)?;

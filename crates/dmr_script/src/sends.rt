@@ -1,5 +1,6 @@
 //! Records of the outgoing list of a line.
 ghost use Rattle.std.specs.Prelude.{◌≡◌, ◌<◌, ◌≤◌, ◌^◌, length, IfOk};
+ghost use Rattle.dmr_script.specs.Fits.{FitsDatagram};
 
 use crate::expected::Expected;
 use crate::fault::Refusal;
@@ -24,7 +25,9 @@ fn endpoint(cursor: &mut Cursor) -> Result<SocketAddrV4, Refusal> {
 }
 
 /// What a record holds.
-fn datagram(alloc: Global, cursor: &mut Cursor) -> Result<Datagram, Halt> {
+fn datagram(alloc: Global, cursor: &mut Cursor) -> Result<Datagram, Halt>
+    ensures fits { IfOk result FitsDatagram }
+{
     match cursor.next() {
         Token::Word(b"UDP") => {
             let source = endpoint(cursor)?;
@@ -62,7 +65,10 @@ fn rate(cursor: &mut Cursor) -> Result<Rate, Refusal> {
 }
 
 /// A record behind its first word: `at FRAME, [confirmed,] [rate 1,] DATAGRAM`.
-pub(crate) fn send(alloc: Global, cursor: &mut Cursor) -> Result<Send, Halt> {
+pub(crate) fn send(alloc: Global, cursor: &mut Cursor) -> Result<Send, Halt>
+    ensures frame { IfOk result (λ send. send.frame < 2 ^ 32) }
+    ensures fits { IfOk result (λ send. FitsDatagram send.datagram) }
+{
     cursor.expect(Keyword::At)?;
     let frame = number(cursor, 0, u32::MAX)?;
     cursor.expect(Keyword::Comma)?;

@@ -1,5 +1,7 @@
 //! Transmissions of a line.
 ghost use Rattle.std.specs.Prelude.{◌≡◌, ◌<◌, ◌≤◌, ◌^◌, length, IfOk};
+ghost use Rattle.std.specs.Prelude.{IfSome};
+ghost use Rattle.dmr_script.specs.Fits.{FitsCall, FitsTransmission, FitsTransmit};
 
 use crate::call::Call;
 use crate::call_shapes::{self, call_shape};
@@ -34,6 +36,7 @@ fn key(cursor: &mut Cursor) -> Result<[u8; 10], Refusal> {
 /// A call behind its link control, to the end of the line.
 fn call(alloc: Global, cursor: &mut Cursor, link_control: FullLc) -> Result<Call, Halt>
     requires fits { link_control.flco < 64 }
+    ensures fits { IfOk result FitsCall }
 {
     let pi = cursor.takes_further(Keyword::Pi);
     let key = key(cursor)?;
@@ -56,7 +59,9 @@ fn begun_packet(
     alloc: Global,
     word: &[u8],
     cursor: &mut Cursor,
-) -> Result<Option<Transmission>, Halt> {
+) -> Result<Option<Transmission>, Halt>
+    ensures fits { IfOk result (λ transmission. IfSome transmission FitsTransmission) }
+{
     let transmission = match word {
         b"unconfirmed" => Transmission::Packet(packet_try(alloc, cursor, false)?),
         b"confirmed" => Transmission::Packet(packet_try(alloc, cursor, true)?),
@@ -77,7 +82,9 @@ fn begun_transmission(
     alloc: Global,
     word: &[u8],
     cursor: &mut Cursor,
-) -> Result<Transmission, Halt> {
+) -> Result<Transmission, Halt>
+    ensures fits { IfOk result FitsTransmission }
+{
     if let Some(link_control) = begun_link_control(word, cursor)? {
         return Ok(Transmission::Call(call(alloc, cursor, link_control)?));
     }
@@ -109,7 +116,9 @@ fn may_be_foreign(transmission: &Transmission) -> Result<(), Refusal> {
 }
 
 /// A transmission of the own colour code that begins with this word.
-pub(crate) fn own(alloc: Global, word: &[u8], cursor: &mut Cursor) -> Result<Transmit, Halt> {
+pub(crate) fn own(alloc: Global, word: &[u8], cursor: &mut Cursor) -> Result<Transmit, Halt>
+    ensures fits { IfOk result FitsTransmit }
+{
     Ok(Transmit {
         sender: Sender::Own,
         transmission: begun_transmission(alloc, word, cursor)?,
@@ -117,7 +126,9 @@ pub(crate) fn own(alloc: Global, word: &[u8], cursor: &mut Cursor) -> Result<Tra
 }
 
 /// A transmission of another colour code behind its first word: `N TRANSMISSION`.
-pub(crate) fn foreign(alloc: Global, cursor: &mut Cursor) -> Result<Transmit, Halt> {
+pub(crate) fn foreign(alloc: Global, cursor: &mut Cursor) -> Result<Transmit, Halt>
+    ensures fits { IfOk result FitsTransmit }
+{
     let colour = octet(cursor, 15)?;
     let word = cursor.word(Expected::Transmission)?;
     let transmission = begun_transmission(alloc, word, cursor)?;
