@@ -1,1 +1,4 @@
 pub mod Fits
+pub mod Order
+pub mod Quiet
+pub mod Reading

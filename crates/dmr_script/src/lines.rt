@@ -1,7 +1,8 @@
 //! The statement of a line.
 ghost use Rattle.std.specs.Prelude.{◌≡◌, ◌<◌, ◌≤◌, ◌^◌, length, IfOk};
-ghost use Rattle.std.specs.Prelude.{IfSome};
+ghost use Rattle.std.specs.Prelude.{◌⊎◌, IfErr, IfNone, IfSome, true, false};
 ghost use Rattle.dmr_script.specs.Fits.{FitsStatement};
+ghost use Rattle.dmr_script.specs.Quiet.{is_quiet};
 
 use crate::expected::Expected;
 use crate::fault::Refusal;
@@ -61,6 +62,9 @@ fn begun(alloc: Global, word: &[u8], cursor: &mut Cursor) -> Result<Statement, H
 /// What a line says, where it says anything.
 pub(crate) fn statement(alloc: Global, line: &[u8]) -> Result<Option<Statement>, Halt>
     ensures fits { IfOk result (λ statement. IfSome statement FitsStatement) }
+    ensures quiet { IfOk result (λ statement. IfNone statement (is_quiet line.now ≡ true)) }
+    ensures words { IfOk result (λ statement. IfSome statement (λ _. is_quiet line.now ≡ false)) }
+    ensures refused { IfErr result (λ e. (is_quiet line.now ≡ false) ⊎ (65536 < length line.now)) }
 {
     if line.len() > LINE_LIMIT {
         return Err(Halt::Refused(Refusal::LongLine));

@@ -1,5 +1,6 @@
 //! Which statements may follow one another.
-ghost use Rattle.std.specs.Prelude.{◌≡◌, OnOk, IfErr};
+ghost use Rattle.std.specs.Prelude.{◌≡◌, Some, None, OnOk, IfErr};
+ghost use Rattle.dmr_script.specs.Order.{nothing_said, refused_behind, refused_transmit, said_with};
 
 use crate::fault::Refusal;
 use crate::statement::{Sender, Statement};
@@ -20,7 +21,9 @@ pub(crate) struct Said {
 
 impl Said {
     /// In front of the first statement.
-    pub(crate) fn nothing() -> Said {
+    pub(crate) fn nothing() -> Said
+        ensures value { result ≡ nothing_said }
+    {
         Said {
             colour: USUAL_COLOUR,
             slot: false,
@@ -29,7 +32,10 @@ impl Said {
     }
 
     /// What a transmission with this colour code is refused for.
-    fn transmit(self, sender: Sender) -> Result<(), Refusal> {
+    fn transmit(self, sender: Sender) -> Result<(), Refusal>
+        ensures may { OnOk result (refused_transmit self sender ≡ None) }
+        ensures fault { IfErr result (λ e. refused_transmit self sender ≡ Some e) }
+    {
         if !self.slot {
             return Err(Refusal::NoSlot);
         }
@@ -40,7 +46,11 @@ impl Said {
     }
 
     /// Adds a statement, or tells why it may not stand here.
-    pub(crate) fn add(&mut self, statement: &Statement) -> Result<(), Refusal> {
+    pub(crate) fn add(&mut self, statement: &Statement) -> Result<(), Refusal>
+        ensures may { OnOk result (refused_behind self.old statement.now ≡ None) }
+        ensures value { OnOk result (self.new ≡ said_with self.old statement.now) }
+        ensures fault { IfErr result (λ e. refused_behind self.old statement.now ≡ Some e) }
+    {
         match statement {
             Statement::Colour(_) if self.slot => return Err(Refusal::ColourBehindSlot),
             Statement::Colour(colour) => self.colour = *colour,

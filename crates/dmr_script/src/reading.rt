@@ -1,5 +1,11 @@
 //! The statements of a script.
-ghost use Rattle.std.specs.Prelude.{◌≡◌, false, IfOk};
+ghost use Rattle.std.specs.Prelude.{◌≡◌, ◌⊎◌, ◌<◌, All, None, true, false, length, IfOk, IfErr, IfSome, IfNone, OnOk, OnErr};
+ghost use Rattle.dmr_words.specs.Lines.{line_limit};
+ghost use Rattle.dmr_script.specs.Fits.{FitsNumbered, FitsStatement};
+ghost use Rattle.dmr_script.specs.Order.{MayFollow, nothing_said, refused_behind, said_with};
+ghost use Rattle.dmr_script.specs.Quiet.{is_quiet};
+ghost use Rattle.dmr_script.specs.Reading.{IsRead, has_failed_reading};
+ghost use Rattle.dmr_words.specs.declared.fault.LineFault.TheVariants as line;
 
 use crate::fault::{Refusal, RefusedLine};
 use crate::halt::Halt;
@@ -12,7 +18,11 @@ use dmr_words::{LineFault, Lines};
 use std::alloc::{AllocError, Global};
 
 /// Why a line that can't be told is refused.
-fn of_line(fault: LineFault) -> Refusal {
+fn of_line(fault: LineFault) -> Refusal
+    ensures long { fault ≡ line.TooLong → result ≡ Refusal.LongLine }
+    ensures many { fault ≡ line.TooMany → result ≡ Refusal.TooManyLines }
+    ensures read { fault ≡ line.Read → result ≡ Refusal.Read }
+{
     match fault {
         LineFault::TooLong => Refusal::LongLine,
         LineFault::TooMany => Refusal::TooManyLines,
@@ -21,7 +31,15 @@ fn of_line(fault: LineFault) -> Refusal {
 }
 
 /// What a line says behind others, where it says anything.
-fn further(alloc: Global, said: &mut Said, line: &[u8]) -> Result<Option<Statement>, Halt> {
+fn further(alloc: Global, said: &mut Said, line: &[u8]) -> Result<Option<Statement>, Halt>
+    ensures fits { IfOk result (λ statement. IfSome statement FitsStatement) }
+    ensures may { IfOk result (λ statement. IfSome statement (λ s. refused_behind said.old s ≡ None)) }
+    ensures value { IfOk result (λ statement. IfSome statement (λ s. said.new ≡ said_with said.old s)) }
+    ensures same { IfOk result (λ statement. IfNone statement (said.new ≡ said.old)) }
+    ensures quiet { IfOk result (λ statement. IfNone statement (is_quiet line.now ≡ true)) }
+    ensures words { IfOk result (λ statement. IfSome statement (λ _. is_quiet line.now ≡ false)) }
+    ensures refused { IfErr result (λ e. (is_quiet line.now ≡ false) ⊎ (65536 < length line.now)) }
+{
     let Some(statement) = statement(alloc, line)? else {
         return Ok(None);
     };
@@ -33,6 +51,15 @@ fn further(alloc: Global, said: &mut Said, line: &[u8]) -> Result<Option<Stateme
 /// comes where there is no memory for the statements.
 pub fn read_script<S: Source>(alloc: Global, source: &mut S) -> Result<Script, AllocError>
     requires well { S.has_failed source.old ≡ false }
+    // The numbers of each statement fit their fields,
+    ensures fit { IfOk result (λ script. All FitsNumbered script.statements.items) }
+    // each may stand behind those in front of it,
+    ensures follow { IfOk result (λ script. MayFollow nothing_said script.statements.items) }
+    // they are of the lines up to the first that is refused, or of all lines, and no line was read behind these,
+    ensures read { IfOk result (λ script. IsRead script.refused script.statements.items (S.left source.old) (S.left source.new)) }
+    // and the source failed exactly where that is told.
+    ensures failed { IfOk result (λ script. S.has_failed source.new ≡ has_failed_reading script.refused) }
+    ensures well { OnErr result (S.has_failed source.new ≡ false) }
 {
     let mut said = Said::nothing();
     let mut lines = Lines::new();

@@ -1,5 +1,6 @@
 //! The words of a line.
-ghost use Rattle.std.specs.Prelude.{◌≡◌, ◌≢◌, ◌+◌, ◌<◌, ◌≤◌, length, true, OnOk};
+ghost use Rattle.std.specs.Prelude.{◌≡◌, ◌≢◌, ◌+◌, ◌<◌, ◌≤◌, length, drop, slice_index_or, true, false, OnOk};
+ghost use Rattle.dmr_script.specs.Quiet.{is_blank, is_quiet};
 ghost use Rattle.dmr_script.specs.declared.token.Token.TheVariants.{End};
 
 use crate::cited::Cited;
@@ -41,18 +42,26 @@ pub(crate) struct Cursor<'a> {
 }
 
 /// Whether an octet stands between words.
-fn is_blank(octet: u8) -> bool {
+fn is_blank(octet: u8) -> bool
+    ensures value { result ≡ is_blank octet }
+{
     octet == b' ' || octet == b'\t'
 }
 
-/// How many blanks stand in front.
-fn blanks_in_front(octets: &[u8]) -> usize
-    ensures within { result ≤ length octets.now }
+/// What stands behind the blanks in front.
+fn behind_blanks(octets: &[u8]) -> &[u8]
+    ensures quiet { is_quiet result.now ≡ is_quiet octets.now }
+    ensures first { is_blank (slice_index_or result.now 0 0) ≡ false }
+    ensures within { length result.now ≤ length octets.now }
 {
-    octets
-        .iter()
-        .position(|octet| !is_blank(*octet))
-        .unwrap_or(octets.len())
+    let mut rest = octets;
+    while let [first, behind @ ..] = rest {
+        if !is_blank(*first) {
+            return rest;
+        }
+        rest = behind;
+    }
+    rest
 }
 
 /// Whether a word ends in front of these octets.
@@ -109,7 +118,8 @@ impl<'a> Cursor<'a> {
     fn take(&mut self, count: usize) -> &'a [u8]
         requires there { count ≤ length self.old.rest.now }
         ensures length { length result.now ≡ count }
-        ensures rest { length self.new.rest.now + count ≡ length self.old.rest.now }
+        ensures rest { self.new.rest.now ≡ drop count self.old.rest.now }
+        ensures left { length self.new.rest.now + count ≡ length self.old.rest.now }
     {
         let (taken, rest) = self.rest.split_at(count);
         self.rest = rest;
@@ -119,9 +129,11 @@ impl<'a> Cursor<'a> {
     /// What stands next. The rest stands behind it.
     pub(crate) fn next(&mut self) -> Token<'a>
         ensures kept { length self.new.rest.now ≤ length self.old.rest.now }
+        ensures quiet { result ≡ End → is_quiet self.old.rest.now ≡ true }
+        ensures words { result ≢ End → is_quiet self.old.rest.now ≡ false }
         ensures shorter { result ≢ End → length self.new.rest.now < length self.old.rest.now }
     {
-        self.take(blanks_in_front(self.rest));
+        self.rest = behind_blanks(self.rest);
         match self.rest {
             [] | [b'#', ..] => Token::End,
             [b'"', text @ ..] => {
