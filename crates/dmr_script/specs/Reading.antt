@@ -23,46 +23,42 @@ pub record IsSaid (old new : TextState) (left left' : Option (List ℕ)) (ss : L
   pub tells : TellsLines lines_behind old new left left' told
   pub said : AreSaid told ss
 
--- The whole text was read.
-pub record IsWhole (left left' : Option (List ℕ)) (ss : List NumberedStatement) : Type 0 where
+-- The whole text was read, and the device hasn't failed.
+pub record IsWhole (failed : Bool) (left left' : Option (List ℕ)) (ss : List NumberedStatement) : Type 0 where
   pub end : TextState
   pub said : IsSaid fresh_text end left left' ss
   pub done : IsBehindLines end
+  pub well : failed ≡ false
 
--- It was read as far as a line, which is refused, and no line behind that was told.
-pub record IsRefusedIn (refused : RefusedLine) (left left' : Option (List ℕ)) (ss : List NumberedStatement) : Type 0 where
+-- It was read as far as a line, which is refused, and no line behind that was told. The line says something, or is too long. The
+-- device hasn't failed.
+pub record IsRefusedIn (refused : RefusedLine) (failed : Bool) (left left' : Option (List ℕ))
+    (ss : List NumberedStatement) : Type 0 where
   pub front : TextState
   pub between : Option (List ℕ)
   pub said : IsSaid fresh_text front left between ss
   pub line : Line
   pub end : TextState
   pub tells : TellsLines lines_behind front end between left' (line ∷ [])
-  pub words : is_quiet line.octets ≡ false ⊎ (65536 < length line.octets)
+  pub words : (is_quiet line.octets ≡ false) ⊎ (65536 < length line.octets)
   pub number : refused.line ≡ line.number
+  pub well : failed ≡ false
 
 -- What stands behind the lines that were told can't be a line: there are too many octets, or lines, or the device failed in it.
-abbrev pub ShowsCut : Refusal → TextState → Type 0
-ShowsCut refusal state = ((refusal ≡ LongLine) × (line_limit < line_length state.pending))
-    ⊎ ((refusal ≡ TooManyLines) × (state.number ≡ last_number))
-    ⊎ ((refusal ≡ Read) × IsUnended state.pending)
+abbrev pub ShowsCut : Refusal → Bool → TextState → Type 0
+ShowsCut refusal failed state = ((refusal ≡ LongLine) × (failed ≡ false) × (line_limit < line_length state.pending))
+    ⊎ ((refusal ≡ TooManyLines) × (failed ≡ false) × (state.number ≡ last_number))
+    ⊎ ((refusal ≡ Read) × (failed ≡ true) × IsUnended state.pending)
 
 -- It was read as far as the line behind those that were told, which can't be told.
-pub record IsCutOff (refused : RefusedLine) (left left' : Option (List ℕ)) (ss : List NumberedStatement) : Type 0 where
+pub record IsCutOff (refused : RefusedLine) (failed : Bool) (left left' : Option (List ℕ))
+    (ss : List NumberedStatement) : Type 0 where
   pub end : TextState
   pub said : IsSaid fresh_text end left left' ss
   pub number : refused.line ≡ end.number + 1
-  pub shown : ShowsCut refused.refusal end
+  pub shown : ShowsCut refused.refusal failed end
 
--- What was read of a script.
-abbrev pub IsRead : Option RefusedLine → List NumberedStatement → (left left' : Option (List ℕ)) → Type 0
-IsRead None ss left left' = IsWhole left left' ss
-IsRead (Some refused) ss left left' = IsRefusedIn refused left left' ss ⊎ IsCutOff refused left left' ss
-
--- whether a script is refused because its device failed
-abbrev pub is_read_fault : Refusal → Bool
-is_read_fault Read = true
-is_read_fault _ = false
-
-abbrev pub has_failed_reading : Option RefusedLine → Bool
-has_failed_reading None = false
-has_failed_reading (Some refused) = is_read_fault refused.refusal
+-- What was read of a script, where the device has failed by then or hasn't.
+abbrev pub IsRead : Option RefusedLine → List NumberedStatement → Bool → (left left' : Option (List ℕ)) → Type 0
+IsRead None ss failed left left' = IsWhole failed left left' ss
+IsRead (Some refused) ss failed left left' = IsRefusedIn refused failed left left' ss ⊎ IsCutOff refused failed left left' ss

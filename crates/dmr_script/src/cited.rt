@@ -15,7 +15,7 @@ pub struct Cited {
 
 impl Cited {
     /// The front of a word.
-    pub fn of(word: &[u8]) -> Cited
+    pub(crate) fn of(word: &[u8]) -> Cited
         ensures front { take result.length result.octets ≡ take 20 word.now }
     {
         let length = word.len().min(SHOWN);

@@ -54,7 +54,7 @@ pub enum Keyword {
 
 impl Keyword {
     /// How it is written.
-    pub fn text(self) -> &'static str {
+    pub(crate) fn text(self) -> &'static str {
         match self {
             Keyword::Arrow => "->",
             Keyword::Comma => ",",

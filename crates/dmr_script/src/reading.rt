@@ -4,7 +4,7 @@ ghost use Rattle.dmr_words.specs.Lines.{line_limit};
 ghost use Rattle.dmr_script.specs.Fits.{FitsNumbered, FitsStatement};
 ghost use Rattle.dmr_script.specs.Order.{MayFollow, nothing_said, refused_behind, said_with};
 ghost use Rattle.dmr_script.specs.Quiet.{is_quiet};
-ghost use Rattle.dmr_script.specs.Reading.{IsRead, has_failed_reading};
+ghost use Rattle.dmr_script.specs.Reading.{IsRead};
 ghost use Rattle.dmr_words.specs.declared.fault.LineFault.TheVariants as line;
 
 use crate::fault::{Refusal, RefusedLine};
@@ -55,10 +55,9 @@ pub fn read_script<S: Source>(alloc: Global, source: &mut S) -> Result<Script, A
     ensures fit { IfOk result (λ script. All FitsNumbered script.statements.items) }
     // each may stand behind those in front of it,
     ensures follow { IfOk result (λ script. MayFollow nothing_said script.statements.items) }
-    // they are of the lines up to the first that is refused, or of all lines, and no line was read behind these,
-    ensures read { IfOk result (λ script. IsRead script.refused script.statements.items (S.left source.old) (S.left source.new)) }
-    // and the source failed exactly where that is told.
-    ensures failed { IfOk result (λ script. S.has_failed source.new ≡ has_failed_reading script.refused) }
+    // and they are of the lines up to the first that is refused, or of all lines. No line was told behind these.
+    ensures read { IfOk result (λ script. IsRead script.refused script.statements.items (S.has_failed source.new)
+        (S.left source.old) (S.left source.new)) }
     ensures well { OnErr result (S.has_failed source.new ≡ false) }
 {
     let mut said = Said::nothing();
