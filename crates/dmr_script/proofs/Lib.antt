@@ -1,1 +1,2 @@
+mod Lettering
 mod Saying

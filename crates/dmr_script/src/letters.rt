@@ -1,5 +1,6 @@
 //! The letters of a shape.
-ghost use Rattle.std.specs.Prelude.{◌≡◌, ◌+◌, ◌*◌, ◌<◌, ◌≤◌, ◌++◌, [], length, OnOk, IfOk, IfSome};
+ghost use Rattle.std.specs.Prelude.{◌≡◌, ◌≢◌, List, ◌∷◌, replicate, ◌+◌, ◌*◌, ◌<◌, ◌≤◌, ◌++◌, [], length, OnOk, IfOk, IfSome};
+ghost use Rattle.dmr_script.specs.declared.letters.Letter.{Letter};
 
 use crate::cited::Cited;
 use crate::expected::Expected;
@@ -30,6 +31,33 @@ pub(crate) enum Letter {
     Csbk,
     /// `b`, a block.
     Block,
+}
+
+/// The letters of one kind that stand in front of others.
+#[derive(Clone, Copy)]
+pub(crate) struct Run<'a> {
+    /// How many they are.
+    pub(crate) count: usize,
+    /// The others.
+    pub(crate) behind: &'a [Letter],
+}
+
+/// The letters in front that are this one.
+pub(crate) fn run_of(letters: &[Letter], letter: Letter) -> Run<'_>
+    ensures run { letters.now ≡ replicate result.count letter ++ result.behind.now }
+    ensures others { (more : List Letter) → result.behind.now ≢ letter ∷ more }
+    ensures count { result.count + length result.behind.now ≡ length letters.now }
+{
+    let mut count = 0;
+    let mut behind = letters;
+    while let [first, rest @ ..] = behind {
+        if *first != letter {
+            return Run { count, behind };
+        }
+        count += 1;
+        behind = rest;
+    }
+    Run { count, behind }
 }
 
 /// What an octet is as a letter.

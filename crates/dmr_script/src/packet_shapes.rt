@@ -4,7 +4,7 @@ ghost use Rattle.dmr_script.specs.Fits.{HasBlocks};
 
 use crate::fault::Refusal;
 use crate::halt::Halt;
-use crate::letters::{Letter, shape_letters};
+use crate::letters::{Letter, run_of, shape_letters};
 use crate::shape::{PacketShape, Place};
 use crate::token::Cursor;
 use std::alloc::Global;
@@ -14,16 +14,6 @@ const COUNT_LIMIT: usize = 255;
 
 /// How many blocks a packet has at most.
 pub(crate) const MOST_BLOCKS: usize = 127;
-
-/// How many CSBKs stand in front.
-fn csbks_in_front(letters: &[Letter]) -> usize
-    ensures within { result ≤ length letters.now }
-{
-    letters
-        .iter()
-        .position(|letter| *letter != Letter::Csbk)
-        .unwrap_or(letters.len())
-}
 
 /// Which blocks are sent.
 fn blocks_of(alloc: Global, letters: &[Letter]) -> Result<Vec<bool>, Halt>
@@ -68,17 +58,17 @@ pub(crate) fn packet_shape(
     ensures count { IfOk result (λ shape. IfSome packet (λ packet. length shape.blocks.items ≡ packet)) }
     ensures shape { IfOk result (λ shape. HasBlocks (length shape.blocks.items) shape) }
 {
-    let (preambles, behind) = letters.split_at(csbks_in_front(letters));
-    let [Letter::Place(Place::D), blocks @ ..] = behind else {
+    let preambles = run_of(letters, Letter::Csbk);
+    let [Letter::Place(Place::D), blocks @ ..] = preambles.behind else {
         return Err(Halt::Refused(Refusal::PacketShape));
     };
     let blocks = blocks_of(alloc, blocks)?;
     fit_blocks(blocks.len(), packet)?;
-    if preambles.len() > COUNT_LIMIT - blocks.len() {
+    if preambles.count > COUNT_LIMIT - blocks.len() {
         return Err(Halt::Refused(Refusal::PacketShape));
     }
     Ok(PacketShape {
-        preambles: preambles.len() as u8,
+        preambles: preambles.count as u8,
         blocks,
     })
 }

@@ -1,4 +1,7 @@
 //! Shapes: which bursts of a transmission are sent.
+ghost use Rattle.std.specs.Prelude.{◌≡◌};
+ghost use Rattle.dmr_script.specs.Shapes.{next_place};
+
 use std::fmt;
 
 /// Which bursts of a call are sent.
@@ -67,7 +70,9 @@ pub enum Place {
 
 impl Place {
     /// The place behind it; a superframe follows upon another.
-    pub(crate) fn next(self) -> Place {
+    pub(crate) fn next(self) -> Place
+        ensures value { result ≡ next_place self }
+    {
         match self {
             Place::A => Place::B,
             Place::B => Place::C,
