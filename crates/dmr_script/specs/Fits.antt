@@ -4,6 +4,8 @@ use Rattle.dmr_csbk.specs.declared.block.Csbk.{Csbk}
 use Rattle.dmr_data.specs.Block.{payload}
 use Rattle.dmr_data.specs.declared.header.Status.{Status}
 use Rattle.dmr_data.specs.declared.rate.Rate.TheVariants.{Half}
+use Rattle.dmr_script.specs.Foreign.{MayBeForeign}
+use Rattle.dmr_script.specs.Shapes.{IsCallShape}
 use Rattle.dmr_script.specs.declared.call.Call.{Call}
 use Rattle.dmr_script.specs.declared.call.Carried.{Carried}
 use Rattle.dmr_script.specs.declared.call.Carried.TheVariants as carried
@@ -138,6 +140,7 @@ FitsCarried (carried.LinkControl lc) = lc.flco < 64
 pub record FitsCall (c : Call) : Type 0 where
   pub link_control : c.link_control.flco < 64
   pub carried : All FitsCarried c.carried.items
+  pub shape : IsCallShape c.shape
 
 abbrev pub FitsBurst : LoneBurst → Type 0
 FitsBurst (burst.Terminator lc) = lc.flco < 64
@@ -155,12 +158,13 @@ FitsTransmission (transmission.Answer a) = FitsAnswer a
 FitsTransmission (transmission.Control csbk) = csbk.code < 64
 FitsTransmission (transmission.Burst b) = FitsBurst b
 
-abbrev pub FitsSender : Sender → Type 0
-FitsSender sender.Own = Unit {0}
-FitsSender (sender.Foreign colour) = colour < 16
+-- Another colour code is one, and the transmission may have it.
+abbrev pub FitsSender : Sender → Transmission → Type 0
+FitsSender sender.Own sent = Unit {0}
+FitsSender (sender.Foreign colour) sent = (colour < 16) × MayBeForeign sent
 
 pub record FitsTransmit (t : Transmit) : Type 0 where
-  pub sender : FitsSender t.sender
+  pub sender : FitsSender t.sender t.transmission
   pub transmission : FitsTransmission t.transmission
 
 abbrev pub FitsDatagram : Datagram → Type 0

@@ -1,4 +1,6 @@
 pub mod Fits
+pub mod Foreign
+pub mod Letters
 pub mod Order
 pub mod Quiet
 pub mod Reading

@@ -1,6 +1,7 @@
 //! The shape of a call from its letters.
 ghost use Rattle.std.specs.Prelude.{◌≡◌, ◌+◌, ◌%◌, ◌<◌, ◌≤◌, ◌∷◌, length, drop, map, replicate, slice_get, nat_lt, true, false};
 ghost use Rattle.std.specs.Prelude.{Some, IfOk, IfSome, OnOk};
+ghost use Rattle.dmr_script.specs.Foreign.{BeginsWithBurst, IsForeignCall, has_embs};
 ghost use Rattle.dmr_script.specs.Shapes.{IsCallShape, call_letters, header_letter, is_unbroken, letter_at, place_before};
 ghost use Rattle.dmr_script.specs.Shapes.{place_letters, there_within};
 ghost use Rattle.dmr_script.specs.declared.letters.Letter.TheVariants as letter;
@@ -271,24 +272,37 @@ pub(crate) fn call_shape(alloc: Global, letters: &[Letter]) -> Result<CallShape,
 }
 
 /// That behind each A of another colour code one of the five places that follow is there.
-fn have_embs(places: &[bool]) -> Result<(), Refusal> {
+fn hold_embs(places: &[bool]) -> Result<(), Refusal>
+    ensures embs { OnOk result (has_embs place.A places.now ≡ true) }
+{
+    let mut place = Place::A;
     let mut rest = places;
-    while let [is_there, behind @ ..] = rest {
-        if *is_there && !is_there_within(behind, PLACES - 1, false) {
+    while let Some((is_there, behind)) = rest.split_first() {
+        if place == Place::A && *is_there && !is_there_within(behind, PLACES - 1, false) {
             return Err(Refusal::ForeignSync);
         }
-        let next = behind.len().min(PLACES - 1);
-        rest = &behind[next..];
+        place = place.next();
+        rest = behind;
     }
     Ok(())
 }
 
-/// That a call may have another colour code.
-pub(crate) fn may_be_foreign(shape: &CallShape) -> Result<(), Refusal> {
-    if let CallStart::Late(tail) = &shape.start
-        && tail.first() == Some(&false)
-    {
-        return Err(Refusal::ForeignEnds);
+/// That a call begins with a burst.
+fn begin_with_burst(start: &CallStart) -> Result<(), Refusal>
+    ensures begins { OnOk result (BeginsWithBurst start.now) }
+{
+    match start {
+        CallStart::Late(tail) if tail.as_slice().first() == Some(&false) => {
+            Err(Refusal::ForeignEnds)
+        }
+        _ => Ok(()),
     }
-    have_embs(shape.places.as_slice())
+}
+
+/// That a call may have another colour code.
+pub(crate) fn may_be_foreign(shape: &CallShape) -> Result<(), Refusal>
+    ensures foreign { OnOk result (IsForeignCall shape.now) }
+{
+    begin_with_burst(&shape.start)?;
+    hold_embs(shape.places.as_slice())
 }

@@ -1,5 +1,6 @@
 //! The letters of a shape.
 ghost use Rattle.std.specs.Prelude.{◌≡◌, ◌≢◌, List, ◌∷◌, replicate, ◌+◌, ◌*◌, ◌<◌, ◌≤◌, ◌++◌, [], length, OnOk, IfOk, IfSome};
+ghost use Rattle.dmr_script.specs.Letters.{IsGroup, SaysLetters, octet_of, text_of};
 ghost use Rattle.dmr_script.specs.declared.letters.Letter.{Letter};
 
 use crate::cited::Cited;
@@ -61,7 +62,9 @@ pub(crate) fn run_of(letters: &[Letter], letter: Letter) -> Run<'_>
 }
 
 /// What an octet is as a letter.
-fn letter_of(octet: u8) -> Option<Letter> {
+fn letter_of(octet: u8) -> Option<Letter>
+    ensures octet { IfSome result (λ letter. octet_of letter ≡ octet) }
+{
     let letter = match octet {
         b'H' => Letter::Header,
         b'P' => Letter::PiHeader,
@@ -88,7 +91,9 @@ struct Group<'a> {
 }
 
 /// What a word of a shape says, where it says anything.
-fn group_of(word: &[u8]) -> Option<Group<'_>> {
+fn group_of(word: &[u8]) -> Option<Group<'_>>
+    ensures says { IfSome result (λ group. IsGroup word.now group.times group.letters.now) }
+{
     let Some(star) = word.iter().position(|octet| *octet == b'*') else {
         return Some(Group {
             times: 1,
@@ -106,6 +111,7 @@ fn group_of(word: &[u8]) -> Option<Group<'_>> {
 /// Adds some letters once.
 fn add_once(letters: &mut Vec<Letter>, group: &[u8], word: &[u8]) -> Result<(), Halt>
     requires room { length letters.old.items + length group.now ≤ 1048576 }
+    ensures text { OnOk result (text_of letters.new.items ≡ text_of letters.old.items ++ group.now) }
     ensures count { OnOk result (length letters.new.items ≡ length letters.old.items + length group.now) }
 {
     for octet in group {
@@ -120,6 +126,7 @@ fn add_once(letters: &mut Vec<Letter>, group: &[u8], word: &[u8]) -> Result<(), 
 /// Adds the letters of a word.
 fn add_word(letters: &mut Vec<Letter>, word: &[u8]) -> Result<(), Halt>
     requires room { length letters.old.items ≤ 1048576 }
+    ensures says { OnOk result (SaysLetters word.now letters.old.items letters.new.items) }
     ensures room { OnOk result (length letters.new.items ≤ 1048576) }
 {
     let Some(group) = group_of(word) else {

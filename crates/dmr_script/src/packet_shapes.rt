@@ -1,6 +1,7 @@
 //! The shape of a packet from its letters.
 ghost use Rattle.std.specs.Prelude.{◌≡◌, ◌+◌, ◌<◌, ◌≤◌, length, take, drop, true, false, IfOk, OnOk, IfSome};
 ghost use Rattle.dmr_script.specs.Fits.{HasBlocks};
+ghost use Rattle.dmr_script.specs.Foreign.{IsForeignPacket};
 
 use crate::fault::Refusal;
 use crate::halt::Halt;
@@ -110,9 +111,15 @@ pub(crate) fn any_shape(alloc: Global, cursor: &mut Cursor) -> Result<Option<Pac
 }
 
 /// That what has this shape may have another colour code: it ends with a burst.
-pub(crate) fn may_be_foreign(shape: &PacketShape) -> Result<(), Refusal> {
-    match shape.blocks.as_slice() {
-        [.., false] => Err(Refusal::ForeignEnds),
-        _ => Ok(()),
+pub(crate) fn may_be_foreign(shape: &PacketShape) -> Result<(), Refusal>
+    ensures foreign { OnOk result (IsForeignPacket shape.now) }
+{
+    let mut rest = shape.blocks.as_slice();
+    while let Some((is_sent, behind)) = rest.split_first() {
+        if !*is_sent && behind.is_empty() {
+            return Err(Refusal::ForeignEnds);
+        }
+        rest = behind;
     }
+    Ok(())
 }

@@ -1,6 +1,7 @@
 //! Transmissions of a line.
 ghost use Rattle.std.specs.Prelude.{◌≡◌, ◌<◌, ◌≤◌, ◌^◌, length, IfOk};
-ghost use Rattle.std.specs.Prelude.{IfSome};
+ghost use Rattle.std.specs.Prelude.{IfSome, OnOk};
+ghost use Rattle.dmr_script.specs.Foreign.{MayBeForeign};
 ghost use Rattle.dmr_script.specs.Fits.{FitsCall, FitsTransmission, FitsTransmit};
 
 use crate::call::Call;
@@ -78,11 +79,7 @@ fn begun_packet(
 }
 
 /// The transmission that begins with this word, to the end of the line.
-fn begun_transmission(
-    alloc: Global,
-    word: &[u8],
-    cursor: &mut Cursor,
-) -> Result<Transmission, Halt>
+fn begun_transmission(alloc: Global, word: &[u8], cursor: &mut Cursor) -> Result<Transmission, Halt>
     ensures fits { IfOk result FitsTransmission }
 {
     if let Some(link_control) = begun_link_control(word, cursor)? {
@@ -101,7 +98,9 @@ fn begun_transmission(
 }
 
 /// That a transmission may have another colour code.
-fn may_be_foreign(transmission: &Transmission) -> Result<(), Refusal> {
+fn may_be_foreign(transmission: &Transmission) -> Result<(), Refusal>
+    ensures foreign { OnOk result (MayBeForeign transmission.now) }
+{
     match transmission {
         Transmission::Call(call) => call_shapes::may_be_foreign(&call.shape),
         Transmission::Packet(packet) => packet_shapes::may_be_foreign(&packet.shape),

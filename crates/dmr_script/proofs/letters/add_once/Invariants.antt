@@ -1,5 +1,10 @@
-use Rattle.std.proofs.Common.{◌≡◌, ◌+◌, length}
+-- The letters of the octets so far.
+use Rattle.std.proofs.Common.{◌≡◌, ◌+◌, ◌++◌, length, take}
+use Rattle.dmr_script.specs.Letters.{text_of}
 use Rattle.dmr_script.proofs.letters.add_once.Given as goal
 
 abbrev pub invariant-loop-octet : goal.invariant-loop-octet
-invariant-loop-octet l = length l.letters.items ≡ length l.fn.letters.items + l.octet-index
+invariant-loop-octet l = record {
+  text : text_of l.letters.items ≡ text_of l.fn.letters.items ++ take l.octet-index l.group;
+  count : length l.letters.items ≡ length l.fn.letters.items + l.octet-index;
+}
