@@ -51,14 +51,16 @@ pub record HoldsBody (blocks octets block : ℕ) : Type 0 where
   pub fewest : blocks * block < octets + 4 + block
 
 -- how many octets a port has in the compressed form of a datagram: the ports 5016 and 5017 have identifiers
-abbrev pub port_octets : ℕ → ℕ
-port_octets port = if (port == 5016) || (port == 5017) then 0 else 2
+abbrev pub compressed_port_octets : ℕ → ℕ
+compressed_port_octets port = if (port == 5016) || (port == 5017) then 0 else 2
 
 -- how many octets the body of a packet has under this service access point: under 3 a datagram goes in its compressed form
 abbrev pub body_octets : ℕ → Body → ℕ
 body_octets sap (body.Octets octets) = length octets.items
 body_octets sap (body.Udp m) =
-    if sap == 3 then 5 + port_octets m.source_port + port_octets m.destination_port + length m.data.items else 28 + length m.data.items
+    if sap == 3
+    then 5 + compressed_port_octets m.source_port + compressed_port_octets m.destination_port + length m.data.items
+    else 28 + length m.data.items
 
 -- The data of a datagram fit into it.
 abbrev pub FitsMessage : UdpMessage → Type 0
@@ -117,10 +119,10 @@ FitsKind kind.Failed = Unit {0}
 FitsKind (kind.SelectiveRepeat w) = FitsWanted w
 
 -- how many blocks of flags an answer has: one tells of 64 blocks
-abbrev pub flag_blocks : AnswerKind → ℕ
-flag_blocks kind.Acknowledged = 0
-flag_blocks kind.Failed = 0
-flag_blocks (kind.SelectiveRepeat w) = if nat_lt 64 w.blocks then 2 else 1
+abbrev pub answer_flag_blocks : AnswerKind → ℕ
+answer_flag_blocks kind.Acknowledged = 0
+answer_flag_blocks kind.Failed = 0
+answer_flag_blocks (kind.SelectiveRepeat w) = if nat_lt 64 w.blocks then 2 else 1
 
 pub record FitsAnswer (a : Answer) : Type 0 where
   pub source : a.source < 2 ^ 24
@@ -128,7 +130,7 @@ pub record FitsAnswer (a : Answer) : Type 0 where
   pub number : a.number < 8
   pub sap : a.sap < 16
   pub kind : FitsKind a.kind
-  pub shape : HasBlocks (flag_blocks a.kind) a.shape
+  pub shape : HasBlocks (answer_flag_blocks a.kind) a.shape
 
 -- 2. Calls and single bursts.
 
@@ -167,9 +169,9 @@ pub record FitsTransmit (t : Transmit) : Type 0 where
   pub sender : FitsSender t.sender t.transmission
   pub transmission : FitsTransmission t.transmission
 
-abbrev pub FitsDatagram : Datagram → Type 0
-FitsDatagram (datagram.Octets octets) = Unit {0}
-FitsDatagram (datagram.Udp m) = FitsMessage m.message
+abbrev pub FitsSending : Datagram → Type 0
+FitsSending (datagram.Octets octets) = length octets.items < 2 ^ 16
+FitsSending (datagram.Udp m) = FitsMessage m.message
 
 abbrev pub FitsStatement : Statement → Type 0
 FitsStatement (statement.Colour colour) = colour < 16
@@ -178,7 +180,7 @@ FitsStatement (statement.Silence n) = n < 2 ^ 32
 FitsStatement (statement.At frame) = frame < 2 ^ 32
 FitsStatement (statement.Frames n) = n < 2 ^ 32
 FitsStatement (statement.Transmit t) = FitsTransmit t
-FitsStatement (statement.Send s) = (s.frame < 2 ^ 32) × FitsDatagram s.datagram
+FitsStatement (statement.Send s) = (s.frame < 2 ^ 32) × FitsSending s.datagram
 
 abbrev pub FitsNumbered : NumberedStatement → Type 0
 FitsNumbered s = FitsStatement s.statement

@@ -20,13 +20,13 @@ octet_of letter.Csbk = 99
 octet_of letter.Block = 98
 
 -- how letters are written in a row
-abbrev pub text_of : List Letter → List ℕ
-text_of letters = map octet_of letters
+abbrev pub letters_text : List Letter → List ℕ
+letters_text letters = map octet_of letters
 
 -- octets, so many times
-abbrev pub times : ℕ → List ℕ → List ℕ
-times zero group = []
-times (suc n) group = times n group ++ group
+abbrev pub times_over : ℕ → List ℕ → List ℕ
+times_over zero group = []
+times_over (suc n) group = times_over n group ++ group
 
 -- A word is a group of letters, or a number, a star, and a group that counts so many times.
 abbrev pub IsGroup : List ℕ → ℕ → List ℕ → Type 0
@@ -37,4 +37,4 @@ pub record SaysLetters (word : List ℕ) (old new : List Letter) : Type 0 where
   pub count : ℕ
   pub group : List ℕ
   pub says : IsGroup word count group
-  pub text : text_of new ≡ text_of old ++ times count group
+  pub text : letters_text new ≡ letters_text old ++ times_over count group

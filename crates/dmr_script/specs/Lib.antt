@@ -5,3 +5,4 @@ pub mod Order
 pub mod Quiet
 pub mod Reading
 pub mod Shapes
+pub mod Tokens

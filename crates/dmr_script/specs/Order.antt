@@ -10,8 +10,8 @@ use Rattle.dmr_script.specs.declared.statement.Statement.{Statement}
 use Rattle.dmr_script.specs.declared.statement.Statement.TheVariants as statement
 
 -- in front of the first statement: the colour code is 1
-abbrev pub nothing_said : Said
-nothing_said = record { colour = 1; slot = false; frames = false }
+abbrev pub said_nothing : Said
+said_nothing = record { colour = 1; slot = false; frames = false }
 
 -- what stands in a slot is refused where none was named
 abbrev pub without_slot : Bool → Option Refusal
@@ -54,6 +54,6 @@ said_with_all said [] = said
 said_with_all said (s ∷ ss) = said_with_all (said_with said s.statement) ss
 
 -- Each of these statements may stand behind those in front of it.
-abbrev pub MayFollow : Said → List NumberedStatement → Type 0
-MayFollow said [] = Unit {0}
-MayFollow said (s ∷ ss) = (refused_behind said s.statement ≡ None) × MayFollow (said_with said s.statement) ss
+abbrev pub MayStandBehind : Said → List NumberedStatement → Type 0
+MayStandBehind said [] = Unit {0}
+MayStandBehind said (s ∷ ss) = (refused_behind said s.statement ≡ None) × MayStandBehind (said_with said s.statement) ss

@@ -1,9 +1,6 @@
 -- Which lines say nothing.
-use Rattle.std.specs.Prelude.{ℕ, ◌==◌, ◌||◌, Bool, true, List, [], ◌∷◌, if◌then◌else◌}
-
--- a space or a tab
-abbrev pub is_blank : ℕ → Bool
-is_blank octet = (octet == 32) || (octet == 9)
+use Rattle.std.specs.Prelude.{ℕ, ◌==◌, Bool, true, List, [], ◌∷◌, if◌then◌else◌}
+use Rattle.dmr_words.specs.Words.{is_blank}
 
 -- A line says nothing: behind its blanks stands nothing, or a remark, which begins with `#`.
 abbrev pub is_quiet : List ℕ → Bool

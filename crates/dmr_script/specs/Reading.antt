@@ -18,25 +18,25 @@ pub data AreSaid : List Line → List NumberedStatement → Type 0 where
       → s.line ≡ line.number → AreSaid lines ss → AreSaid (line ∷ lines) (s ∷ ss)
 
 -- Between two states of what is left of a text, its lines say these statements, and no line more was told.
-pub record IsSaid (old new : TextState) (left left' : Option (List ℕ)) (ss : List NumberedStatement) : Type 0 where
+pub record AreLinesSaid (old new : TextState) (left left' : Option (List ℕ)) (ss : List NumberedStatement) : Type 0 where
   pub told : List Line
   pub tells : TellsLines lines_behind old new left left' told
   pub said : AreSaid told ss
 
 -- The whole text was read, and the device hasn't failed.
-pub record IsWhole (failed : Bool) (left left' : Option (List ℕ)) (ss : List NumberedStatement) : Type 0 where
+pub record IsWholeScript (failed : Bool) (left left' : Option (List ℕ)) (ss : List NumberedStatement) : Type 0 where
   pub end : TextState
-  pub said : IsSaid fresh_text end left left' ss
+  pub said : AreLinesSaid fresh_text end left left' ss
   pub done : IsBehindLines end
   pub well : failed ≡ false
 
 -- It was read as far as a line, which is refused, and no line behind that was told. The line says something, or is too long. The
 -- device hasn't failed.
-pub record IsRefusedIn (refused : RefusedLine) (failed : Bool) (left left' : Option (List ℕ))
+pub record IsRefusedScript (refused : RefusedLine) (failed : Bool) (left left' : Option (List ℕ))
     (ss : List NumberedStatement) : Type 0 where
   pub front : TextState
   pub between : Option (List ℕ)
-  pub said : IsSaid fresh_text front left between ss
+  pub said : AreLinesSaid fresh_text front left between ss
   pub line : Line
   pub end : TextState
   pub tells : TellsLines lines_behind front end between left' (line ∷ [])
@@ -45,8 +45,8 @@ pub record IsRefusedIn (refused : RefusedLine) (failed : Bool) (left left' : Opt
   pub well : failed ≡ false
 
 -- What stands behind the lines that were told can't be a line: there are too many octets, or lines, or the device failed in it.
-abbrev pub ShowsCut : Refusal → Bool → TextState → Type 0
-ShowsCut refusal failed state = ((refusal ≡ LongLine) × (failed ≡ false) × (line_limit < line_length state.pending))
+abbrev pub ShowsScriptCut : Refusal → Bool → TextState → Type 0
+ShowsScriptCut refusal failed state = ((refusal ≡ LongLine) × (failed ≡ false) × (line_limit < line_length state.pending))
     ⊎ ((refusal ≡ TooManyLines) × (failed ≡ false) × (state.number ≡ last_number))
     ⊎ ((refusal ≡ Read) × (failed ≡ true) × IsUnended state.pending)
 
@@ -54,11 +54,12 @@ ShowsCut refusal failed state = ((refusal ≡ LongLine) × (failed ≡ false) ×
 pub record IsCutOff (refused : RefusedLine) (failed : Bool) (left left' : Option (List ℕ))
     (ss : List NumberedStatement) : Type 0 where
   pub end : TextState
-  pub said : IsSaid fresh_text end left left' ss
+  pub said : AreLinesSaid fresh_text end left left' ss
   pub number : refused.line ≡ end.number + 1
-  pub shown : ShowsCut refused.refusal failed end
+  pub shown : ShowsScriptCut refused.refusal failed end
 
 -- What was read of a script, where the device has failed by then or hasn't.
-abbrev pub IsRead : Option RefusedLine → List NumberedStatement → Bool → (left left' : Option (List ℕ)) → Type 0
-IsRead None ss failed left left' = IsWhole failed left left' ss
-IsRead (Some refused) ss failed left left' = IsRefusedIn refused failed left left' ss ⊎ IsCutOff refused failed left left' ss
+abbrev pub IsScriptRead : Option RefusedLine → List NumberedStatement → Bool → (left left' : Option (List ℕ)) → Type 0
+IsScriptRead None ss failed left left' = IsWholeScript failed left left' ss
+IsScriptRead (Some refused) ss failed left left' =
+    IsRefusedScript refused failed left left' ss ⊎ IsCutOff refused failed left left' ss

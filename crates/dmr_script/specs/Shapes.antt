@@ -1,6 +1,6 @@
 -- The shape of a call: the letters that it has, and which are well formed.
-use Rattle.std.specs.Prelude.{◌≡◌, ℕ, zero, suc, ◌%◌, ◌<◌, ◌≤◌, Bool, true, false, ◌&&◌, nat_lt, List, [], ◌∷◌, ◌++◌, length, drop, map}
-use Rattle.std.specs.Prelude.{replicate}
+use Rattle.std.specs.Prelude.{◌≡◌, ℕ, zero, suc, ◌%◌, ◌<◌, ◌≤◌, Bool, true, false, ◌&&◌, nat_lt, List, [], ◌∷◌, ◌++◌}
+use Rattle.std.specs.Prelude.{drop, length, map, replicate}
 use Rattle.dmr_script.specs.declared.letters.Letter.{Letter}
 use Rattle.dmr_script.specs.declared.letters.Letter.TheVariants as letter
 use Rattle.dmr_script.specs.declared.shape.CallShape.{CallShape}
@@ -33,9 +33,9 @@ place_letters place [] = []
 place_letters place (there ∷ more) = letter_at place there ∷ place_letters (next_place place) more
 
 -- the place behind so many from one on
-abbrev pub place_behind : Place → List Bool → Place
-place_behind place [] = place
-place_behind place (there ∷ more) = place_behind (next_place place) more
+abbrev pub place_past : Place → List Bool → Place
+place_past place [] = place
+place_past place (there ∷ more) = place_past (next_place place) more
 
 -- the place of which so many stand in front of an A
 abbrev pub place_before : ℕ → Place
@@ -80,8 +80,8 @@ abbrev pub begins_there : List Bool → Bool
 begins_there [] = true
 begins_there (there ∷ more) = there
 
--- In front of the first A stand at most five silences behind headers, and none where headers are alone. Without headers at most five
--- slots do, and one of the five places behind that A is there.
+-- In front of the first A stand at most five silences behind headers, and none where headers are alone. Without headers at most
+-- five slots do, and one of the five places behind that A is there.
 abbrev pub IsStart : CallStart → List Bool → Type 0
 IsStart (start.Headers h) places = (h.silences ≤ 5) × (places ≡ [] → h.silences ≡ 0)
 IsStart (start.Late tail) places = (length tail.items ≤ 5) × (there_within 5 false (drop 1 places) ≡ true)

@@ -47,7 +47,7 @@ pub enum Refusal {
     /// A control block has a shape.
     #[error("a control block has no shape")]
     ControlShape,
-    /// A word of a shape isn't letters, nor a number of times some letters.
+    /// A word of a shape isn't letters, nor some letters so many times.
     #[error("'{0}' is no shape")]
     NoShape(Cited),
     /// Places of a call don't follow one another.

@@ -1,6 +1,6 @@
 //! The letters of a shape.
 ghost use Rattle.std.specs.Prelude.{◌≡◌, ◌≢◌, List, ◌∷◌, replicate, ◌+◌, ◌*◌, ◌<◌, ◌≤◌, ◌++◌, [], length, OnOk, IfOk, IfSome};
-ghost use Rattle.dmr_script.specs.Letters.{IsGroup, SaysLetters, octet_of, text_of};
+ghost use Rattle.dmr_script.specs.Letters.{IsGroup, SaysLetters, octet_of, letters_text};
 ghost use Rattle.dmr_script.specs.declared.letters.Letter.{Letter};
 
 use crate::cited::Cited;
@@ -111,7 +111,7 @@ fn group_of(word: &[u8]) -> Option<Group<'_>>
 /// Adds some letters once.
 fn add_once(letters: &mut Vec<Letter>, group: &[u8], word: &[u8]) -> Result<(), Halt>
     requires room { length letters.old.items + length group.now ≤ 1048576 }
-    ensures text { OnOk result (text_of letters.new.items ≡ text_of letters.old.items ++ group.now) }
+    ensures text { OnOk result (letters_text letters.new.items ≡ letters_text letters.old.items ++ group.now) }
     ensures count { OnOk result (length letters.new.items ≡ length letters.old.items + length group.now) }
 {
     for octet in group {

@@ -44,6 +44,7 @@ fn slot(cursor: &mut Cursor) -> Result<Slot, Refusal> {
 
 /// The statement that begins with this word, to the end of the line.
 fn begun(alloc: Global, word: &[u8], cursor: &mut Cursor) -> Result<Statement, Halt>
+    requires line { length cursor.old.rest.now < 65536 }
     ensures fits { IfOk result FitsStatement }
 {
     let statement = match word {

@@ -98,7 +98,9 @@ pub(crate) fn information(cursor: &mut Cursor) -> Result<Bits<196>, Refusal> {
 }
 
 /// The octets that a word says: two hexadecimal digits each, or a hyphen for none.
-fn octets_of(alloc: Global, word: &[u8], wanted: Expected) -> Result<Vec<u8>, Halt> {
+fn octets_of(alloc: Global, word: &[u8], wanted: Expected) -> Result<Vec<u8>, Halt>
+    ensures few { IfOk result (λ octets. length octets.items ≤ length word.now) }
+{
     if word == b"-".as_slice() {
         return Ok(Vec::new(alloc));
     }
@@ -110,7 +112,9 @@ fn octets_of(alloc: Global, word: &[u8], wanted: Expected) -> Result<Vec<u8>, Ha
 }
 
 /// Octets, however many.
-pub(crate) fn all_octets(alloc: Global, cursor: &mut Cursor) -> Result<Vec<u8>, Halt> {
+pub(crate) fn all_octets(alloc: Global, cursor: &mut Cursor) -> Result<Vec<u8>, Halt>
+    ensures few { IfOk result (λ octets. length octets.items ≤ length cursor.old.rest.now) }
+{
     let word = cursor.word(Expected::Octets)?;
     octets_of(alloc, word, Expected::Octets)
 }

@@ -1,6 +1,6 @@
 //! Which statements may follow one another.
 ghost use Rattle.std.specs.Prelude.{◌≡◌, Some, None, OnOk, IfErr};
-ghost use Rattle.dmr_script.specs.Order.{nothing_said, refused_behind, refused_transmit, said_with};
+ghost use Rattle.dmr_script.specs.Order.{said_nothing, refused_behind, refused_transmit, said_with};
 
 use crate::fault::Refusal;
 use crate::statement::{Sender, Statement};
@@ -22,7 +22,7 @@ pub(crate) struct Said {
 impl Said {
     /// In front of the first statement.
     pub(crate) fn nothing() -> Said
-        ensures value { result ≡ nothing_said }
+        ensures value { result ≡ said_nothing }
     {
         Said {
             colour: USUAL_COLOUR,

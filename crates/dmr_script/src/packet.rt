@@ -53,8 +53,8 @@ pub struct UdpMessage {
 /// The last confirmed packet of the slot, tried again.
 #[derive(Debug, Drop, PartialEq, Eq)]
 pub enum Again {
-    /// All of it. Without a shape it is its header and all of its blocks. A shape isn't held against the packet yet, whose number of
-    /// blocks other lines say.
+    /// All of it. Without a shape it is its header and all of its blocks. A shape isn't held against the packet yet, since other
+    /// lines say how many blocks that has.
     Full(Option<PacketShape>),
     /// Some of its blocks.
     Partial(PartialTry),

@@ -3,8 +3,8 @@ ghost use Rattle.std.specs.Prelude.{◌≡◌, ◌+◌, ◌*◌, ◌<◌, ◌≤
 ghost use Rattle.std.specs.Prelude.{All, false};
 ghost use Rattle.dmr_data.specs.Block.{payload};
 ghost use Rattle.dmr_script.specs.Fits.{FitsAgain, FitsAnswer, FitsBody, FitsKind, FitsMessage, FitsPacket, FitsShortData};
-ghost use Rattle.dmr_script.specs.Fits.{FitsStatus, FitsStatusHeader, FitsWanted, HoldsBody, body_octets, flag_blocks};
-ghost use Rattle.dmr_script.specs.Fits.{port_octets};
+ghost use Rattle.dmr_script.specs.Fits.{FitsStatus, FitsStatusHeader, FitsWanted, HoldsBody, body_octets, answer_flag_blocks};
+ghost use Rattle.dmr_script.specs.Fits.{compressed_port_octets};
 
 use crate::expected::Expected;
 use crate::fault::Refusal;
@@ -55,14 +55,14 @@ const FLAGS: u8 = 64;
 
 /// From whom something goes to whom.
 #[derive(Clone, Copy)]
-struct Way {
+struct FromTo {
     source: u32,
     group: bool,
     destination: u32,
 }
 
 /// `S -> [group] T`
-fn way_of(cursor: &mut Cursor) -> Result<Way, Refusal>
+fn way_of(cursor: &mut Cursor) -> Result<FromTo, Refusal>
     ensures source { IfOk result (λ way. way.source < 2 ^ 24) }
     ensures destination { IfOk result (λ way. way.destination < 2 ^ 24) }
 {
@@ -70,7 +70,7 @@ fn way_of(cursor: &mut Cursor) -> Result<Way, Refusal>
     cursor.expect(Keyword::Arrow)?;
     let group = cursor.takes(Keyword::Group);
     let destination = address(cursor)?;
-    Ok(Way {
+    Ok(FromTo {
         source,
         group,
         destination,
@@ -141,7 +141,7 @@ fn body(alloc: Global, cursor: &mut Cursor) -> Result<Body, Halt>
 
 /// How many octets a port has in a compressed form.
 fn port_length(port: u16) -> usize
-    ensures value { result ≡ port_octets port }
+    ensures value { result ≡ compressed_port_octets port }
 {
     match port {
         5016 | 5017 => 0,
@@ -356,7 +356,7 @@ pub(crate) fn plain_answer(
     kind: AnswerKind,
 ) -> Result<Answer, Halt>
     requires kind { FitsKind kind }
-    requires none { flag_blocks kind ≡ 0 }
+    requires none { answer_flag_blocks kind ≡ 0 }
     ensures fits { IfOk result FitsAnswer }
 {
     let front = front_of(cursor)?;

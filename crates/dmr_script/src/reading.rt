@@ -2,9 +2,9 @@
 ghost use Rattle.std.specs.Prelude.{◌≡◌, ◌⊎◌, ◌<◌, All, None, true, false, length, IfOk, IfErr, IfSome, IfNone, OnOk, OnErr};
 ghost use Rattle.dmr_words.specs.Lines.{line_limit};
 ghost use Rattle.dmr_script.specs.Fits.{FitsNumbered, FitsStatement};
-ghost use Rattle.dmr_script.specs.Order.{MayFollow, nothing_said, refused_behind, said_with};
+ghost use Rattle.dmr_script.specs.Order.{MayStandBehind, said_nothing, refused_behind, said_with};
 ghost use Rattle.dmr_script.specs.Quiet.{is_quiet};
-ghost use Rattle.dmr_script.specs.Reading.{IsRead};
+ghost use Rattle.dmr_script.specs.Reading.{IsScriptRead};
 ghost use Rattle.dmr_words.specs.declared.fault.LineFault.TheVariants as line;
 
 use crate::fault::{Refusal, RefusedLine};
@@ -54,9 +54,9 @@ pub fn read_script<S: Source>(alloc: Global, source: &mut S) -> Result<Script, A
     // The numbers of each statement fit their fields,
     ensures fit { IfOk result (λ script. All FitsNumbered script.statements.items) }
     // each may stand behind those in front of it,
-    ensures follow { IfOk result (λ script. MayFollow nothing_said script.statements.items) }
+    ensures follow { IfOk result (λ script. MayStandBehind said_nothing script.statements.items) }
     // and they are of the lines up to the first that is refused, or of all lines. No line was told behind these.
-    ensures read { IfOk result (λ script. IsRead script.refused script.statements.items (S.has_failed source.new)
+    ensures read { IfOk result (λ script. IsScriptRead script.refused script.statements.items (S.has_failed source.new)
         (S.left source.old) (S.left source.new)) }
     ensures well { OnErr result (S.has_failed source.new ≡ false) }
 {

@@ -1,6 +1,6 @@
 //! Records of the outgoing list of a line.
 ghost use Rattle.std.specs.Prelude.{◌≡◌, ◌<◌, ◌≤◌, ◌^◌, length, IfOk};
-ghost use Rattle.dmr_script.specs.Fits.{FitsDatagram};
+ghost use Rattle.dmr_script.specs.Fits.{FitsSending};
 
 use crate::expected::Expected;
 use crate::fault::Refusal;
@@ -26,7 +26,8 @@ fn endpoint(cursor: &mut Cursor) -> Result<SocketAddrV4, Refusal> {
 
 /// What a record holds.
 fn datagram(alloc: Global, cursor: &mut Cursor) -> Result<Datagram, Halt>
-    ensures fits { IfOk result FitsDatagram }
+    requires line { length cursor.old.rest.now < 65536 }
+    ensures fits { IfOk result FitsSending }
 {
     match cursor.next() {
         Token::Word(b"UDP") => {
@@ -46,7 +47,9 @@ fn datagram(alloc: Global, cursor: &mut Cursor) -> Result<Datagram, Halt>
 }
 
 /// Whether a datagram is sent as a confirmed packet: the word stands next, with a comma behind it.
-fn is_confirmed(cursor: &mut Cursor) -> Result<bool, Refusal> {
+fn is_confirmed(cursor: &mut Cursor) -> Result<bool, Refusal>
+    ensures kept { length cursor.new.rest.now ≤ length cursor.old.rest.now }
+{
     let confirmed = cursor.takes(Keyword::Confirmed);
     if confirmed {
         cursor.expect(Keyword::Comma)?;
@@ -55,7 +58,9 @@ fn is_confirmed(cursor: &mut Cursor) -> Result<bool, Refusal> {
 }
 
 /// The rate at which a datagram is sent: rate 1 where that stands next, with a comma behind it, and else rate 1/2.
-fn rate(cursor: &mut Cursor) -> Result<Rate, Refusal> {
+fn rate(cursor: &mut Cursor) -> Result<Rate, Refusal>
+    ensures kept { length cursor.new.rest.now ≤ length cursor.old.rest.now }
+{
     if !cursor.takes(Keyword::Rate) {
         return Ok(Rate::Half);
     }
@@ -66,8 +71,9 @@ fn rate(cursor: &mut Cursor) -> Result<Rate, Refusal> {
 
 /// A record behind its first word: `at FRAME, [confirmed,] [rate 1,] DATAGRAM`.
 pub(crate) fn send(alloc: Global, cursor: &mut Cursor) -> Result<Send, Halt>
+    requires line { length cursor.old.rest.now < 65536 }
     ensures frame { IfOk result (λ send. send.frame < 2 ^ 32) }
-    ensures fits { IfOk result (λ send. FitsDatagram send.datagram) }
+    ensures fits { IfOk result (λ send. FitsSending send.datagram) }
 {
     cursor.expect(Keyword::At)?;
     let frame = number(cursor, 0, u32::MAX)?;

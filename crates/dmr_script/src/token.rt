@@ -1,6 +1,8 @@
 //! The words of a line.
-ghost use Rattle.std.specs.Prelude.{◌≡◌, ◌≢◌, ◌+◌, ◌<◌, ◌≤◌, length, drop, slice_index_or, true, false, OnOk};
-ghost use Rattle.dmr_script.specs.Quiet.{is_blank, is_quiet};
+ghost use Rattle.std.specs.Prelude.{◌≡◌, ◌≢◌, ◌+◌, ◌<◌, ◌≤◌, length, drop, slice_index_or, true, false, IfOk, OnOk};
+ghost use Rattle.dmr_words.specs.Words.{is_blank};
+ghost use Rattle.dmr_script.specs.Quiet.{is_quiet};
+ghost use Rattle.dmr_script.specs.Tokens.{token_octets};
 ghost use Rattle.dmr_script.specs.declared.token.Token.TheVariants.{End};
 
 use crate::cited::Cited;
@@ -131,6 +133,7 @@ impl<'a> Cursor<'a> {
         ensures kept { length self.new.rest.now ≤ length self.old.rest.now }
         ensures quiet { result ≡ End → is_quiet self.old.rest.now ≡ true }
         ensures words { result ≢ End → is_quiet self.old.rest.now ≡ false }
+        ensures within { length (token_octets result) ≤ length self.old.rest.now }
         ensures shorter { result ≢ End → length self.new.rest.now < length self.old.rest.now }
     {
         self.rest = behind_blanks(self.rest);
@@ -202,6 +205,7 @@ impl<'a> Cursor<'a> {
     pub(crate) fn word(&mut self, wanted: Expected) -> Result<&'a [u8], Refusal>
         ensures kept { length self.new.rest.now ≤ length self.old.rest.now }
         ensures shorter { OnOk result (length self.new.rest.now < length self.old.rest.now) }
+        ensures within { IfOk result (λ word. length word.now ≤ length self.old.rest.now) }
     {
         match self.next() {
             Token::Word(word) => Ok(word),

@@ -1,4 +1,5 @@
-use Rattle.std.proofs.Common.{sym, ◌∙◌, ap, arith, rules, ◌+◌, get_or, get_or-drop, List, subst, ◌≡◌, ◌≤◌, length, drop, true, false, add-zero, ℕ, Bool}
+use Rattle.std.proofs.Common.{◌≡◌, ℕ, ◌≤◌, Bool, true, false, List, length, drop, get_or, ap, subst, sym, ◌∙◌, arith, rules}
+use Rattle.std.proofs.Common.{add-zero, get_or-drop}
 use Rattle.std.proofs.lemmas.Option.{get_or_from_slice_get}
 use Rattle.dmr_script.specs.Shapes.{there_within}
 use Rattle.dmr_script.specs.declared.letters.Letter.{Letter}

@@ -16,8 +16,8 @@ loop-letter-preserved c =
     let more = length_push old b in
     let counted = ap (λ (l : List Letter). length l) r in
     record {
-      letters = rw pushed (placed first old b c.loop-letter.wanted c.in-Some.letter.now c.in-Some.behind.now c.loop-letter.rest.now _
-          i.letters r i.wanted c.in_ok-there.ensures.letter);
+      letters = rw pushed (placed first old b c.loop-letter.wanted c.in-Some.letter.now c.in-Some.behind.now
+          c.loop-letter.rest.now _ i.letters r i.wanted c.in_ok-there.ensures.letter);
       wanted = rw pushed (c.next-wanted.ensures.value ∙ ap next_place i.wanted ∙ sym (behind_more first old b));
       count = rw pushed (omega (arith, more, counted));
     }

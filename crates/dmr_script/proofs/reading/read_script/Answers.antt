@@ -1,8 +1,9 @@
-use Rattle.std.proofs.Common.{◌≡◌, ◌<◌, ◌⊎◌, inl, inr, Bool, true, false, ℕ, List, [], ◌∷◌, ◌++◌, length, ap, subst, sym, ◌∙◌, arith}
+use Rattle.std.proofs.Common.{◌≡◌, ◌<◌, ◌⊎◌, inl, inr, Bool, true, false, ℕ, List, [], ◌∷◌, length, ap}
+use Rattle.std.proofs.Common.{subst, sym, ◌∙◌, arith}
 use Rattle.std.proofs.lemmas.List.Elements.{All-push}
 use Rattle.dmr_words.specs.Lines.{Line, TellsLines, lines_behind, numbered_line, told_now, untold}
 use Rattle.dmr_script.specs.Fits.{FitsNumbered}
-use Rattle.dmr_script.specs.Order.{nothing_said, said_with, said_with_all}
+use Rattle.dmr_script.specs.Order.{said_nothing, said_with, said_with_all}
 use Rattle.dmr_script.specs.Quiet.{is_quiet}
 use Rattle.dmr_script.specs.declared.order.Said.{Said}
 use Rattle.dmr_script.specs.declared.statement.NumberedStatement.{NumberedStatement}
@@ -92,10 +93,11 @@ loop-is_told-preserved-in-Continue-1 g c =
       over = c.next_line.ensures.over;
       number = c.next_line.ensures.numbers;
       fit = rw pushed (All-push FitsNumbered items s i.fit fits);
-      follow = rw pushed (follows_more nothing_said items s i.follow (rw (← i.behind) may));
-      behind = rw pushed (value ∙ ap (λ (said : Said). said_with said s.statement) i.behind ∙ sym (said_more nothing_said items s));
+      follow = rw pushed (follows_more said_nothing items s i.follow (rw (← i.behind) may));
+      behind = rw pushed (value ∙ ap (λ (said : Said). said_with said s.statement) i.behind ∙ sym (said_more said_nothing items s));
       said = rw pushed (read_words _ c.loop-is_told.lines new _ y z items i.said (numbered_line new.number new.line) s
-          (subst (λ (b : Bool). TellsLines lines_behind c.loop-is_told.lines new y z (told_now b new)) c.if-not-is_told.false e.told)
+          (subst (λ (b : Bool). TellsLines lines_behind c.loop-is_told.lines new y z (told_now b new)) c.if-not-is_told.false
+          e.told)
           (subst (λ (l : List ℕ). is_quiet l ≡ false) c.line.ensures.value words)
           c.number-line.ensures.value);
     }
@@ -117,6 +119,7 @@ loop-is_told-preserved g c =
       follow = i.follow;
       behind = same ∙ i.behind;
       said = read_quiet _ c.loop-is_told.lines new _ y z _ i.said (numbered_line new.number new.line)
-          (subst (λ (b : Bool). TellsLines lines_behind c.loop-is_told.lines new y z (told_now b new)) c.if-not-is_told.false e.told)
+          (subst (λ (b : Bool). TellsLines lines_behind c.loop-is_told.lines new y z (told_now b new)) c.if-not-is_told.false
+          e.told)
           (subst (λ (l : List ℕ). is_quiet l ≡ true) c.line.ensures.value quiet);
     }
