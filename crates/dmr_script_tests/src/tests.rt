@@ -1,4 +1,4 @@
-//! What both files of tests have.
+//! What all files of tests have.
 mod calls;
 mod lines;
 mod packets;

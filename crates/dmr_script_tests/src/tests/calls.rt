@@ -52,20 +52,47 @@ fn link_controls(rt: HostRuntime) -> Result<(), Fail> {
     let rows = [
         ("group call 2 -> 1: H", lc(0, GROUP_CALL)),
         ("unit call 2 -> 1: H", lc(3, GROUP_CALL)),
-        ("unit call 16777215 -> 66051: H", lc(3, [0, 1, 2, 3, 255, 255, 255])),
-        ("group call 2 -> 1, emergency: H", lc(0, [0x80, 0, 0, 1, 0, 0, 2])),
-        ("group call 2 -> 1, privacy: H", lc(0, [0x40, 0, 0, 1, 0, 0, 2])),
-        ("group call 2 -> 1, broadcast: H", lc(0, [0x08, 0, 0, 1, 0, 0, 2])),
-        ("group call 2 -> 1, OVCM, priority 3: H", lc(0, [0x07, 0, 0, 1, 0, 0, 2])),
+        (
+            "unit call 16777215 -> 66051: H",
+            lc(3, [0, 1, 2, 3, 255, 255, 255]),
+        ),
+        (
+            "group call 2 -> 1, emergency: H",
+            lc(0, [0x80, 0, 0, 1, 0, 0, 2]),
+        ),
+        (
+            "group call 2 -> 1, privacy: H",
+            lc(0, [0x40, 0, 0, 1, 0, 0, 2]),
+        ),
+        (
+            "group call 2 -> 1, broadcast: H",
+            lc(0, [0x08, 0, 0, 1, 0, 0, 2]),
+        ),
+        (
+            "group call 2 -> 1, OVCM, priority 3: H",
+            lc(0, [0x07, 0, 0, 1, 0, 0, 2]),
+        ),
         (
             "group call 2 -> 1, emergency, privacy, broadcast, OVCM, priority 1: H",
             lc(0, [0xcd, 0, 0, 1, 0, 0, 2]),
         ),
-        ("talker alias header 01020304050607: H", lc(4, [1, 2, 3, 4, 5, 6, 7])),
-        ("talker alias block 1 01020304050607: H", lc(5, [1, 2, 3, 4, 5, 6, 7])),
-        ("talker alias block 3 01020304050607: H", lc(7, [1, 2, 3, 4, 5, 6, 7])),
+        (
+            "talker alias header 01020304050607: H",
+            lc(4, [1, 2, 3, 4, 5, 6, 7]),
+        ),
+        (
+            "talker alias block 1 01020304050607: H",
+            lc(5, [1, 2, 3, 4, 5, 6, 7]),
+        ),
+        (
+            "talker alias block 3 01020304050607: H",
+            lc(7, [1, 2, 3, 4, 5, 6, 7]),
+        ),
         ("GPS info 01020304050607: H", lc(8, [1, 2, 3, 4, 5, 6, 7])),
-        ("LC opcode 63 01020304050607: H", lc(63, [1, 2, 3, 4, 5, 6, 7])),
+        (
+            "LC opcode 63 01020304050607: H",
+            lc(63, [1, 2, 3, 4, 5, 6, 7]),
+        ),
         (
             "LC opcode 5, fid 16, 01020304050607: H",
             FullLc {

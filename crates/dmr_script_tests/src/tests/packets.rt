@@ -238,15 +238,47 @@ fn answers(
 #[test]
 fn kinds_of_answers(rt: HostRuntime) -> Result<(), Fail> {
     let alloc = rt.alloc();
-    answers(&rt, alloc, "ACK 2 -> 1, N(S) 0", 0, 4, AnswerKind::Acknowledged, 0)?;
-    answers(&rt, alloc, "ACK 2 -> 1, N(S) 7, SAP 3", 7, 3, AnswerKind::Acknowledged, 0)?;
-    answers(&rt, alloc, "failed 2 -> 1, N(S) 1: D", 1, 4, AnswerKind::Failed, 0)?;
+    answers(
+        &rt,
+        alloc,
+        "ACK 2 -> 1, N(S) 0",
+        0,
+        4,
+        AnswerKind::Acknowledged,
+        0,
+    )?;
+    answers(
+        &rt,
+        alloc,
+        "ACK 2 -> 1, N(S) 7, SAP 3",
+        7,
+        3,
+        AnswerKind::Acknowledged,
+        0,
+    )?;
+    answers(
+        &rt,
+        alloc,
+        "failed 2 -> 1, N(S) 1: D",
+        1,
+        4,
+        AnswerKind::Failed,
+        0,
+    )?;
     let wanted = Wanted {
         serials: [1].to_vec(alloc)?,
         blocks: 5,
     };
     let kind = AnswerKind::SelectiveRepeat(wanted);
-    answers(&rt, alloc, "selective repeat 2 -> 1, N(S) 0, wanted 1 of 5", 0, 4, kind, 1)?;
+    answers(
+        &rt,
+        alloc,
+        "selective repeat 2 -> 1, N(S) 0, wanted 1 of 5",
+        0,
+        4,
+        kind,
+        1,
+    )?;
     let wanted = Wanted {
         serials: [0, 64].to_vec(alloc)?,
         blocks: 65,

@@ -63,23 +63,49 @@ fn calls_with_headers(rt: HostRuntime) -> Result<(), Fail> {
     let again = HeaderKind::Voice;
     let privacy = HeaderKind::Privacy;
     assert_eq!(rt; shape_of(alloc, "H")?, headed(alloc, &[], 0, b"", 0)?);
-    assert_eq!(rt; shape_of(alloc, "HHPT T")?, headed(alloc, &[again, privacy], 0, b"", 2)?);
-    assert_eq!(rt; shape_of(alloc, "H . A.CDEF T")?, headed(alloc, &[], 1, b"A.CDEF", 1)?);
-    assert_eq!(rt; shape_of(alloc, "H..... A")?, headed(alloc, &[], 5, b"A", 0)?);
-    assert_eq!(rt; shape_of(alloc, "H A.....T")?, headed(alloc, &[], 0, b"A.....", 1)?);
-    assert_eq!(rt; shape_of(alloc, "H A..... ABC")?, headed(alloc, &[], 0, b"A.....ABC", 0)?);
-    assert_eq!(rt; shape_of(alloc, "2*HP 2*ABCDEF 3*T")?, headed(
-        alloc, &[privacy, again, privacy], 0, b"ABCDEFABCDEF", 3)?);
+    assert_eq!(rt;
+        shape_of(alloc, "HHPT T")?,
+        headed(alloc, &[again, privacy], 0, b"", 2)?
+    );
+    assert_eq!(rt;
+        shape_of(alloc, "H . A.CDEF T")?,
+        headed(alloc, &[], 1, b"A.CDEF", 1)?
+    );
+    assert_eq!(rt;
+        shape_of(alloc, "H..... A")?,
+        headed(alloc, &[], 5, b"A", 0)?
+    );
+    assert_eq!(rt;
+        shape_of(alloc, "H A.....T")?,
+        headed(alloc, &[], 0, b"A.....", 1)?
+    );
+    assert_eq!(rt;
+        shape_of(alloc, "H A..... ABC")?,
+        headed(alloc, &[], 0, b"A.....ABC", 0)?
+    );
+    assert_eq!(rt;
+        shape_of(alloc, "2*HP 2*ABCDEF 3*T")?,
+        headed(alloc, &[privacy, again, privacy], 0, b"ABCDEFABCDEF", 3)?
+    );
     Ok(())
 }
 
 #[test]
 fn late_calls(rt: HostRuntime) -> Result<(), Fail> {
     let alloc = rt.alloc();
-    assert_eq!(rt; shape_of(alloc, "EF ABCDEF")?, late(alloc, b"EF", b"ABCDEF", 0)?);
+    assert_eq!(rt;
+        shape_of(alloc, "EF ABCDEF")?,
+        late(alloc, b"EF", b"ABCDEF", 0)?
+    );
     assert_eq!(rt; shape_of(alloc, "B.D.F A.....AB")?, None);
-    assert_eq!(rt; shape_of(alloc, "B.D.F A....F AB")?, late(alloc, b"B.D.F", b"A....FAB", 0)?);
-    assert_eq!(rt; shape_of(alloc, ".....ABCDEFT")?, late(alloc, b".....", b"ABCDEF", 1)?);
+    assert_eq!(rt;
+        shape_of(alloc, "B.D.F A....F AB")?,
+        late(alloc, b"B.D.F", b"A....FAB", 0)?
+    );
+    assert_eq!(rt;
+        shape_of(alloc, ".....ABCDEFT")?,
+        late(alloc, b".....", b"ABCDEF", 1)?
+    );
     assert_eq!(rt; shape_of(alloc, "AB")?, late(alloc, b"", b"AB", 0)?);
     Ok(())
 }

@@ -22,7 +22,10 @@ fn control_blocks(rt: HostRuntime) -> Result<(), Fail> {
     let alloc = rt.alloc();
     let rows = [
         ("opcode 0, fid 0, 0000000000000000", csbk(false, 0, [0; 8])),
-        ("opcode 63, fid 0, 0102030405060708, last", csbk(true, 63, [1, 2, 3, 4, 5, 6, 7, 8])),
+        (
+            "opcode 63, fid 0, 0102030405060708, last",
+            csbk(true, 63, [1, 2, 3, 4, 5, 6, 7, 8]),
+        ),
         (
             "preamble, data to follow 7, 2 -> 1",
             csbk(true, 61, [0x80, 7, 0, 0, 1, 0, 0, 2]),
@@ -35,7 +38,10 @@ fn control_blocks(rt: HostRuntime) -> Result<(), Fail> {
             "preamble, data to follow 0, 2 -> group 1",
             csbk(true, 61, [0xc0, 0, 0, 0, 1, 0, 0, 2]),
         ),
-        ("BS activation by 2 of 66051", csbk(true, 56, [0, 0, 1, 2, 3, 0, 0, 2])),
+        (
+            "BS activation by 2 of 66051",
+            csbk(true, 56, [0, 0, 1, 2, 3, 0, 0, 2]),
+        ),
         (
             "opcode 5, fid 16, 0102030405060708",
             Csbk {
@@ -71,12 +77,30 @@ fn data_bursts(rt: HostRuntime) -> Result<(), Fail> {
     bits.set(3, true);
     bits.set(192, true);
     let rows = [
-        ("terminator group call 2 -> 1", LoneBurst::Terminator(terminator)),
-        ("PI header 0102030405060708090A0B0C", LoneBurst::PiHeader(TWELVE)),
-        ("MBC header 0102030405060708090A0B0C", LoneBurst::MbcHeader(TWELVE)),
-        ("MBC block 0102030405060708090A0B0C", LoneBurst::MbcBlock(TWELVE)),
-        ("unified block 0102030405060708090A0B0C", LoneBurst::UnifiedBlock(TWELVE)),
-        ("rate 1/2 0102030405060708090a0b0c", LoneBurst::RateHalf(TWELVE)),
+        (
+            "terminator group call 2 -> 1",
+            LoneBurst::Terminator(terminator),
+        ),
+        (
+            "PI header 0102030405060708090A0B0C",
+            LoneBurst::PiHeader(TWELVE),
+        ),
+        (
+            "MBC header 0102030405060708090A0B0C",
+            LoneBurst::MbcHeader(TWELVE),
+        ),
+        (
+            "MBC block 0102030405060708090A0B0C",
+            LoneBurst::MbcBlock(TWELVE),
+        ),
+        (
+            "unified block 0102030405060708090A0B0C",
+            LoneBurst::UnifiedBlock(TWELVE),
+        ),
+        (
+            "rate 1/2 0102030405060708090a0b0c",
+            LoneBurst::RateHalf(TWELVE),
+        ),
         (
             "rate 3/4 1000000000000000000000000000000000000000000000008",
             LoneBurst::RateThreeQuarters(bits),
