@@ -1,6 +1,5 @@
 -- Which numbers statements have, and how many blocks the shape of a packet has.
-use Rattle.std.specs.Prelude.{◌≡◌, ℕ, ◌+◌, ◌*◌, ◌^◌, ◌<◌, ◌≤◌, ◌==◌, ◌||◌, Bool, false, All, length, IfSome, if◌then◌else◌, nat_lt}
-use Rattle.dmr_csbk.specs.declared.block.Csbk.{Csbk}
+use Rattle.std.specs.Prelude.{◌≡◌, ℕ, ◌+◌, ◌*◌, ◌^◌, ◌<◌, ◌≤◌, ◌==◌, ◌||◌, false, All, length, IfSome, if◌then◌else◌, nat_lt}
 use Rattle.dmr_data.specs.Block.{payload}
 use Rattle.dmr_data.specs.declared.header.Status.{Status}
 use Rattle.dmr_data.specs.declared.rate.Rate.TheVariants.{Half}
@@ -26,7 +25,6 @@ use Rattle.dmr_script.specs.declared.packet.UdpMessage.{UdpMessage}
 use Rattle.dmr_script.specs.declared.packet.Wanted.{Wanted}
 use Rattle.dmr_script.specs.declared.send.Datagram.{Datagram}
 use Rattle.dmr_script.specs.declared.send.Datagram.TheVariants as datagram
-use Rattle.dmr_script.specs.declared.send.Send.{Send}
 use Rattle.dmr_script.specs.declared.shape.PacketShape.{PacketShape}
 use Rattle.dmr_script.specs.declared.statement.NumberedStatement.{NumberedStatement}
 use Rattle.dmr_script.specs.declared.statement.Sender.{Sender}

@@ -1,12 +1,11 @@
 -- What was read of a script.
-use Rattle.std.specs.Prelude.{◌≡◌, ℕ, ◌+◌, ◌<◌, ◌⊎◌, Bool, true, false, List, [], ◌∷◌, ◌++◌, Option, Some, None, length}
+use Rattle.std.specs.Prelude.{◌≡◌, ℕ, ◌+◌, ◌<◌, ◌⊎◌, Bool, true, false, List, [], ◌∷◌, Option, Some, None, length}
 use Rattle.dmr_words.specs.Lines.{IsBehindLines, IsUnended, Line, TellsLines, TextState, fresh_text, last_number, line_length}
 use Rattle.dmr_words.specs.Lines.{line_limit, lines_behind}
 use Rattle.dmr_script.specs.Quiet.{is_quiet}
 use Rattle.dmr_script.specs.declared.fault.Refusal.{Refusal}
 use Rattle.dmr_script.specs.declared.fault.Refusal.TheVariants.{LongLine, Read, TooManyLines}
 use Rattle.dmr_script.specs.declared.fault.RefusedLine.{RefusedLine}
-use Rattle.dmr_script.specs.declared.script.Script.{Script}
 use Rattle.dmr_script.specs.declared.statement.NumberedStatement.{NumberedStatement}
 
 -- These lines say these statements: each has the number of its line, and a line that has none says nothing.

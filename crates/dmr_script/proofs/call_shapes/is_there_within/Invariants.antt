@@ -1,5 +1,5 @@
 -- None of those so far is there.
-use Rattle.std.proofs.Common.{◌≡◌, ℕ}
+use Rattle.std.proofs.Common.{◌≡◌}
 use Rattle.dmr_script.specs.Shapes.{there_within}
 use Rattle.dmr_script.proofs.call_shapes.is_there_within.Given as goal
 

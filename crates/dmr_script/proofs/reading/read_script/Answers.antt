@@ -1,9 +1,9 @@
-use Rattle.std.proofs.Common.{◌≡◌, ◌<◌, ◌⊎◌, inl, inr, Bool, true, false, ℕ, List, [], ◌∷◌, length, ap}
+use Rattle.std.proofs.Common.{◌≡◌, ◌<◌, ◌⊎◌, inl, inr, Bool, true, false, ℕ, List, length, ap}
 use Rattle.std.proofs.Common.{subst, sym, ◌∙◌, arith}
 use Rattle.std.proofs.lemmas.List.Elements.{All-push}
-use Rattle.dmr_words.specs.Lines.{Line, TellsLines, lines_behind, numbered_line, told_now, untold}
+use Rattle.dmr_words.specs.Lines.{TellsLines, lines_behind, numbered_line, told_now, untold}
 use Rattle.dmr_script.specs.Fits.{FitsNumbered}
-use Rattle.dmr_script.specs.Order.{said_nothing, said_with, said_with_all}
+use Rattle.dmr_script.specs.Order.{said_nothing, said_with}
 use Rattle.dmr_script.specs.Quiet.{is_quiet}
 use Rattle.dmr_script.specs.declared.order.Said.{Said}
 use Rattle.dmr_script.specs.declared.statement.NumberedStatement.{NumberedStatement}
