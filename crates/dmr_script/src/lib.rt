@@ -1,8 +1,14 @@
 //! The statements of a script, from which a recording is made.
 //!
-//! A script is a text. Each of its lines is a statement, or empty. `read_script` reads the statements with their lines
+//! A script is a text. Each of its lines is a statement, or says nothing. `read_script` reads the statements with their lines
 //! (`NumberedStatement`), up to the end of the text or to the first line that is refused (`RefusedLine`). A `Statement` says what
 //! its line says, and nothing of when it is sent: that hangs on all lines, and is the matter of whoever makes a recording of them.
+//!
+//! Statements are plain enums and structs, and contracts read them as they are. `specs/Reading.antt` says of which lines they are,
+//! `specs/Order.antt` which may stand behind which, and `specs/Fits.antt` in which ranges their numbers are. The shape of a call is
+//! its letters by `specs/Shapes.antt`, which also says which are well formed, and `specs/Foreign.antt` what may have another colour
+//! code. Inside, a line is read by a `Cursor`, word by word, and a function for each piece of the grammar takes what it says off
+//! the front. A line that says nothing is one by `specs/Quiet.antt`.
 #![tactic(auto)]
 
 mod call;
