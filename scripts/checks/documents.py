@@ -279,7 +279,7 @@ def picture_of(crates_txt):
     of_repeating, of_tools = ({program} | below[program] for program in ("dmrgate", "dmrgate_tools"))
     # What stands below neither program yet is beside the tools.
     wings = of_repeating - of_tools, of_repeating & of_tools, set(libraries) - of_repeating
-    rows = [("floor", "the program that repeats", "both programs", "the tools")]
+    rows = [("floor", "the one that repeats", "both programs", "the tools")]
     for floor in range(max(floors.values()), 0, -1):
         on_floor = [", ".join(it for it in libraries if it in wing and floors[it] == floor) for wing in wings]
         # A floor with many crates takes as many rows as its longest wing.

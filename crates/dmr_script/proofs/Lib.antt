@@ -1,0 +1,2 @@
+mod Lettering
+mod Saying
