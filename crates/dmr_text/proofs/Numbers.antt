@@ -1,7 +1,7 @@
 -- Numbers that words are.
-use Rattle.std.proofs.Common.{◌≡◌, ◌≢◌, ℕ, ◌^◌, ◌<◌, ◌≤◌, List, [], ◌∷◌, inl, inr, sym, ap, ◌∙◌, arith}
+use Rattle.std.proofs.Common.{◌≡◌, ◌≢◌, ℕ, ◌+◌, ◌^◌, ◌<◌, ◌≤◌, List, [], ◌∷◌, inl, inr, refl, sym, ap, ◌∙◌, arith}
 use Rattle.std.specs.Prelude.{IsTrue, codes, decimal, nat_eq}
-use Rattle.std.proofs.lemmas.Fmt.{decimal_injective}
+use Rattle.std.proofs.lemmas.Fmt.{decimal_digit, decimal_injective}
 use Rattle.std.proofs.lemmas.Bool.{eq-eqb, eqb-true}
 use Rattle.dmr_record.specs.Received.{IsSlot}
 use Rattle.dmr_text.specs.Spelling.{records_words}
@@ -10,13 +10,18 @@ use Rattle.dmr_text.specs.Spelling.{records_words}
 pub one_number : (word : List ℕ) (m n : ℕ) → m < 2 ^ 32 → n < 2 ^ 32 → word ≡ decimal m → word ≡ decimal n → m ≡ n
 one_number word m n few few' e e' = decimal_injective m n (omega arith) (omega arith) (sym e ∙ e')
 
--- a number that isn't 1 or 2 is no slot
-pub no_slot : (word : List ℕ) (n : ℕ) → n < 2 ^ 32 → word ≡ decimal n → n ≢ 1 → n ≢ 2
-    → (slot : ℕ) → IsSlot slot → word ≢ decimal slot
-no_slot word n few e other other' slot (inl one) e' =
-    let same = one_number word n slot few (omega arith) e e' in absurd (omega arith)
-no_slot word n few e other other' slot (inr two) e' =
-    let same = one_number word n slot few (omega arith) e e' in absurd (omega arith)
+-- the number of a slot is one digit
+pub slot_digit : (slot : ℕ) → IsSlot slot → decimal slot ≡ (48 + slot) ∷ []
+slot_digit slot (inl one) = decimal_digit slot (omega arith)
+slot_digit slot (inr two) = decimal_digit slot (omega arith)
+
+-- the digit 1 is a slot
+pub first_slot : (word : List ℕ) → word ≡ 49 ∷ [] → IsSlot 1 × (word ≡ decimal 1)
+first_slot word e = (inl refl, e ∙ sym (decimal_digit 1 (omega arith)))
+
+-- the digit 2 is the other one
+pub second_slot : (word : List ℕ) → word ≡ 50 ∷ [] → IsSlot 2 × (word ≡ decimal 2)
+second_slot word e = (inr refl, e ∙ sym (decimal_digit 2 (omega arith)))
 
 -- a last line has this count exactly where its number is the count
 pub same_count : (words rest : List (List ℕ)) (first : List ℕ) (said count : ℕ) → said < 2 ^ 32 → count < 2 ^ 32

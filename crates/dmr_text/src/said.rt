@@ -46,16 +46,16 @@ pub(crate) fn last_word<'a>(words: &mut Words<'a>) -> Option<&'a [u8]>
 }
 
 /// The slot of a frame that a word is.
-#[tactic(auto, using(crate::proofs::Numbers::no_slot))]
+#[tactic(auto, using(crate::proofs::Numbers::slot_digit))]
 fn slot_said(word: &[u8]) -> Option<u8>
     ensures slot { IfSome result (λ slot. IsSlot slot × (word.now ≡ decimal slot)) }
     ensures none { IfNone result ((slot : ℕ) → IsSlot slot → word.now ≢ decimal slot) }
 {
-    let number = decimal(word)?;
-    if number != 1 && number != 2 {
-        return None;
+    match word {
+        word if word == b"1".as_slice() => Some(1),
+        word if word == b"2".as_slice() => Some(2),
+        _ => None,
     }
-    Some(number as u8)
 }
 
 /// The place that words begin with. The words behind it are left.
