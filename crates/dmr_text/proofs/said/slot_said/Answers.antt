@@ -5,8 +5,10 @@ use Rattle.dmr_text.proofs.said.slot_said.Goals as goal
 
 pub returns-then-eq-clause-slot : goal.returns-then-eq-clause-slot
 returns-then-eq-clause-slot c =
-    first_slot c.args.word.now ((bytes_eq-Decides c.args.word.now c.as_slice.result.now).0 (sym c.if-eq.ensures) ∙ c.as_slice.ensures)
+    let same = (bytes_eq-Decides c.args.word.now c.as_slice.result.now).0 (sym c.if-eq.ensures) in
+    first_slot c.args.word.now (same ∙ c.as_slice.ensures)
 
 pub returns-then-eq-2-clause-slot : goal.returns-then-eq-2-clause-slot
 returns-then-eq-2-clause-slot c =
-    second_slot c.args.word.now ((bytes_eq-Decides c.args.word.now c.as_slice-2.result.now).0 (sym c.if-eq-2.ensures) ∙ c.as_slice-2.ensures)
+    let same = (bytes_eq-Decides c.args.word.now c.as_slice-2.result.now).0 (sym c.if-eq-2.ensures) in
+    second_slot c.args.word.now (same ∙ c.as_slice-2.ensures)
