@@ -105,3 +105,32 @@ Example, of silence in frame 0, and a burst in slot 1 of frame 1:\n\
 \x20 1 1 0062008201900100042004E004CD5D7F77FD757AC81800280250028000C0120022\n\
 \x20 frames 2\n\n\
 The text is described in docs/protocol.md.";
+
+/// What help says behind the options of `export datagrams`.
+pub(crate) const ABOUT_EXPORTED_DATAGRAMS: &str =
+    "A received list is the one that a run writes. Each of its datagrams becomes a\n\
+packet of the capture, octet for octet, in its order. Its time is when its frame\n\
+began, and 30 ms later in slot 2, counted from --start, or else from 1970.\n\
+Short data and statuses are no datagrams: they are counted, and left out.\n\
+The capture is pcap, of link type 228, for Wireshark, tshark and tcpdump. Where\n\
+the list is a pipe, each packet is written as soon as its record is there.\n\n\
+Status 0: done, and the counts are in a line on standard output, or on standard\n\
+error where the capture goes to standard output; 1: a fault, which is told on\n\
+standard error, and the packets before it are written; 2: the command line.\n\n\
+Example:\n  dmrgate export datagrams received.dmri - | tshark -r -\n\n\
+The capture is described in docs/protocol.md.";
+
+/// What help says behind the options of `import datagrams`.
+pub(crate) const ABOUT_IMPORTED_DATAGRAMS: &str =
+    "A capture is pcap or pcapng, told by its first octets, of link type 1, 101, 113,\n\
+228 or 276. Each IPv4 packet whose destination begins with 12 or 225 becomes a\n\
+record, with as many octets as it says. Others are counted, and left out. Its\n\
+frame is the one that is asked for, and one more for each 60 ms since the first\n\
+of them, but never less than that of the record before. A run judges datagrams,\n\
+and counts those that it refuses. Where the capture is a pipe, each record is\n\
+written as soon as its packet is there.\n\n\
+Status 0: done, and the counts are in a line on standard output, or on standard\n\
+error where the list goes to standard output; 1: a fault, which is told on\n\
+standard error, and the records before it are written; 2: the command line.\n\n\
+Example:\n  dmrgate import datagrams hosts.pcap outgoing.dmro --slot 1 --confirmed\n\n\
+The list is described in docs/protocol.md.";
