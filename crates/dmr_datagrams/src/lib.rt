@@ -2,7 +2,7 @@
 //!
 //! `export_datagrams` writes the datagrams of a received list as a capture, which Wireshark and tcpdump read. `import_datagrams`
 //! makes an outgoing list of the datagrams of a capture that are for radios. Both go record by record and packet by packet, so that
-//! their memory doesn't grow. What was ipv4_carried is counted (`ExportedDatagrams`, `ImportedDatagrams`).
+//! their memory doesn't grow. What was carried is counted (`ExportedDatagrams`, `ImportedDatagrams`).
 //!
 //! Contracts say which packets a list has and when they came (`specs/Packets.antt`), and which records a capture has and in which
 //! frames (`specs/Sendings.antt`). `specs/Exports.antt` and `specs/Imports.antt` say what was read and written, also up to a fault.
