@@ -246,8 +246,9 @@ The lines are described in docs/protocol.md.
 Usage: dmrgate import <COMMAND>
 
 Commands:
-  text  Makes any of the four files from lines of text
-  help  Print this message or the help of the given subcommand(s)
+  text       Makes any of the four files from lines of text
+  datagrams  Makes an outgoing list of the datagrams of a capture
+  help       Print this message or the help of the given subcommand(s)
 
 Options:
   -h, --help  Print help
@@ -289,13 +290,46 @@ Example, of silence in frame 0, and a burst in slot 1 of frame 1:
 
 The text is described in docs/protocol.md.
 """,
+    "import datagrams": """Makes an outgoing list of the datagrams of a capture
+
+Usage: dmrgate import datagrams [OPTIONS] --slot <N> <CAPTURE> <OUT>
+
+Arguments:
+  <CAPTURE>  The capture, pcap or pcapng; - is standard input
+  <OUT>      The outgoing list to make of it; - is standard output
+
+Options:
+      --slot <N>             The slot in which they are to go out, 1 or 2
+      --confirmed            As confirmed packets
+      --full-rate            At rate 1, and not at rate 1/2
+      --first-frame <FRAME>  The frame of the first of them [default: 0]
+  -h, --help                 Print help
+
+A capture is pcap or pcapng, told by its first octets, of link type 1, 101, 113,
+228 or 276. Each IPv4 packet whose destination begins with 12 or 225 becomes a
+record, with as many octets as it says. Others are counted, and left out. Its
+frame is the one that is asked for, and one more for each 60 ms since the first
+of them, but never less than that of the record before. A run judges datagrams,
+and counts those that it refuses. Where the capture is a pipe, each record is
+written as soon as its packet is there.
+
+Status 0: done, and the counts are in a line on standard output, or on standard
+error where the list goes to standard output; 1: a fault, which is told on
+standard error, and the records before it are written; 2: the command line.
+
+Example:
+  dmrgate import datagrams hosts.pcap outgoing.dmro --slot 1 --confirmed
+
+The list is described in docs/protocol.md.
+""",
     "export": """Writes a file of a run in another format
 
 Usage: dmrgate export <COMMAND>
 
 Commands:
-  text  Writes any of the four files as lines of text
-  help  Print this message or the help of the given subcommand(s)
+  text       Writes any of the four files as lines of text
+  datagrams  Writes the datagrams of a received list as a capture
+  help       Print this message or the help of the given subcommand(s)
 
 Options:
   -h, --help  Print help
@@ -326,6 +360,35 @@ Example:
   dmrgate export text uplink.dmru - | grep " 2 "
 
 The text is described in docs/protocol.md.
+""",
+    "export datagrams": """Writes the datagrams of a received list as a capture
+
+Usage: dmrgate export datagrams [OPTIONS] <RECEIVED> <OUT>
+
+Arguments:
+  <RECEIVED>  The received list; - is standard input
+  <OUT>       The capture, to write; - is standard output
+
+Options:
+      --slot <N>      The slot alone, 1 or 2
+      --start <TIME>  When the run began, as 2026-01-31T12:00:00Z
+  -h, --help          Print help
+
+A received list is the one that a run writes. Each of its datagrams becomes a
+packet of the capture, octet for octet, in its order. Its time is when its frame
+began, and 30 ms later in slot 2, counted from --start, or else from 1970.
+Short data and statuses are no datagrams: they are counted, and left out.
+The capture is pcap, of link type 228, for Wireshark, tshark and tcpdump. Where
+the list is a pipe, each packet is written as soon as its record is there.
+
+Status 0: done, and the counts are in a line on standard output, or on standard
+error where the capture goes to standard output; 1: a fault, which is told on
+standard error, and the packets before it are written; 2: the command line.
+
+Example:
+  dmrgate export datagrams received.dmri - | tshark -r -
+
+The capture is described in docs/protocol.md.
 """,
 }
 
@@ -380,7 +443,7 @@ def check_manual(report, wanted, version):
     report.expect("the manual's options", options_in(plain) == wanted, options_in(plain) ^ wanted)
     report.expect("the manual's version", f'"{version}"' in text, version)
     told = dict(re.findall(r"^\.BI (--[a-z-]+) .*\n.*; (\d+) where it is left out\.$", plain, re.MULTILINE))
-    helps = (report.call(name, "--help").out.decode() for name in ("run", "damage"))
+    helps = (report.call(*name.split(), "--help").out.decode() for name in ("run", "damage", "import datagrams"))
     defaults = {option: value for text in helps for option, value in defaults_in(text).items()}
     report.expect("the manual's defaults", told == defaults, told)
     if shutil.which("groff"):
@@ -395,7 +458,7 @@ def offered(report, *words):
     return set(ran.stdout.split())
 
 
-def check_completions(report, top, run, slot, show, log, damage, compare, carrying):
+def check_completions(report, top, run, slot, show, log, damage, compare, carrying, listing, capturing):
     commands = {"run", "slot", "show", "log", "damage", "compare", "import", "export"}
     for words, wanted in (
         (["dmrgate", ""], {*commands, "help"} | top),
@@ -441,8 +504,15 @@ def check_completions(report, top, run, slot, show, log, damage, compare, carryi
         (["dmrgate", "compare", "--", "READ"], {"README.md"}),
         (["dmrgate", "help", ""], commands),
         (["dmrgate", "help", "show", ""], set()),
-        (["dmrgate", "help", "import", ""], {"text"}),
-        (["dmrgate", "import", ""], {"text", "help"} | carrying),
+        (["dmrgate", "help", "import", ""], {"text", "datagrams"}),
+        (["dmrgate", "import", ""], {"text", "datagrams", "help"} | carrying),
+        (["dmrgate", "import", "datagrams", "-"], listing),
+        (["dmrgate", "import", "datagrams", "READ"], {"README.md"}),
+        (["dmrgate", "import", "datagrams", "--slot", ""], {"1", "2"}),
+        (["dmrgate", "import", "datagrams", "--first-frame", ""], set()),
+        (["dmrgate", "export", "datagrams", "-"], capturing),
+        (["dmrgate", "export", "datagrams", "--start", ""], set()),
+        (["dmrgate", "export", "d"], {"datagrams"}),
         (["dmrgate", "export", "t"], {"text"}),
         (["dmrgate", "export", "text", "-"], carrying),
         (["dmrgate", "export", "text", "READ"], {"README.md"}),
@@ -453,12 +523,13 @@ def check_completions(report, top, run, slot, show, log, damage, compare, carryi
         report.expect(f"bash offers for {words}", had == wanted, had ^ wanted)
     text = (report.top / ZSH).read_text()
     begin = text.index("    run)")
-    later = r"^    (?:slot|show|log|damage|compare|import \| export|help)\)$"
+    later = r"^    (?:slot|show|log|damage|compare|import|export|help)\)$"
     parts = [text[:begin], *re.split(later, text[begin:], flags=re.MULTILINE)]
-    names = "the program", "run", "slot", "show", "log", "damage", "compare", "import and export"
-    for name, part, wanted in zip(names, parts, (top, run, slot, show, log, damage, compare, carrying)):
+    names = "the program", "run", "slot", "show", "log", "damage", "compare", "import", "export"
+    for name, part, wanted in zip(names, parts, (top, run, slot, show, log, damage, compare, listing, capturing)):
         report.expect(f"zsh's options of {name}", options_in(part) == wanted, options_in(part) ^ wanted)
-        is_so = name == "the program" or part.count("_arguments -S ") == 1
+        kinds = 2 if name in ("import", "export") else 1
+        is_so = name == "the program" or part.count("_arguments -S ") == kinds
         report.expect(f"zsh offers no option of {name} behind --", is_so, part)
         without = re.findall(r"(--[a-z-]+)\[[^]]*\]:", part)
         report.expect(f"zsh takes each value of {name} behind = too", not without, without)
@@ -467,6 +538,8 @@ def check_completions(report, top, run, slot, show, log, damage, compare, carryi
     marks = (
         ("the program", "__fish_use_subcommand", top), ("run", "from run'", run), ("show", "from show'", show),
         ("log", "from log'", log), ("damage", "from damage'", damage), ("compare", "from compare'", compare),
+        ("import datagrams", "from import; and __fish_seen_subcommand_from datagrams'", listing),
+        ("export datagrams", "from export; and __fish_seen_subcommand_from datagrams'", capturing),
     )
     for name, mark, wanted in marks:
         had = everywhere | {f"--{word}" for line in lines if mark in line for word in re.findall(r" -l ([a-z-]+)", line)}
@@ -568,15 +641,15 @@ def check_readme(report):
 def check(report):
     check_alike(report)
     options = check_help(report)
-    commands = "", "run", "slot", "show", "log", "damage", "compare", "import text"
-    top, run, slot, show, log, damage, compare, carrying = (options[it] for it in commands)
+    commands = "", "run", "slot", "show", "log", "damage", "compare", "import text", "import datagrams", "export datagrams"
+    top, run, slot, show, log, damage, compare, carrying, listing, capturing = (options[it] for it in commands)
     ran = report.call("--version")
     version = ran.out.decode().strip()
     is_version = re.fullmatch(r"dmrgate \d+\.\d+\.\d+", version) and ran.status == 0 and ran.err == b""
     report.expect("the version", is_version, ran)
     short = report.call("-V")
     report.expect("-V is --version", (short.status, short.out, short.err) == (ran.status, ran.out, ran.err), short)
-    check_manual(report, top | run | slot | show | log | damage | compare, version)
+    check_manual(report, top | run | slot | show | log | damage | compare | listing | capturing, version)
     check_examples(report)
-    check_completions(report, top, run, slot, show, log, damage, compare, carrying)
+    check_completions(report, top, run, slot, show, log, damage, compare, carrying, listing, capturing)
     check_readme(report)

@@ -2,6 +2,7 @@ pub mod Carrying
 pub mod Comparing
 pub mod Comparison
 pub mod Damaging
+pub mod Datagrams
 pub mod Filters
 pub mod Listed
 pub mod LogRequest

@@ -1,5 +1,5 @@
 -- What the words of a command line ask for.
-use Rattle.std.specs.Prelude.{◌≡◌, ℕ, Bool, true, false, [], Option, Some, None, codes, option_map}
+use Rattle.std.specs.Prelude.{◌≡◌, ◌⊎◌, ℕ, Bool, true, false, [], Option, Some, None, codes, option_map}
 use Rattle.clap.specs.Words.{Text, found_of, rows_of, subcommand_name_of, subcommand_rows_of}
 use Rattle.clap.specs.declared.parser.matches.ArgMatches.{ArgMatches}
 use Rattle.clap.specs.declared.parser.matches.Found.{Found}
@@ -12,15 +12,18 @@ use Rattle.dmr_show.specs.declared.form.Form.{Form}
 use Rattle.dmr_show.specs.declared.form.Form.TheVariants as form_variant
 use Rattle.dmr_tools.specs.Comparison.{IsComparisonOf, shares_input}
 use Rattle.dmr_tools.specs.Damaging.{IsDamageOf}
+use Rattle.dmr_tools.specs.Datagrams.{AreExportSettings, AreImportSettings}
 use Rattle.dmr_tools.specs.Filters.{IsFilterOf, is_backwards}
 use Rattle.dmr_tools.specs.LogRequest.{AreLogSettings, ArePageSettings}
 use Rattle.dmr_tools.specs.declared.comparison.Comparison.{Comparison}
-use Rattle.dmr_tools.specs.declared.request.Format.{Format}
-use Rattle.dmr_tools.specs.declared.request.Format.TheVariants as format_variant
+use Rattle.dmr_tools.specs.declared.request.ExportFormat.{ExportFormat}
+use Rattle.dmr_tools.specs.declared.request.ExportFormat.TheVariants as to
+use Rattle.dmr_tools.specs.declared.request.ImportFormat.{ImportFormat}
+use Rattle.dmr_tools.specs.declared.request.ImportFormat.TheVariants as from
 use Rattle.dmr_tools.specs.declared.request.PairPlaces.{PairPlaces}
 use Rattle.dmr_tools.specs.declared.request.Request.{Request}
 use Rattle.dmr_tools.specs.declared.request.Request.TheVariants.{Show, Backwards, Log, LogPage, LogRefused, Import, Export}
-use Rattle.dmr_tools.specs.declared.request.Request.TheVariants.{Damage, Compare, SharedInput, Elsewhere}
+use Rattle.dmr_tools.specs.declared.request.Request.TheVariants.{Damage, Compare, SharedInput, NoStart, Elsewhere}
 
 -- a strip where it is asked for, JSON where that alone is, and else a listing
 abbrev pub form_by : Bool → Bool → Form
@@ -41,29 +44,58 @@ pub record IsGivenFormat (given : ArgMatches) (format : Text) (found : Found) : 
   pub name : subcommand_name_of given ≡ Some format
   pub rows : option_map (λ subcommand. subcommand.1) (subcommand_rows_of given) ≡ Some (rows_of found)
 
--- The name of a format.
-abbrev pub format_name : Format → Text
-format_name format_variant.Text = codes "text"
+-- The names of formats.
+abbrev pub import_name : ImportFormat → Text
+import_name from.Text = codes "text"
+import_name (from.Datagrams settings) = codes "datagrams"
+
+abbrev pub export_name : ExportFormat → Text
+export_name to.Text = codes "text"
+export_name (to.Datagrams settings) = codes "datagrams"
+
+-- A format's settings are those of its options. Texts have none.
+abbrev pub AreSettingsOfImport : Found → ImportFormat → Type 0
+AreSettingsOfImport found from.Text = Unit {0}
+AreSettingsOfImport found (from.Datagrams settings) = AreImportSettings found settings
+
+abbrev pub AreSettingsOfExport : Found → ExportFormat → Type 0
+AreSettingsOfExport found to.Text = Unit {0}
+AreSettingsOfExport found (to.Datagrams settings) = AreExportSettings found settings
 
 -- The places are those of the words `input` and `output`.
 pub record ArePairPlaces (found : Found) (places : PairPlaces) : Type 0 where
   pub input : IsNamed (text_of found (codes "input")) places.input
   pub output : IsNamed (text_of found (codes "output")) places.output
 
--- A command was given the name of this format, and these places behind it.
-pub record IsCarriedBetween (given : ArgMatches) (format : Format) (places : PairPlaces) : Type 0 where
+-- `import` was given the name of this format, with its settings and these places behind it.
+pub record IsImportedFrom (given : ArgMatches) (format : ImportFormat) (places : PairPlaces) : Type 0 where
   pub found : Found
-  pub of_format : IsGivenFormat given (format_name format) found
+  pub of_format : IsGivenFormat given (import_name format) found
+  pub are_settings : AreSettingsOfImport found format
   pub are_places : ArePairPlaces found places
+
+-- `export` was given the name of this format, with its settings and these places behind it.
+pub record IsExportedTo (given : ArgMatches) (format : ExportFormat) (places : PairPlaces) : Type 0 where
+  pub found : Found
+  pub of_format : IsGivenFormat given (export_name format) found
+  pub are_settings : AreSettingsOfExport found format
+  pub are_places : ArePairPlaces found places
+
+-- What `export datagrams` asks for: a capture by its settings, between its places, or one that begins at what is no time.
+abbrev pub IsExportOfDatagrams : Found → Request → Type 0
+IsExportOfDatagrams found (Export (to.Datagrams settings) places) = AreExportSettings found settings × ArePairPlaces found places
+IsExportOfDatagrams found NoStart = Unit {0}
+IsExportOfDatagrams found request = ⊥
 
 -- A command that carries files was given the name of a format.
 abbrev pub NamesFormat : ArgMatches → Type 0
-NamesFormat given = (format : Format) × (subcommand_name_of given ≡ Some (format_name format))
+NamesFormat given =
+    (subcommand_name_of given ≡ Some (codes "text")) ⊎ (subcommand_name_of given ≡ Some (codes "datagrams"))
 
 -- What a command with these options asks for: `show` for a listing, which is refused where it begins beyond its end; `log` for a
 -- log, for its page, or for one that is refused; `damage` for a recording with wrong bits; `compare` for a comparison, which is
--- refused where both files would be standard input; `import` for a file from another format, and `export` for one in it; and any
--- other what isn't done here.
+-- refused where both files would be standard input; `import` for a file from another format, and `export` for one in it, which is
+-- refused where it begins at what is no time; and any other what isn't done here.
 abbrev pub IsAskedOfTools : Option (Text × ArgMatches) → Request → Type 0
 IsAskedOfTools None (Show name form filter) = ⊥
 IsAskedOfTools None Backwards = ⊥
@@ -75,6 +107,7 @@ IsAskedOfTools None (Compare comparison) = ⊥
 IsAskedOfTools None SharedInput = ⊥
 IsAskedOfTools None (Import format places) = ⊥
 IsAskedOfTools None (Export format places) = ⊥
+IsAskedOfTools None NoStart = ⊥
 IsAskedOfTools None (Elsewhere name) = name.now ≡ []
 IsAskedOfTools (Some command) (Show name form filter) =
     (command.0 ≡ codes "show") × (name.now ≡ text_of (found_of command.1) (codes "file")) × IsFormOf (found_of command.1) form
@@ -98,9 +131,11 @@ IsAskedOfTools (Some command) SharedInput =
     (command.0 ≡ codes "compare")
     × ((comparison : Comparison) × IsComparisonOf (found_of command.1) comparison × (shares_input comparison ≡ true))
 IsAskedOfTools (Some command) (Import format places) =
-    (command.0 ≡ codes "import") × IsCarriedBetween command.1 format places
+    (command.0 ≡ codes "import") × IsImportedFrom command.1 format places
 IsAskedOfTools (Some command) (Export format places) =
-    (command.0 ≡ codes "export") × IsCarriedBetween command.1 format places
+    (command.0 ≡ codes "export") × IsExportedTo command.1 format places
+IsAskedOfTools (Some command) NoStart =
+    (command.0 ≡ codes "export") × (subcommand_name_of command.1 ≡ Some (codes "datagrams"))
 IsAskedOfTools (Some command) (Elsewhere name) =
     (command.0 ≡ codes "show" → ⊥) × (command.0 ≡ codes "log" → ⊥) × (command.0 ≡ codes "damage" → ⊥)
     × (command.0 ≡ codes "compare" → ⊥) × (command.0 ≡ codes "import" → NamesFormat command.1 → ⊥)

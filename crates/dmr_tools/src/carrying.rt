@@ -5,9 +5,12 @@ ghost use Rattle.dmr_lines.specs.Line.{PutsError, PutsLine};
 ghost use Rattle.dmr_lines.specs.Status.{failure, success};
 ghost use Rattle.dmr_tools.specs.Carrying.{is_to_octets};
 
-use crate::request::{Format, PairPlaces};
+use crate::datagrams::is_slot;
+use crate::request::{ExportFormat, ImportFormat, PairPlaces};
 use arrayvec::ArrayString;
+use dmr_capture::CaptureFault;
 use dmr_damage::{Damage, DamageEnd, DamageSettings, Damaged, SettingsFault, damage_recording};
+use dmr_datagrams::{ExportedDatagrams, ImportedDatagrams, export_datagrams, import_datagrams};
 use dmr_files::{
     BufferedPair, PairFault, Place, System, is_sent_to_terminal, open_buffered, write_out,
 };
@@ -23,21 +26,22 @@ use std::fmt::{self, Write};
 #[derive(Clone, Copy)]
 pub(crate) enum Direction {
     /// From this format to a file of a run.
-    Import(Format),
+    Import(ImportFormat),
     /// From a file of a run to this format.
-    Export(Format),
+    Export(ExportFormat),
     /// From a recording to one with wrong bits, drawn by a seed.
     Damage { damage: Damage, seed: u64 },
 }
 
 impl Direction {
-    /// Whether what is written is a file of a run, whose octets are nothing to look at.
+    /// Whether what is written is octets, which are nothing to look at, and no text.
     fn is_to_octets(self) -> bool
         ensures octets { result ≡ is_to_octets self }
     {
         match self {
             Direction::Import(_) | Direction::Damage { .. } => true,
-            Direction::Export(_) => false,
+            Direction::Export(ExportFormat::Datagrams(_)) => true,
+            Direction::Export(ExportFormat::Text) => false,
         }
     }
 }
@@ -55,6 +59,10 @@ pub(crate) enum CarryFault {
     File(FaultLine),
     /// The text is at fault.
     Text(LineFault),
+    /// The capture is at fault.
+    Capture(CaptureFault),
+    /// The slot is neither 1 nor 2, which the parser of the command line lets none be.
+    Slot,
     /// The input is no recording of an uplink.
     NotUplink,
     /// The damage is out of its range, which the parser of the command line lets none be.
@@ -78,6 +86,26 @@ impl From<PairFault> for CarryFault {
 impl From<SettingsFault> for CarryFault {
     fn from(fault: SettingsFault) -> CarryFault {
         CarryFault::Settings(fault)
+    }
+}
+
+impl From<dmr_datagrams::ExportEnd> for CarryFault {
+    fn from(end: dmr_datagrams::ExportEnd) -> CarryFault {
+        match end {
+            dmr_datagrams::ExportEnd::File(fault) => CarryFault::File(fault),
+            dmr_datagrams::ExportEnd::Output => CarryFault::Write,
+            dmr_datagrams::ExportEnd::Memory => CarryFault::Memory,
+        }
+    }
+}
+
+impl From<dmr_datagrams::ImportEnd> for CarryFault {
+    fn from(end: dmr_datagrams::ImportEnd) -> CarryFault {
+        match end {
+            dmr_datagrams::ImportEnd::Capture(fault) => CarryFault::Capture(fault),
+            dmr_datagrams::ImportEnd::Output => CarryFault::Write,
+            dmr_datagrams::ImportEnd::Memory => CarryFault::Memory,
+        }
     }
 }
 
@@ -118,6 +146,10 @@ pub(crate) enum Done {
     Carried(Carried),
     /// It was written with wrong bits.
     Damaged(Damaged),
+    /// A list was made of a capture.
+    ImportedDatagrams(ImportedDatagrams),
+    /// A capture was made of a list.
+    ExportedDatagrams(ExportedDatagrams),
 }
 
 impl fmt::Display for Done {
@@ -125,6 +157,8 @@ impl fmt::Display for Done {
         match self {
             Done::Carried(carried) => carried.fmt(f),
             Done::Damaged(damaged) => damaged.fmt(f),
+            Done::ImportedDatagrams(imported) => imported.fmt(f),
+            Done::ExportedDatagrams(exported) => exported.fmt(f),
         }
     }
 }
@@ -150,6 +184,8 @@ impl fmt::Display for ToldFault<'_> {
             CarryFault::Terminal => write!(f, "{output}: standard output is a terminal"),
             CarryFault::File(fault) => write!(f, "{input}: {fault}"),
             CarryFault::Text(fault) => write!(f, "{input}: {fault}"),
+            CarryFault::Capture(fault) => write!(f, "{input}: {fault}"),
+            CarryFault::Slot => write!(f, "a slot is 1 or 2"),
             CarryFault::Settings(fault) => write!(f, "{fault}"),
             CarryFault::NotUplink => write!(f, "{input}: not an uplink"),
             CarryFault::Write => write!(f, "{output}: write failed"),
@@ -169,8 +205,23 @@ fn carry_between<S: Source, K: Sink>(
     requires sink { K.has_failed sink.old ≡ false }
 {
     match direction {
-        Direction::Import(Format::Text) => Ok(Done::Carried(import_text(alloc, source, sink)?)),
-        Direction::Export(Format::Text) => Ok(Done::Carried(export_text(alloc, source, sink)?)),
+        Direction::Import(ImportFormat::Text) => {
+            Ok(Done::Carried(import_text(alloc, source, sink)?))
+        }
+        Direction::Import(ImportFormat::Datagrams(settings)) => {
+            if !is_slot(settings.slot) {
+                return Err(CarryFault::Slot);
+            }
+            let imported = import_datagrams(alloc, settings, source, sink)?;
+            Ok(Done::ImportedDatagrams(imported))
+        }
+        Direction::Export(ExportFormat::Text) => {
+            Ok(Done::Carried(export_text(alloc, source, sink)?))
+        }
+        Direction::Export(ExportFormat::Datagrams(settings)) => {
+            let exported = export_datagrams(alloc, settings, source, sink)?;
+            Ok(Done::ExportedDatagrams(exported))
+        }
         Direction::Damage { damage, seed } => {
             let settings = DamageSettings::new(damage, seed)?;
             Ok(Done::Damaged(damage_recording(&settings, source, sink)?))

@@ -23,6 +23,9 @@ use std::convert::AsStr;
 /// What is told of lines that are asked for from one on that is beyond the last.
 const BACKWARDS: &str = "--from is beyond --to";
 
+/// What is told of a begin that is no time.
+const NO_TIME: &str = "--start is no time, as 2026-01-31T12:00:00Z";
+
 /// What is told of a comparison of standard input with itself.
 const SHARED_INPUT: &str = "A and B can't both be standard input";
 
@@ -30,7 +33,7 @@ const SHARED_INPUT: &str = "A and B can't both be standard input";
 fn log_refusal_text(refusal: LogRefusal) -> &'static str {
     match refusal {
         LogRefusal::Backwards => BACKWARDS,
-        LogRefusal::Time => "--start is no time, as 2026-01-31T12:00:00Z",
+        LogRefusal::Time => NO_TIME,
     }
 }
 
@@ -109,6 +112,7 @@ fn fulfil<S: System, K: Sink, E: Sink>(
         Request::LogPage { name, settings } => {
             list_file(alloc, system, name, Listing::Page(settings), out, err)
         }
+        Request::NoStart => print_error(err, NO_TIME, USAGE),
         Request::LogRefused(refusal) => print_error(err, line_of(log_refusal_text(refusal)), USAGE),
         Request::Compare(comparison) => compare_files(alloc, system, &comparison, out, err),
         Request::SharedInput => print_error(err, SHARED_INPUT, USAGE),

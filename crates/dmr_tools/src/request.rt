@@ -1,17 +1,19 @@
 //! What the words of a command line ask for.
-ghost use Rattle.std.specs.Prelude.{◌≡◌, false, Some, IfSome, IfNone, codes, option_map};
+ghost use Rattle.std.specs.Prelude.{◌≡◌, false, Some, codes, option_map};
 ghost use Rattle.clap.specs.Words.{found_of};
 ghost use Rattle.dmr_files.specs.Place.{IsNamed};
 ghost use Rattle.dmr_options.specs.Found.{IsNumberOf, text_of};
 ghost use Rattle.dmr_tools.specs.LogRequest.{AreLogSettings, IsLogFormOf, log_form_by};
 ghost use Rattle.dmr_tools.specs.Filters.{IsFilterOf, is_backwards};
 ghost use Rattle.dmr_tools.specs.Request.{IsAskedOfTools, IsFormOf, form_by};
-ghost use Rattle.dmr_tools.specs.Request.{ArePairPlaces, IsCarriedBetween, NamesFormat};
+ghost use Rattle.dmr_tools.specs.Request.{ArePairPlaces, IsExportOfDatagrams};
 
 use crate::comparison::Comparison;
 use crate::damaging::{damage_of, seed_of};
+use crate::datagrams::{exported_slot_of, import_settings_of, start_of};
 use clap::{ArgMatches, Error};
 use dmr_damage::Damage;
+use dmr_datagrams::{ExportSettings, ImportSettings};
 use dmr_files::Place;
 use dmr_log_forms::{LogForm, LogSettings, StartTime};
 use dmr_log_page::PageSettings;
@@ -21,11 +23,22 @@ use dmr_tool_options::tool_commands;
 use std::alloc::Global;
 use std::convert::AsStr;
 
-/// A format that files of a run are carried to and from, beside their own.
+/// A format of which a file of a run is made.
 #[derive(Clone, Copy, Debug, PartialEq, Eq)]
-pub enum Format {
-    /// Lines of text.
+pub enum ImportFormat {
+    /// Lines of text, which say any of the four files.
     Text,
+    /// A capture of packets, whose datagrams become an outgoing list.
+    Datagrams(ImportSettings),
+}
+
+/// A format in which a file of a run is written.
+#[derive(Clone, Copy, Debug, PartialEq, Eq)]
+pub enum ExportFormat {
+    /// Lines of text, for any of the four files.
+    Text,
+    /// A capture of packets, with the datagrams of a received list.
+    Datagrams(ExportSettings),
 }
 
 /// Where a file stands that is carried, and where it goes.
@@ -79,14 +92,16 @@ pub enum Request<'a> {
     SharedInput,
     /// To make a file of what is in a format.
     Import {
-        format: Format,
+        format: ImportFormat,
         places: PairPlaces<'a>,
     },
     /// To write a file in a format.
     Export {
-        format: Format,
+        format: ExportFormat,
         places: PairPlaces<'a>,
     },
+    /// To write a capture of what began at what is no time of a capture.
+    NoStart,
     /// A command that another program has, by its name.
     Elsewhere(&'a str),
 }
@@ -247,18 +262,6 @@ fn places_of<'a>(files: &ArgMatches<'a>) -> PairPlaces<'a>
     }
 }
 
-/// The format that a command line of `import` or `export` names, with the places behind it.
-fn carried_by<'a>(given: &ArgMatches<'a>) -> Option<(Format, PairPlaces<'a>)>
-    ensures carried { IfSome result (λ carried. IsCarriedBetween given.now carried.0 carried.1) }
-    ensures none { IfNone result (NamesFormat given.now → ⊥) }
-{
-    match given.subcommand() {
-        Some(("text", files)) => Some((Format::Text, places_of(files))),
-        // Not reached, since a format is required, and there is no other.
-        _ => None,
-    }
-}
-
 /// What a command line of `damage` asks for.
 fn damage_request<'a>(damage: &ArgMatches<'a>) -> Request<'a>
     ensures asked { IsAskedOfTools (Some (record { 0 = codes "damage"; 1 = damage.now })) result }
@@ -285,9 +288,33 @@ fn compare_request<'a>(compare: &ArgMatches<'a>) -> Request<'a>
 fn import_request<'a>(import: &ArgMatches<'a>) -> Request<'a>
     ensures asked { IsAskedOfTools (Some (record { 0 = codes "import"; 1 = import.now })) result }
 {
-    match carried_by(import) {
-        Some((format, places)) => Request::Import { format, places },
-        None => Request::Elsewhere("import"),
+    match import.subcommand() {
+        Some(("text", files)) => Request::Import {
+            format: ImportFormat::Text,
+            places: places_of(files),
+        },
+        Some(("datagrams", files)) => Request::Import {
+            format: ImportFormat::Datagrams(import_settings_of(files)),
+            places: places_of(files),
+        },
+        // Not reached, since a format is required, and there is no other.
+        _ => Request::Elsewhere("import"),
+    }
+}
+
+/// What a command line of `export datagrams` asks for.
+fn export_of_datagrams<'a>(files: &ArgMatches<'a>) -> Request<'a>
+    ensures asked { IsExportOfDatagrams (found_of files.now) result }
+{
+    match start_of(files) {
+        Some(start) => Request::Export {
+            format: ExportFormat::Datagrams(ExportSettings {
+                slot: exported_slot_of(files),
+                start,
+            }),
+            places: places_of(files),
+        },
+        None => Request::NoStart,
     }
 }
 
@@ -295,9 +322,14 @@ fn import_request<'a>(import: &ArgMatches<'a>) -> Request<'a>
 fn export_request<'a>(export: &ArgMatches<'a>) -> Request<'a>
     ensures asked { IsAskedOfTools (Some (record { 0 = codes "export"; 1 = export.now })) result }
 {
-    match carried_by(export) {
-        Some((format, places)) => Request::Export { format, places },
-        None => Request::Elsewhere("export"),
+    match export.subcommand() {
+        Some(("text", files)) => Request::Export {
+            format: ExportFormat::Text,
+            places: places_of(files),
+        },
+        Some(("datagrams", files)) => export_of_datagrams(files),
+        // Not reached, since a format is required, and there is no other.
+        _ => Request::Elsewhere("export"),
     }
 }
 

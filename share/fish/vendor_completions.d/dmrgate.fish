@@ -47,5 +47,12 @@ complete -c dmrgate -n '__fish_seen_subcommand_from compare' -F
 complete -c dmrgate -n '__fish_seen_subcommand_from compare' -l shift -x -d 'Compare frame f of A with frame f+N of B'
 complete -c dmrgate -n '__fish_seen_subcommand_from compare' -l ignore -x -a 'cach vocoder' -d 'Leave CACHs or vocoder bits out'
 complete -c dmrgate -n '__fish_seen_subcommand_from compare' -l quiet -d 'Print the counts alone'
-complete -c dmrgate -n '__fish_seen_subcommand_from import export; and not __fish_seen_subcommand_from text' -a text -d 'Lines of text'
-complete -c dmrgate -n '__fish_seen_subcommand_from text' -F
+complete -c dmrgate -n '__fish_seen_subcommand_from import export; and not __fish_seen_subcommand_from text datagrams' -a text -d 'Lines of text'
+complete -c dmrgate -n '__fish_seen_subcommand_from import export; and not __fish_seen_subcommand_from text datagrams' -a datagrams -d 'A capture of datagrams'
+complete -c dmrgate -n '__fish_seen_subcommand_from text datagrams' -F
+complete -c dmrgate -n '__fish_seen_subcommand_from import; and __fish_seen_subcommand_from datagrams' -l slot -x -a '1 2' -d 'The slot in which they are to go out'
+complete -c dmrgate -n '__fish_seen_subcommand_from import; and __fish_seen_subcommand_from datagrams' -l confirmed -d 'As confirmed packets'
+complete -c dmrgate -n '__fish_seen_subcommand_from import; and __fish_seen_subcommand_from datagrams' -l full-rate -d 'At rate 1, and not at rate 1/2'
+complete -c dmrgate -n '__fish_seen_subcommand_from import; and __fish_seen_subcommand_from datagrams' -l first-frame -x -d 'The frame of the first of them'
+complete -c dmrgate -n '__fish_seen_subcommand_from export; and __fish_seen_subcommand_from datagrams' -l slot -x -a '1 2' -d 'The slot alone'
+complete -c dmrgate -n '__fish_seen_subcommand_from export; and __fish_seen_subcommand_from datagrams' -l start -x -d 'When the run began, as 2026-01-31T12:00:00Z'
