@@ -9,6 +9,7 @@ import tempfile
 
 from checks import recordings as it
 from checks.bursts import CONTROL_BLOCK, data_burst, information_of, sealed
+from checks.captures import CAPTURED
 from checks.program import Room, summary
 from checks.text_lines import text_of
 
@@ -38,6 +39,8 @@ ANSWERED = [
     ["export", "text", "nowhere", "made"], ["export", "text", "one.dmru", "one.dmru"],
     ["import", "text", "one.txt", "-"], ["import", "text", "cut.txt", "-"], ["import", "text", "one.txt", "made"],
     ["import", "text", "nowhere", "made"], ["import", "text", "one.txt", "one.txt"], ["import", "--help"], ["export", "text"],
+    ["import", "datagrams", "one.pcap", "made", "--slot", 1], ["import", "datagrams", "one.dmru", "made", "--slot", 1],
+    ["export", "datagrams", "long.dmri", "made"], ["export", "datagrams", "one.dmru", "-"],
     ["show", "--help"], ["show", "-", "--slot", 3], ["slot", it.IDLE], ["--help"], ["help"], ["run", "--help"],
     [], ["run", "--colours", 1], ["run", "--colour", 16],
 ]
@@ -197,6 +200,7 @@ def check_answers(report, shim):
             (room.path / name).write_bytes(octets)
         text, _ = text_of(it.ONE_CSBK)
         (room.path / "one.txt").write_bytes(text)
+        (room.path / "one.pcap").write_bytes(CAPTURED)
         (room.path / "cut.txt").write_bytes(text[:-9])
         for words in ANSWERED:
             expect_answer(report, shim, words, room.path)

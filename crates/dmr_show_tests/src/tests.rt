@@ -1,4 +1,5 @@
 //! What is printed of files, and where.
+mod capturing;
 mod carrying;
 mod command_line;
 mod comparing;

@@ -1,0 +1,131 @@
+//! The command lines of captures of datagrams.
+use super::carrying::{Few, expect_printed};
+use dmr_datagrams::{ExportSettings, ImportSettings};
+use dmr_tools::{ExportFormat, ImportFormat, Request, request_of};
+use std::test::Fail;
+
+/// How these words ask to make a list of a capture.
+fn list_asked(rt: &impl AllocGlobal, words: &[&str]) -> Result<ImportSettings, Fail> {
+    match request_of(rt.alloc(), words)? {
+        Request::Import {
+            format: ImportFormat::Datagrams(settings),
+            places,
+        } if places.input.name() == "in" && places.output.name() == "out" => Ok(settings),
+        _ => Err(Fail::new("no list of a capture, or other files")),
+    }
+}
+
+/// How these words ask to write a capture of a list.
+fn capture_asked(rt: &impl AllocGlobal, words: &[&str]) -> Result<ExportSettings, Fail> {
+    match request_of(rt.alloc(), words)? {
+        Request::Export {
+            format: ExportFormat::Datagrams(settings),
+            places,
+        } if places.input.name() == "in" && places.output.name() == "out" => Ok(settings),
+        _ => Err(Fail::new("no capture of a list, or other files")),
+    }
+}
+
+#[test]
+fn lists_of_captures_that_are_asked_for(rt: HostRuntime) -> Result<(), Fail> {
+    let words = ["dmrgate", "import", "datagrams", "in", "out", "--slot", "2"];
+    let plain = ImportSettings {
+        slot: 2,
+        confirmed: false,
+        full: false,
+        first_frame: 0,
+    };
+    assert!(rt; list_asked(&rt, &words)? == plain);
+    let words = [
+        "dmrgate",
+        "import",
+        "datagrams",
+        "--confirmed",
+        "in",
+        "--first-frame=4294967295",
+        "out",
+        "--slot=1",
+    ];
+    let confirmed = ImportSettings {
+        slot: 1,
+        confirmed: true,
+        full: false,
+        first_frame: u32::MAX,
+    };
+    assert!(rt; list_asked(&rt, &words)? == confirmed);
+    let words = [
+        "dmrgate",
+        "import",
+        "datagrams",
+        "in",
+        "out",
+        "--slot=2",
+        "--full-rate",
+    ];
+    let full = ImportSettings {
+        full: true,
+        ..plain
+    };
+    assert!(rt; list_asked(&rt, &words)? == full);
+    for slot in ["--slot=0", "--slot=3", "--full-rate"] {
+        let words = ["dmrgate", "import", "datagrams", "in", "out", slot];
+        assert!(rt; request_of(rt.alloc(), &words).is_err(), "{slot}");
+    }
+    Ok(())
+}
+
+#[test]
+fn captures_of_lists_that_are_asked_for(rt: HostRuntime) -> Result<(), Fail> {
+    let words = ["dmrgate", "export", "datagrams", "in", "out"];
+    let plain = ExportSettings {
+        slot: None,
+        start: 0,
+    };
+    assert!(rt; capture_asked(&rt, &words)? == plain);
+    let words = [
+        "dmrgate",
+        "export",
+        "datagrams",
+        "in",
+        "out",
+        "--slot=2",
+        "--start=2026-01-31T12:00:00.000001Z",
+    ];
+    let later = ExportSettings {
+        slot: Some(2),
+        start: 1_769_860_800_000_001,
+    };
+    assert!(rt; capture_asked(&rt, &words)? == later);
+    for start in ["--start=now", "--start=1969-12-31T23:59:59Z"] {
+        let words = ["dmrgate", "export", "datagrams", "in", "out", start];
+        assert!(rt;
+            matches!(request_of(rt.alloc(), &words)?, Request::NoStart),
+            "{start}"
+        );
+    }
+    Ok(())
+}
+
+#[test]
+fn what_is_printed_of_captures(rt: HostRuntime) {
+    let plain = Few { is_terminal: false };
+    let words = ["dmrgate", "import", "datagrams", "up", "out", "--slot", "1"];
+    expect_printed(&rt, &plain, &words, 1, "", "error: up: no capture\n");
+    let words = ["dmrgate", "export", "datagrams", "up", "out"];
+    let told = "error: up: bad magic at octet 0\n";
+    expect_printed(&rt, &plain, &words, 1, "", told);
+    let words = [
+        "dmrgate",
+        "export",
+        "datagrams",
+        "up",
+        "out",
+        "--start",
+        "now",
+    ];
+    let told = "error: --start is no time, as 2026-01-31T12:00:00Z\n";
+    expect_printed(&rt, &plain, &words, 2, "", told);
+    let words = ["dmrgate", "export", "datagrams", "up", "-"];
+    let told = "error: -: standard output is a terminal\n";
+    expect_printed(&rt, &Few { is_terminal: true }, &words, 1, "", told);
+}
