@@ -81,12 +81,6 @@ pub record IsExportedTo (given : ArgMatches) (format : ExportFormat) (places : P
   pub are_settings : AreSettingsOfExport found format
   pub are_places : ArePairPlaces found places
 
--- What `export datagrams` asks for: a capture by its settings, between its places, or one that begins at what is no time.
-abbrev pub IsExportOfDatagrams : Found → Request → Type 0
-IsExportOfDatagrams found (Export (to.Datagrams settings) places) = AreExportSettings found settings × ArePairPlaces found places
-IsExportOfDatagrams found NoStart = Unit {0}
-IsExportOfDatagrams found request = ⊥
-
 -- A command that carries files was given the name of a format.
 abbrev pub NamesFormat : ArgMatches → Type 0
 NamesFormat given =

@@ -6,7 +6,7 @@ ghost use Rattle.dmr_options.specs.Found.{IsNumberOf, text_of};
 ghost use Rattle.dmr_tools.specs.LogRequest.{AreLogSettings, IsLogFormOf, log_form_by};
 ghost use Rattle.dmr_tools.specs.Filters.{IsFilterOf, is_backwards};
 ghost use Rattle.dmr_tools.specs.Request.{IsAskedOfTools, IsFormOf, form_by};
-ghost use Rattle.dmr_tools.specs.Request.{ArePairPlaces, IsExportOfDatagrams};
+ghost use Rattle.dmr_tools.specs.Request.{ArePairPlaces};
 
 use crate::comparison::Comparison;
 use crate::damaging::{damage_of, seed_of};
@@ -302,22 +302,6 @@ fn import_request<'a>(import: &ArgMatches<'a>) -> Request<'a>
     }
 }
 
-/// What a command line of `export datagrams` asks for.
-fn export_of_datagrams<'a>(files: &ArgMatches<'a>) -> Request<'a>
-    ensures asked { IsExportOfDatagrams (found_of files.now) result }
-{
-    match start_of(files) {
-        Some(start) => Request::Export {
-            format: ExportFormat::Datagrams(ExportSettings {
-                slot: exported_slot_of(files),
-                start,
-            }),
-            places: places_of(files),
-        },
-        None => Request::NoStart,
-    }
-}
-
 /// What a command line of `export` asks for.
 fn export_request<'a>(export: &ArgMatches<'a>) -> Request<'a>
     ensures asked { IsAskedOfTools (Some (record { 0 = codes "export"; 1 = export.now })) result }
@@ -327,7 +311,16 @@ fn export_request<'a>(export: &ArgMatches<'a>) -> Request<'a>
             format: ExportFormat::Text,
             places: places_of(files),
         },
-        Some(("datagrams", files)) => export_of_datagrams(files),
+        Some(("datagrams", files)) => match start_of(files) {
+            Some(start) => Request::Export {
+                format: ExportFormat::Datagrams(ExportSettings {
+                    slot: exported_slot_of(files),
+                    start,
+                }),
+                places: places_of(files),
+            },
+            None => Request::NoStart,
+        },
         // Not reached, since a format is required, and there is no other.
         _ => Request::Elsewhere("export"),
     }
