@@ -52,6 +52,14 @@ RECEIVED = it.RECEIVED_HEAD + b"".join([
 ])
 CAPTURED = HEAD + packet(5, 280_000, DATAGRAM) + packet(6, 270_000, DATAGRAM)
 
+# When their packets came, in microseconds.
+TWO = [(5_280_000, DATAGRAM), (6_270_000, DATAGRAM)]
+
+
+def as_pcap(head, parts, order="<"):
+    """Both packets behind this head, of which a microsecond has so many parts."""
+    return head + b"".join(packet(at // 1_000_000, at % 1_000_000 * parts, octets, order) for at, octets in TWO)
+
 
 def expect(report, name, ran, wanted, line):
     """What goes to standard output, and the line of counts beside it."""
@@ -78,10 +86,10 @@ def check_imports(report):
     records = outgoing(it.outgoing_record(0), it.outgoing_record(16))
     for name, octets in (
         ("pcap", CAPTURED),
-        ("pcap, highest octet first", capture_head(order=">") + packet(5, 280_000, DATAGRAM, ">") + packet(6, 270_000, DATAGRAM, ">")),
-        ("pcap in nanoseconds", capture_head(nanoseconds=True) + packet(5, 280_000_000, DATAGRAM) + packet(6, 270_000_000, DATAGRAM)),
-        ("pcapng", as_pcapng([(5_280_000, DATAGRAM), (6_270_000, DATAGRAM)])),
-        ("pcapng, highest octet first", as_pcapng([(5_280_000, DATAGRAM), (6_270_000, DATAGRAM)], ">")),
+        ("pcap, highest octet first", as_pcap(capture_head(order=">"), 1, ">")),
+        ("pcap in nanoseconds", as_pcap(capture_head(nanoseconds=True), 1000)),
+        ("pcapng", as_pcapng(TWO)),
+        ("pcapng, highest octet first", as_pcapng(TWO, ">")),
         ("raw", capture_head(101) + CAPTURED[24:]),
     ):
         ran = report.call("import", "datagrams", "-", "-", "--slot", 1, given=octets)
@@ -97,7 +105,8 @@ def check_imports(report):
         ran = report.call("import", "datagrams", "-", "-", "--slot", 1, *words, given=HEAD + packet(0, 0, DATAGRAM))
         expect(report, f"a list with {words}", ran, outgoing(it.outgoing_record(0, 1, mode)), "records 1 other 0\n")
     ran = report.call("import", "datagrams", "-", "-", "--slot", 1, "--first-frame", 2**32 - 17, given=CAPTURED)
-    expect(report, "to the last frame", ran, outgoing(it.outgoing_record(2**32 - 17), it.outgoing_record(2**32 - 1)), "records 2 other 0\n")
+    wanted = outgoing(it.outgoing_record(2**32 - 17), it.outgoing_record(2**32 - 1))
+    expect(report, "to the last frame", ran, wanted, "records 2 other 0\n")
     ran = report.call("import", "datagrams", "-", "-", "--slot", 1, "--first-frame", 2**32 - 1, given=CAPTURED)
     is_so = (ran.status, ran.out, ran.err) == (1, outgoing(it.outgoing_record(2**32 - 1)), b"error: -: too long at octet 68\n")
     report.expect("past the last frame", is_so, ran)
@@ -109,7 +118,7 @@ def check_bent(report):
         "no capture", "cut head at octet", "cut packet at octet", "cut block at octet", "bad block at octet",
         "too many interfaces at octet", "link type", "too long at octet",
     )
-    for kind, octets in (("pcap", CAPTURED), ("pcapng", as_pcapng([(5_280_000, DATAGRAM), (6_270_000, DATAGRAM)]))):
+    for kind, octets in (("pcap", CAPTURED), ("pcapng", as_pcapng(TWO))):
         fronts = [octets[:count] for count in range(len(octets))]
         bent = [octets[:at] + bytes([octets[at] ^ turned]) + octets[at + 1 :] for at in range(len(octets)) for turned in (1, 0x80)]
         for name, given in [*enumerate(fronts), *enumerate(bent, len(fronts))]:
