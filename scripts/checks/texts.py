@@ -6,7 +6,7 @@ import shutil
 import subprocess
 import tempfile
 
-from checks import recordings
+from checks import captures, recordings
 from checks.program import Room
 
 MANUAL = "share/man/man1/dmrgate.1"
@@ -619,7 +619,7 @@ def check_readme(report):
         ran, there = shell(carried[1], room.path), room.path / carried[3]
         is_so = ran.returncode == 0 and there.read_bytes() == (report.top / carried[2]).read_bytes()
         report.expect("the README's text and back", is_so, ran)
-        blocks = re.findall(r"^    \$ (\./dmrgate (?:show|log|compare) .*)\n((?:    .*\n)+)", text, re.MULTILINE)
+        blocks = re.findall(r"^    \$ (\./dmrgate (?:show|log|damage|run|compare) .*)\n((?:    .*\n)+)", text, re.MULTILINE)
         is_shown = any(command.startswith("./dmrgate show downlink.dmrd") for command, _ in blocks)
         report.expect("the README shows the downlink of its run", is_shown)
         for command, shown in blocks:
@@ -628,10 +628,15 @@ def check_readme(report):
             ran = shell(command, room.path)
             lines = re.sub(r"^    ", "", shown, flags=re.MULTILINE)
             report.expect(f"the README's {command}", (ran.returncode, ran.stdout) == (0, lines), ran)
+        (room.path / "hosts.pcap").write_bytes(captures.CAPTURED)
+        ran = shell(re.search(r"^    (\./dmrgate import datagrams .*)$", text, re.MULTILINE)[1], room.path)
+        records = recordings.outgoing_record(0) + recordings.outgoing_record(16)
+        is_so = ran.returncode == 0 and room.outgoing.read_bytes() == recordings.OUTGOING_HEAD + records
+        report.expect("the README's list of a capture", is_so, ran)
         for name in ("one.dmru", "two.dmru"):
             shutil.copy(sample / "uplink.dmru", room.path / name)
         room.uplink.unlink()
-        shell("rm -f mine.dmru calls.dmru", room.path)
+        shell("rm -f mine.dmru calls.dmru damaged.dmru", room.path)
         ran = shell(re.search(r"^    (ls .* xargs .*)$", text, re.MULTILINE)[1], room.path)
         report.expect("many at once", (ran.returncode, ran.stdout) == (0, 2 * (line + "\n")), ran)
         made = [(room.path / f"{name}.dmru.dmrd").read_bytes() for name in ("one", "two")]
