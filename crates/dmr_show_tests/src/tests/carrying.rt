@@ -15,7 +15,7 @@ const TEXT: &[u8] = b"dmrgate uplink 1\nframes 0\n";
 
 /// A file that keeps nothing of what is written to it, or takes nothing.
 #[derive(Drop)]
-enum Output {
+pub(crate) enum Output {
     Open,
     Full,
 }
