@@ -1,0 +1,4 @@
+pub mod CallSlots
+pub mod SameBursts
+pub mod Standing
+pub mod Superframes

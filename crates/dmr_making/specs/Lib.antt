@@ -1,0 +1,6 @@
+pub mod Calls
+pub mod Fit
+pub mod Information
+pub mod Made
+pub mod Places
+pub mod Standing

@@ -1,0 +1,5 @@
+//! Recordings from the statements of a script.
+#![tactic(auto)]
+
+mod bursts;
+mod calls;
