@@ -2,16 +2,17 @@
 use Rattle.std.proofs.Common.{◌≡◌, ℕ, zero, suc, ◌+◌, ◌-◌, ◌*◌, ◌/◌, ◌%◌, ◌<◌, ◌≤◌, ◌++◌, Bool, true, false, List, [], ◌∷◌, map, zip, length}
 use Rattle.std.proofs.Common.{arith, refl, ap, sym, ◌∙◌, subst, Option, Some, None, get_or, flat_map, replicate, drop, slice_get, if◌then◌else◌}
 use Rattle.std.proofs.Math.ListN.{get_or-append}
-use Rattle.std.proofs.lemmas.List.{append-nil, map-append, length-replicate, get_or-append-add, length-append}
+use Rattle.std.proofs.lemmas.Option.{slice_get_within, get_or_from_slice_get}
+use Rattle.std.proofs.lemmas.List.{length-map, append-nil, map-append, length-replicate, get_or-append-add, length-append}
 use Rattle.dmr_burst.specs.DataTypes.{terminator_with_lc}
 use Rattle.dmr_burst.specs.declared.burst.Burst.TheVariants as burst
 use Rattle.dmr_hearing.proofs.OneLinkControl.{one_carrier}
 use Rattle.dmr_hearing.specs.Slots.{SentSlot, Silent, Data}
 use Rattle.dmr_link.specs.declared.full_lc.FullLc.{FullLc}
-use Rattle.dmr_making.proofs.Standing.{at_left, at_seam, at_right, at_replicate, at_drop, at_map}
+use Rattle.dmr_making.proofs.Standing.{at_left, at_seam, at_right, at_replicate, at_drop, at_map, at_read}
 use Rattle.dmr_making.proofs.Superframes.{place_at, voice_at, length_voice, index_is, place_index, IsFullAt}
 use Rattle.dmr_making.specs.Calls.{AreFieldsOf, CallForms, AreFormsOf, superframe_slots, superframes_from, voice_slots, headed_slots}
-use Rattle.dmr_making.specs.Calls.{tail_slots, call_slots, header_slot, silences_behind, lead_of, ending_of, call_of, slots_sent}
+use Rattle.dmr_making.specs.Calls.{tail_slots, late_slots, header_slot, silences_behind, lead_of, ending_of, headed_call, late_call, slots_sent}
 use Rattle.dmr_making.specs.Calls.{six_fields, places_with}
 use Rattle.dmr_making.specs.Made.{IsMade, IsBurstOf, vocoder_of_frame}
 use Rattle.dmr_making.specs.Places.{full_slots, lcss_with}
@@ -102,7 +103,7 @@ sent_voice colour call forms known =
 -- 3. What stands in a place.
 
 -- the burst of a place that carries a fragment
-pub fragment_at : (colour frame : ℕ) (pi : Bool) (carried : Option FullLc) (field fragment : ℕ) (octets : List ℕ)
+fragment_at : (colour frame : ℕ) (pi : Bool) (carried : Option FullLc) (field fragment : ℕ) (octets : List ℕ)
     → (place : Place) → (lcss place carried ≡ lcss_with carried fragment)
     → IsBurstOf (burst.Voice (record { colour = colour; pi = pi; lcss = lcss_with carried fragment }) field (vocoder_of_frame frame))
     octets
@@ -112,25 +113,61 @@ fragment_at colour frame pi carried field fragment octets place e b =
     (sym e) b
 
 -- the LCSS of a place is its fragment, where there is a link control
-pub fragment_of_B : (carried : Option FullLc) → lcss B carried ≡ lcss_with carried 1
+fragment_of_B : (carried : Option FullLc) → lcss B carried ≡ lcss_with carried 1
 fragment_of_B None = refl
 fragment_of_B (Some lc) = refl
 
-pub fragment_of_C : (carried : Option FullLc) → lcss C carried ≡ lcss_with carried 3
+fragment_of_C : (carried : Option FullLc) → lcss C carried ≡ lcss_with carried 3
 fragment_of_C None = refl
 fragment_of_C (Some lc) = refl
 
-pub fragment_of_D : (carried : Option FullLc) → lcss D carried ≡ lcss_with carried 3
+fragment_of_D : (carried : Option FullLc) → lcss D carried ≡ lcss_with carried 3
 fragment_of_D None = refl
 fragment_of_D (Some lc) = refl
 
-pub fragment_of_E : (carried : Option FullLc) → lcss E carried ≡ lcss_with carried 2
+fragment_of_E : (carried : Option FullLc) → lcss E carried ≡ lcss_with carried 2
 fragment_of_E None = refl
 fragment_of_E (Some lc) = refl
 
-pub fragment_of_F : (carried : Option FullLc) → lcss F carried ≡ 0
+fragment_of_F : (carried : Option FullLc) → lcss F carried ≡ 0
 fragment_of_F None = refl
 fragment_of_F (Some lc) = refl
+
+-- So the burst of each place is what a superframe sends there, where all of it is there.
+pub full_B : (colour frame : ℕ) (pi : Bool) (carried : Option FullLc) (fields octets : List ℕ)
+    → IsBurstOf (burst.Voice (record { colour = colour; pi = pi; lcss = lcss_with carried 1 }) (get_or fields 0 0)
+    (vocoder_of_frame frame)) octets
+    → HoldsAt (λ (slot : SentSlot). IsMade colour frame slot (Some octets)) (full_slots colour pi carried fields) 1
+full_B colour frame pi carried fields octets b =
+    fragment_at colour frame pi carried (get_or fields 0 0) 1 octets B (fragment_of_B carried) b
+
+pub full_C : (colour frame : ℕ) (pi : Bool) (carried : Option FullLc) (fields octets : List ℕ)
+    → IsBurstOf (burst.Voice (record { colour = colour; pi = pi; lcss = lcss_with carried 3 }) (get_or fields 1 0)
+    (vocoder_of_frame frame)) octets
+    → HoldsAt (λ (slot : SentSlot). IsMade colour frame slot (Some octets)) (full_slots colour pi carried fields) 2
+full_C colour frame pi carried fields octets b =
+    fragment_at colour frame pi carried (get_or fields 1 0) 3 octets C (fragment_of_C carried) b
+
+pub full_D : (colour frame : ℕ) (pi : Bool) (carried : Option FullLc) (fields octets : List ℕ)
+    → IsBurstOf (burst.Voice (record { colour = colour; pi = pi; lcss = lcss_with carried 3 }) (get_or fields 2 0)
+    (vocoder_of_frame frame)) octets
+    → HoldsAt (λ (slot : SentSlot). IsMade colour frame slot (Some octets)) (full_slots colour pi carried fields) 3
+full_D colour frame pi carried fields octets b =
+    fragment_at colour frame pi carried (get_or fields 2 0) 3 octets D (fragment_of_D carried) b
+
+pub full_E : (colour frame : ℕ) (pi : Bool) (carried : Option FullLc) (fields octets : List ℕ)
+    → IsBurstOf (burst.Voice (record { colour = colour; pi = pi; lcss = lcss_with carried 2 }) (get_or fields 3 0)
+    (vocoder_of_frame frame)) octets
+    → HoldsAt (λ (slot : SentSlot). IsMade colour frame slot (Some octets)) (full_slots colour pi carried fields) 4
+full_E colour frame pi carried fields octets b =
+    fragment_at colour frame pi carried (get_or fields 3 0) 2 octets E (fragment_of_E carried) b
+
+pub full_F : (colour frame : ℕ) (pi : Bool) (carried : Option FullLc) (fields octets : List ℕ)
+    → IsBurstOf (burst.Voice (record { colour = colour; pi = pi; lcss = 0 }) 0 (vocoder_of_frame frame)) octets
+    → HoldsAt (λ (slot : SentSlot). IsMade colour frame slot (Some octets)) (full_slots colour pi carried fields) 5
+full_F colour frame pi carried fields octets b =
+    subst (λ (k : ℕ). IsBurstOf (burst.Voice (record { colour = colour; pi = pi; lcss = k }) 0 (vocoder_of_frame frame)) octets)
+    (sym (fragment_of_F carried)) b
 
 -- A place of the voice: its burst where it is there, and nothing where it is absent.
 pub voice_slot_at : (P : SentSlot → Type 0) (colour : ℕ) (call : Call) (forms : CallForms) (place : ℕ)
@@ -182,3 +219,141 @@ tail_at P colour call forms tail place at e inside here silent =
     })) at place e
     (place_at P colour (Some call.link_control) call.pi (A ∷ B ∷ C ∷ D ∷ E ∷ F ∷ []) (six_fields forms.own_fields) presence at
     (λ q. here (sym same ∙ q)) (λ q. silent (sym same ∙ q)))
+
+-- 4. Whole calls.
+
+-- what a call with its headers sends
+pub sent_headed : (colour : ℕ) (call : Call) (forms : CallForms) (h : Headers) (bs : List Bool) → bs ≡ call.shape.places.items
+    → slots_sent colour (headed_call call forms h bs)
+    ≡ header_slot call forms header.Voice ∷ (map (header_slot call forms) h.more.items
+    ++ (replicate (silences_behind bs h) Silent ++ voice_slots colour call forms))
+sent_headed colour call forms h [] e =
+    let lc : FullLc = call.link_control in
+    let leads : List Cell = map (lead_cell lc forms.header) (map (lead_of forms) h.more.items) in
+    let ends : List Cell = ending_cells lc (ending_of forms call.shape.terminators) in
+    let last : SentSlot = Data terminator_with_lc forms.terminator (Some lc) in
+    let none : flat_map (superframe_slots colour) (superframes_from call forms.fields 0 call.shape.places.items) ≡ [] =
+    ap (λ (l : List Bool). flat_map (superframe_slots colour) (superframes_from call forms.fields 0 l)) (sym e) in
+    ap (λ (l : List SentSlot). header_slot call forms header.Voice ∷ l)
+    (map-append (λ (c : Cell). c.sent) leads ends
+    ∙ both (sent leads) (sent ends) (map (header_slot call forms) h.more.items) (voice_slots colour call forms)
+    (sent_leads call forms h.more.items)
+    (sent_ending call forms call.shape.terminators
+    ∙ ap (λ (l : List SentSlot). l ++ replicate call.shape.terminators last) (sym none)))
+sent_headed colour call forms h (b ∷ bs) e =
+    let lc : FullLc = call.link_control in
+    let leads : List Cell = map (lead_cell lc forms.header) (map (lead_of forms) h.more.items) in
+    let gap : List Cell = replicate h.silences (record (header_cell lc forms.header) { sent = Silent }) in
+    let voice : List Cell = superframe_cells colour (Some lc) (superframes_from call forms.fields 0 (b ∷ bs))
+    ++ ending_cells lc (ending_of forms call.shape.terminators) in
+    let same : sent voice ≡ voice_slots colour call forms =
+    ap (λ (l : List Bool). sent (superframe_cells colour (Some lc) (superframes_from call forms.fields 0 l)
+    ++ ending_cells lc (ending_of forms call.shape.terminators))) e
+    ∙ sent_voice colour call forms (Some lc) in
+    ap (λ (l : List SentSlot). header_slot call forms header.Voice ∷ l)
+    (map-append (λ (c : Cell). c.sent) leads (gap ++ voice)
+    ∙ both (sent leads) (sent (gap ++ voice)) (map (header_slot call forms) h.more.items)
+    (replicate h.silences Silent ++ voice_slots colour call forms) (sent_leads call forms h.more.items)
+    (map-append (λ (c : Cell). c.sent) gap voice
+    ∙ both (sent gap) (sent voice) (replicate h.silences Silent) (voice_slots colour call forms)
+    (map_same (λ (c : Cell). c.sent) h.silences (record (header_cell lc forms.header) { sent = Silent })) same))
+
+-- what the rest of a call sends from its first A on
+sent_late : (colour : ℕ) (call : Call) (forms : CallForms)
+    → slots_sent colour (late_call call forms []) ≡ voice_slots colour call forms
+sent_late colour call forms = sent_voice colour call forms None
+
+-- the first header
+pub headed_first : (P : SentSlot → Type 0) (colour : ℕ) (call : Call) (forms : CallForms) (h : Headers) (place : ℕ) → place ≡ 0
+    → P (header_slot call forms header.Voice) → HoldsAt P (headed_slots colour call forms h) place
+headed_first P colour call forms h place e first =
+    subst (λ (k : ℕ). HoldsAt P (headed_slots colour call forms h) k) (sym e) first
+
+-- a header behind it
+pub headed_more : (P : SentSlot → Type 0) (colour : ℕ) (call : Call) (forms : CallForms) (h : Headers) (place : ℕ)
+    → (kind : HeaderKind) → (place ≡ 0 → ⊥) → slice_get h.more.items (place - 1) ≡ Some kind
+    → P (header_slot call forms kind) → HoldsAt P (headed_slots colour call forms h) place
+headed_more P colour call forms h zero kind some e here = absurd (some refl)
+headed_more P colour call forms h (suc k) kind some e here =
+    let less : suc k - 1 ≡ k = omega arith in
+    let at : slice_get h.more.items k ≡ Some kind = ap (λ (i : ℕ). slice_get h.more.items i) (sym less) ∙ e in
+    let inside : k < length h.more.items = slice_get_within h.more.items k kind at in
+    let long : length (map (header_slot call forms) h.more.items) ≡ length h.more.items =
+    length-map h.more.items (header_slot call forms) in
+    at_left P (map (header_slot call forms) h.more.items)
+    (replicate (silences_behind call.shape.places.items h) Silent ++ voice_slots colour call forms) k
+    (omega (arith, inside, long))
+    (at_map P (header_slot call forms) h.more.items k
+    (at_read (λ (x : HeaderKind). P (header_slot call forms x)) h.more.items k kind
+    (subst (λ (x : HeaderKind). P (header_slot call forms x)) (sym (get_or_from_slice_get h.more.items k kind kind at)) here)))
+
+-- silences behind the headers
+pub headed_gap : (P : SentSlot → Type 0) (colour : ℕ) (call : Call) (forms : CallForms) (h : Headers) (place : ℕ)
+    → (place ≡ 0 → ⊥) → length h.more.items ≤ place - 1
+    → place - 1 - length h.more.items < silences_behind call.shape.places.items h
+    → P Silent → HoldsAt P (headed_slots colour call forms h) place
+headed_gap P colour call forms h zero some past short silent = absurd (some refl)
+headed_gap P colour call forms h (suc k) some past short silent =
+    let heads : List SentSlot = map (header_slot call forms) h.more.items in
+    let gap : List SentSlot = replicate (silences_behind call.shape.places.items h) Silent in
+    let j : ℕ = suc k - 1 - length h.more.items in
+    let long : length heads ≡ length h.more.items = length-map h.more.items (header_slot call forms) in
+    let count : length gap ≡ silences_behind call.shape.places.items h =
+    length-replicate (silences_behind call.shape.places.items h) Silent in
+    at_right P heads (gap ++ voice_slots colour call forms) j k (omega (arith, long, past))
+    (at_left P gap (voice_slots colour call forms) j (omega (arith, count, short))
+    (at_replicate P (silences_behind call.shape.places.items h) Silent j silent))
+
+-- the voice behind these
+pub headed_voice : (P : SentSlot → Type 0) (colour : ℕ) (call : Call) (forms : CallForms) (h : Headers) (place : ℕ)
+    → (place ≡ 0 → ⊥) → length h.more.items ≤ place - 1
+    → silences_behind call.shape.places.items h ≤ place - 1 - length h.more.items
+    → HoldsAt P (voice_slots colour call forms)
+    (place - 1 - length h.more.items - silences_behind call.shape.places.items h)
+    → HoldsAt P (headed_slots colour call forms h) place
+headed_voice P colour call forms h zero some past long here = absurd (some refl)
+headed_voice P colour call forms h (suc k) some past behind here =
+    let heads : List SentSlot = map (header_slot call forms) h.more.items in
+    let gap : List SentSlot = replicate (silences_behind call.shape.places.items h) Silent in
+    let j : ℕ = suc k - 1 - length h.more.items in
+    let long : length heads ≡ length h.more.items = length-map h.more.items (header_slot call forms) in
+    let count : length gap ≡ silences_behind call.shape.places.items h =
+    length-replicate (silences_behind call.shape.places.items h) Silent in
+    at_right P heads (gap ++ voice_slots colour call forms) j k (omega (arith, long, past))
+    (at_right P gap (voice_slots colour call forms) (j - silences_behind call.shape.places.items h) j
+    (omega (arith, count, behind)) here)
+
+-- nothing is read past the end
+pub none_past : {X : Type 0} (xs : List X) (k : ℕ) → slice_get xs k ≡ None → length xs ≤ k
+none_past [] k e = omega arith
+none_past (x ∷ xs) zero e = absurd (cc)
+none_past (x ∷ xs) (suc k) e = let q = none_past xs k e in omega (arith, q)
+
+-- as many slots stand in front of the first A as places are said to
+length_tail : (colour : ℕ) (call : Call) (forms : CallForms) (tail : List Bool) → length tail ≤ 5
+    → length (tail_slots colour call forms tail) ≡ length tail
+length_tail colour call forms [] le = refl
+length_tail colour call forms (a ∷ []) le = refl
+length_tail colour call forms (a ∷ b ∷ []) le = refl
+length_tail colour call forms (a ∷ b ∷ c ∷ []) le = refl
+length_tail colour call forms (a ∷ b ∷ c ∷ d ∷ []) le = refl
+length_tail colour call forms (a ∷ b ∷ c ∷ d ∷ e ∷ []) le = refl
+length_tail colour call forms (a ∷ b ∷ c ∷ d ∷ e ∷ f ∷ more) le = absurd (omega arith)
+
+-- the rest of a call, in front of its first A
+pub late_front : (P : SentSlot → Type 0) (colour : ℕ) (call : Call) (forms : CallForms) (tail : List Bool) (place : ℕ)
+    → length tail ≤ 5 → place < length tail → HoldsAt P (tail_slots colour call forms tail) place
+    → HoldsAt P (late_slots colour call forms tail) place
+late_front P colour call forms tail place five inside here =
+    let long : length (tail_slots colour call forms tail) ≡ length tail = length_tail colour call forms tail five in
+    at_left P (tail_slots colour call forms tail) (slots_sent colour (late_call call forms [])) place (omega (arith, long, inside)) here
+
+-- and from there on
+pub late_voice : (P : SentSlot → Type 0) (colour : ℕ) (call : Call) (forms : CallForms) (tail : List Bool) (place : ℕ)
+    → length tail ≤ 5 → length tail ≤ place → HoldsAt P (voice_slots colour call forms) (place - length tail)
+    → HoldsAt P (late_slots colour call forms tail) place
+late_voice P colour call forms tail place five past here =
+    let long : length (tail_slots colour call forms tail) ≡ length tail = length_tail colour call forms tail five in
+    let voice : List SentSlot = slots_sent colour (late_call call forms []) in
+    at_right P (tail_slots colour call forms tail) voice (place - length tail) place (omega (arith, long, past))
+    (subst (λ (l : List SentSlot). HoldsAt P l (place - length tail)) (sym (sent_late colour call forms)) here)

@@ -91,17 +91,26 @@ abbrev pub ending_of : CallForms → ℕ → Ending
 ending_of forms zero = Silenced
 ending_of forms (suc more) = Terminated forms.terminator more
 
--- The transmission that a call is: headers alone where no place follows them, a call with its headers, or the rest of one.
+-- The transmission that a call with its headers is: headers alone where no place follows them.
+abbrev pub headed_call : Call → CallForms → Headers → List Bool → Transmission
+headed_call call forms h [] = HeadersAlone call.link_control forms.header (map (lead_of forms) h.more.items)
+    (ending_of forms call.shape.terminators)
+headed_call call forms h (place ∷ places) = VoiceCall call.link_control forms.header (map (lead_of forms) h.more.items) h.silences
+    (superframes_from call forms.fields 0 (place ∷ places)) (ending_of forms call.shape.terminators)
+
+-- The transmission that the rest of a call is, behind these places of which it is said whether a burst is there.
+abbrev pub late_call : Call → CallForms → List Bool → Transmission
+late_call call forms tail = LateCall call.link_control tail (superframes_from call forms.fields 0 call.shape.places.items)
+    (ending_of forms call.shape.terminators)
+
+-- The transmission that a call with this in front of its first A is.
+abbrev pub call_with : Call → CallForms → CallStart → Transmission
+call_with call forms (start.Headers h) = headed_call call forms h call.shape.places.items
+call_with call forms (start.Late tail) = late_call call forms tail.items
+
+-- The transmission that a call is.
 abbrev pub call_of : Call → CallForms → Transmission
-call_of call forms = started call.shape.start call.shape.places.items
-  where
-    started : CallStart → List Bool → Transmission
-    started (start.Headers h) [] = HeadersAlone call.link_control forms.header (map (lead_of forms) h.more.items)
-        (ending_of forms call.shape.terminators)
-    started (start.Headers h) (place ∷ places) = VoiceCall call.link_control forms.header (map (lead_of forms) h.more.items) h.silences
-        (superframes_from call forms.fields 0 (place ∷ places)) (ending_of forms call.shape.terminators)
-    started (start.Late tail) places = LateCall call.link_control tail.items (superframes_from call forms.fields 0 places)
-        (ending_of forms call.shape.terminators)
+call_of call forms = call_with call forms call.shape.start
 
 -- 3. What its slots send.
 
@@ -129,15 +138,18 @@ tail_slots colour call forms tail = drop (6 - length tail) (superframe_slots col
       places = places_with call.pi (six_fields forms.own_fields) (replicate (6 - length tail) true ++ tail);
     }
 
+-- what each slot of the rest of a call sends, with these places in front of its first A
+abbrev pub late_slots : ℕ → Call → CallForms → List Bool → List SentSlot
+late_slots colour call forms tail = tail_slots colour call forms tail ++ slots_sent colour (late_call call forms [])
+
+-- what each slot of a call with this in front of its first A sends
+abbrev pub slots_with : ℕ → Call → CallForms → CallStart → List SentSlot
+slots_with colour call forms (start.Headers h) = slots_sent colour (headed_call call forms h call.shape.places.items)
+slots_with colour call forms (start.Late tail) = late_slots colour call forms tail.items
+
 -- What each slot of a call sends.
 abbrev pub call_slots : ℕ → Call → CallForms → List SentSlot
-call_slots colour call forms = started call.shape.start
-  where
-    started : CallStart → List SentSlot
-    started (start.Headers h) = slots_sent colour (call_of call forms)
-    started (start.Late tail) = tail_slots colour call forms tail.items
-        ++ slots_sent colour (LateCall call.link_control [] (superframes_from call forms.fields 0 call.shape.places.items)
-        (ending_of forms call.shape.terminators))
+call_slots colour call forms = slots_with colour call forms call.shape.start
 
 -- 4. The same, part by part.
 

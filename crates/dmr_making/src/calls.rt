@@ -1,5 +1,5 @@
 //! The bursts of a call, slot by slot.
-ghost use Rattle.std.specs.Prelude.{◌≡◌, ◌<◌, ◌≤◌, ◌+◌, ◌%◌, ℕ, List, Bool, Option, Some, IfSome, length, slice_index_or, All};
+ghost use Rattle.std.specs.Prelude.{◌≡◌, ◌<◌, ◌≤◌, ◌+◌, ◌%◌, ℕ, List, Bool, Option, Some, IfSome, length, slice_index_or, slice_get};
 ghost use Rattle.dmr_hearing.specs.Fit.{IsFitLc};
 ghost use Rattle.dmr_making.specs.Calls as spec;
 ghost use Rattle.dmr_making.specs.Calls.{AreFieldsOf, AreFormsOf, CallForms};
@@ -130,6 +130,20 @@ fn last_burst(voice: Voice) -> [u8; 33]
     voice_burst(emb, 0, voice.frame)
 }
 
+/// Whether a place is there. There is none past the last.
+fn presence(places: &[bool], place: usize) -> Option<bool>
+    ensures value { result ≡ slice_get places.now place }
+{
+    places.get(place).copied()
+}
+
+/// The header in a place behind the first. There is none past the last.
+fn header_at(headers: &[HeaderKind], place: usize) -> Option<HeaderKind>
+    ensures value { result ≡ slice_get headers.now place }
+{
+    headers.get(place).copied()
+}
+
 /// What goes out in a place of the voice from the first A on, counted from 0, and behind it.
 fn voice_slot(colour: u8, call: &Call, place: usize, frame: u32) -> Option<[u8; 33]>
     requires colour { colour < 16 }
@@ -138,7 +152,7 @@ fn voice_slot(colour: u8, call: &Call, place: usize, frame: u32) -> Option<[u8; 
     ensures slot { (forms : CallForms) → AreFormsOf call.now forms
         → HoldsAt (λ slot. IsMade colour frame slot result) (spec.voice_slots colour call.now forms) place }
 {
-    match call.shape.places.get(place) {
+    match presence(&call.shape.places, place) {
         None => Some(lc_burst(colour, LcUse::Terminator, &call.link_control)),
         Some(false) => None,
         Some(true) => {
@@ -205,8 +219,8 @@ fn headed_slot(
     if place == 0 {
         return Some(call_header(colour, call, HeaderKind::Voice));
     }
-    if let Some(kind) = headers.more.get(place - 1) {
-        return Some(call_header(colour, call, *kind));
+    if let Some(kind) = header_at(&headers.more, place - 1) {
+        return Some(call_header(colour, call, kind));
     }
     let behind = place - 1 - headers.more.len();
     let silences = silences_behind(call, headers);
@@ -227,6 +241,22 @@ fn silences_behind(call: &Call, headers: &Headers) -> usize
     }
 }
 
+/// What goes out in a slot of a call that comes in late, behind these places in front of its first A.
+fn late_slot(colour: u8, call: &Call, tail: &[bool], place: usize, frame: u32) -> Option<[u8; 33]>
+    requires colour { colour < 16 }
+    requires frame { frame < 1048576 }
+    requires fit { IsFitCall call.now }
+    requires five { length tail.now ≤ 5 }
+    ensures slot { (forms : CallForms) → AreFormsOf call.now forms
+        → HoldsAt (λ slot. IsMade colour frame slot result) (spec.late_slots colour call.now forms tail.now) place }
+{
+    if place < tail.len() {
+        tail_slot(colour, call, tail, place, frame)
+    } else {
+        voice_slot(colour, call, place - tail.len(), frame)
+    }
+}
+
 /// What goes out in a slot of a call, counted from 0.
 pub(crate) fn call_slot(colour: u8, call: &Call, place: usize, frame: u32) -> Option<[u8; 33]>
     requires colour { colour < 16 }
@@ -237,12 +267,6 @@ pub(crate) fn call_slot(colour: u8, call: &Call, place: usize, frame: u32) -> Op
 {
     match &call.shape.start {
         CallStart::Headers(headers) => headed_slot(colour, call, headers, place, frame),
-        CallStart::Late(tail) => {
-            if place < tail.len() {
-                tail_slot(colour, call, tail, place, frame)
-            } else {
-                voice_slot(colour, call, place - tail.len(), frame)
-            }
-        }
+        CallStart::Late(tail) => late_slot(colour, call, tail, place, frame),
     }
 }
