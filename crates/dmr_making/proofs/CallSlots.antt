@@ -38,7 +38,7 @@ one_fields (Some lc) a b p q = one_carrier lc a b p q
 -- 2. What transmissions send.
 
 -- a map of a map
-map_twice : {X Y Z : Type 0} (g : Y → Z) (f : X → Y) (xs : List X) → map g (map f xs) ≡ map (λ x. g (f x)) xs
+pub map_twice : {X Y Z : Type 0} (g : Y → Z) (f : X → Y) (xs : List X) → map g (map f xs) ≡ map (λ x. g (f x)) xs
 map_twice g f [] = refl
 map_twice g f (x ∷ xs) = ap (λ (l : List _). g (f x) ∷ l) (map_twice g f xs)
 
@@ -48,7 +48,7 @@ map_same f zero x = refl
 map_same f (suc n) x = ap (λ (l : List _). f x ∷ l) (map_same f n x)
 
 -- two lists that are put behind others
-both : {X : Type 0} (a b c d : List X) → a ≡ c → b ≡ d → a ++ b ≡ c ++ d
+pub both : {X : Type 0} (a b c d : List X) → a ≡ c → b ≡ d → a ++ b ≡ c ++ d
 both a b c d p q = ap (λ (x : List _). x ++ b) p ∙ ap (λ (x : List _). c ++ x) q
 
 -- what cells send

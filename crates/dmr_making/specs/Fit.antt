@@ -3,6 +3,8 @@ use Rattle.std.specs.Prelude.{ℕ, ◌<◌, ◌≤◌, All, length}
 use Rattle.dmr_script.specs.declared.call.Call.{Call}
 use Rattle.dmr_script.specs.declared.call.Carried.{Carried}
 use Rattle.dmr_script.specs.declared.call.Carried.TheVariants.{Own, Nothing, LinkControl}
+use Rattle.dmr_script.specs.declared.control.LoneBurst.{LoneBurst}
+use Rattle.dmr_script.specs.declared.control.LoneBurst.TheVariants as lone
 use Rattle.dmr_script.specs.declared.shape.CallStart.{CallStart}
 use Rattle.dmr_script.specs.declared.shape.CallStart.TheVariants as start
 
@@ -22,3 +24,8 @@ pub record IsFitCall (call : Call) : Type 0 where
   pub link_control : call.link_control.flco < 64
   pub carried : All IsFitCarried call.carried.items
   pub start : IsFitStart call.shape.start
+
+-- the opcode of the link control of a terminator fits six bits
+abbrev pub IsFitLone : LoneBurst → Type 0
+IsFitLone (lone.Terminator lc) = lc.flco < 64
+IsFitLone burst = Unit {0}

@@ -3,3 +3,5 @@
 
 mod bursts;
 mod calls;
+mod controls;
+mod tries;

@@ -1,0 +1,100 @@
+-- What the slots of a try send, part by part.
+use Rattle.std.proofs.Common.{◌≡◌, ℕ, zero, suc, ◌+◌, ◌-◌, ◌<◌, ◌≤◌, ◌++◌, Bool, true, false, List, [], ◌∷◌, map, zip, length, drop}
+use Rattle.std.proofs.Common.{arith, refl, ap, sym, ◌∙◌, subst, Option, Some, None, get_or, slice_get, AllZip}
+use Rattle.std.proofs.lemmas.List.{length-map, map-append}
+use Rattle.std.proofs.lemmas.Slice.Zip.{AllZip-long}
+use Rattle.dmr_burst.specs.DataTypes.{csbk, data_header}
+use Rattle.dmr_csbk.specs.declared.block.Csbk.{Csbk}
+use Rattle.dmr_data.specs.declared.block.Block.{Block}
+use Rattle.dmr_data.specs.declared.rate.Rate.{Rate}
+use Rattle.dmr_gateway.specs.Heard.{kind_of_rate}
+use Rattle.dmr_hearing.specs.Slots.{SentSlot, Silent, Data}
+use Rattle.dmr_making.proofs.CallSlots.{map_twice, both}
+use Rattle.dmr_making.proofs.Standing.{at_left, at_right, at_map, at_past}
+use Rattle.dmr_making.specs.Calls.{slots_sent}
+use Rattle.dmr_making.specs.Information.{IsCsbkInformation}
+use Rattle.dmr_making.specs.Standing.{HoldsAt}
+use Rattle.dmr_making.specs.Tries.{TryForms, AreTryForms, IsFitTry, counts_down, preamble_of, block_slots, blocks_with, try_slots}
+use Rattle.dmr_making.specs.Tries.{transmission_of_try}
+use Rattle.dmr_making.specs.declared.tries.Try.{Try}
+use Rattle.dmr_script.specs.declared.shape.PacketShape.{PacketShape}
+use Rattle.dmr_voice.specs.CallMeaning.{Cell, DataTry, cells, data_cell}
+use Rattle.dmr_voice.specs.declared.said.Role.TheVariants as role
+
+-- what stands beside what is read of another list
+at_zip : {A B : Type 0} (P : B → Type 0) (R : A → B → Type 0) (xs : List A) (ys : List B) (k : ℕ) (x : A) → AllZip R xs ys
+    → slice_get xs k ≡ Some x → ((y : B) → R x y → P y) → HoldsAt P ys k
+at_zip P R [] ys k x z e h = absurd (cc)
+at_zip P R (a ∷ xs) [] k x z e h = tt
+at_zip P R (a ∷ xs) (y ∷ ys) zero x z e h = let same : a ≡ x = cc in h y (subst (λ (i : _). R i y) same z.0)
+at_zip P R (a ∷ xs) (y ∷ ys) (suc k) x z e h = at_zip P R xs ys k x z.1 e h
+
+-- how many bursts follow a preamble
+counts_at : (n b k : ℕ) → k < n → slice_get (counts_down n b) k ≡ Some (n - k + b)
+counts_at zero b k lt = absurd (omega arith)
+counts_at (suc n) b zero lt = let e : suc n + b ≡ suc n - 0 + b = omega arith in ap (λ (x : ℕ). Some x) e
+counts_at (suc n) b (suc k) lt =
+    let e : n - k + b ≡ suc n - suc k + b = omega arith in
+    counts_at n b k (omega arith) ∙ ap (λ (x : ℕ). Some x) e
+
+-- there are as many as preambles
+length_counts : (n b : ℕ) → length (counts_down n b) ≡ n
+length_counts zero b = refl
+length_counts (suc n) b = let k = length_counts n b in omega (arith, k)
+
+-- there are as many of them as are sent
+length_preambles : (t : Try) (shape : PacketShape) (forms : TryForms) → AreTryForms t shape forms
+    → length (map (λ (information : List Bool). Data csbk information None) forms.preambles) ≡ shape.preambles
+length_preambles t shape forms p =
+    length-map forms.preambles (λ (information : List Bool). Data csbk information None)
+    ∙ AllZip-long (λ left information. IsCsbkInformation (preamble_of t left) information)
+    (counts_down shape.preambles (length shape.blocks.items)) forms.preambles p.preambles
+    ∙ length_counts shape.preambles (length shape.blocks.items)
+
+-- a preamble
+pub preamble_at : (P : SentSlot → Type 0) (t : Try) (shape : PacketShape) (forms : TryForms) (place : ℕ)
+    → AreTryForms t shape forms → place < shape.preambles
+    → ((information : List Bool) → IsCsbkInformation (preamble_of t (shape.preambles - place + length shape.blocks.items)) information
+    → P (Data csbk information None))
+    → HoldsAt P (try_slots t shape forms) place
+preamble_at P t shape forms place p lt here =
+    let long = length_preambles t shape forms p in
+    at_left P (map (λ (information : List Bool). Data csbk information None) forms.preambles)
+    (Data data_header forms.header None ∷ block_slots t.rate shape.blocks.items forms.blocks) place (omega (arith, long, lt))
+    (at_map P (λ (information : List Bool). Data csbk information None) forms.preambles place
+    (at_zip (λ (information : List Bool). P (Data csbk information None))
+    (λ left information. IsCsbkInformation (preamble_of t left) information)
+    (counts_down shape.preambles (length shape.blocks.items)) forms.preambles place
+    (shape.preambles - place + length shape.blocks.items) p.preambles
+    (counts_at shape.preambles (length shape.blocks.items) place lt) here))
+
+-- the header
+pub header_at : (P : SentSlot → Type 0) (t : Try) (shape : PacketShape) (forms : TryForms) (place : ℕ)
+    → AreTryForms t shape forms → place ≡ shape.preambles → P (Data data_header forms.header None)
+    → HoldsAt P (try_slots t shape forms) place
+header_at P t shape forms place p e here =
+    let long = length_preambles t shape forms p in
+    at_right P (map (λ (information : List Bool). Data csbk information None) forms.preambles)
+    (Data data_header forms.header None ∷ block_slots t.rate shape.blocks.items forms.blocks) 0 place (omega (arith, long, e)) here
+
+-- a block, by its place among these
+pub behind_header : (P : SentSlot → Type 0) (t : Try) (shape : PacketShape) (forms : TryForms) (place : ℕ)
+    → AreTryForms t shape forms → (place < shape.preambles → ⊥) → (place ≡ shape.preambles → ⊥)
+    → HoldsAt P (block_slots t.rate shape.blocks.items forms.blocks) (place - shape.preambles - 1)
+    → HoldsAt P (try_slots t shape forms) place
+behind_header P t shape forms place p past other here =
+    let long = length_preambles t shape forms p in
+    at_right P (map (λ (information : List Bool). Data csbk information None) forms.preambles)
+    (Data data_header forms.header None ∷ block_slots t.rate shape.blocks.items forms.blocks)
+    (suc (place - shape.preambles - 1)) place (omega (arith, long, past, other)) here
+
+-- a block is there or absent
+block_at : (P : SentSlot → Type 0) (rate : Rate) (presence : List Bool) (forms : List (List Bool)) (k : ℕ)
+    → (get_or presence k false ≡ true → HoldsAt (λ (information : List Bool). P (Data (kind_of_rate rate) information None)) forms k)
+    → (get_or presence k false ≡ false → P Silent)
+    → HoldsAt P (block_slots rate presence forms) k
+block_at P rate [] forms k here silent = tt
+block_at P rate (b ∷ bs) [] k here silent = tt
+block_at P rate (true ∷ bs) (f ∷ fs) zero here silent = here refl
+block_at P rate (false ∷ bs) (f ∷ fs) zero here silent = silent refl
+block_at P rate (b ∷ bs) (f ∷ fs) (suc k) here silent = block_at P rate bs fs k here silent

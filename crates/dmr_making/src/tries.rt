@@ -1,0 +1,88 @@
+//! The bursts of a try of a packet, slot by slot.
+ghost use Rattle.std.specs.Prelude.{◌≡◌, ◌<◌, ◌≤◌, ◌^◌, ◌+◌, ◌-◌, ℕ, slice_get, option_copied, length};
+ghost use Rattle.dmr_making.specs.Made.{IsMade};
+ghost use Rattle.dmr_making.specs.Standing.{HoldsAt};
+ghost use Rattle.dmr_making.specs.Tries as spec;
+ghost use Rattle.dmr_making.specs.Tries.{TryForms, AreTryForms, IsFitTry};
+
+use crate::bursts::{block_burst, csbk_burst, header_burst};
+use crate::calls::presence;
+use dmr_csbk::{Csbk, PREAMBLE};
+use dmr_data::{Blocks, Header, Rate};
+use dmr_script::PacketShape;
+
+/// A try of a packet: what its bursts hold, if all of them are sent.
+#[derive(Drop)]
+pub(crate) struct Try {
+    /// Who sends it, an address of 24 bits.
+    pub(crate) source: u32,
+    /// Whether it is for a talk group.
+    pub(crate) group: bool,
+    /// Whom it is for, an address of 24 bits.
+    pub(crate) destination: u32,
+    /// Its header.
+    pub(crate) header: Header,
+    /// The rate of its blocks.
+    pub(crate) rate: Rate,
+    /// Its blocks.
+    pub(crate) blocks: Blocks,
+}
+
+/// The preamble of a try that so many bursts follow.
+fn preamble(t: &Try, left: u8) -> Csbk
+    requires source { t.now.source < 2 ^ 24 }
+    requires destination { t.now.destination < 2 ^ 24 }
+    ensures value { result ≡ spec.preamble_of t.now left }
+{
+    Csbk {
+        last: true,
+        protect: false,
+        code: PREAMBLE,
+        fid: 0,
+        body: [
+            if t.group { 0xC0 } else { 0x80 },
+            left,
+            (t.destination / 65536) as u8,
+            (t.destination / 256 % 256) as u8,
+            (t.destination % 256) as u8,
+            (t.source / 65536) as u8,
+            (t.source / 256 % 256) as u8,
+            (t.source % 256) as u8,
+        ],
+    }
+}
+
+/// What goes out in the slot of a block, and nothing past the last.
+fn block_slot(colour: u8, t: &Try, shape: &PacketShape, place: usize) -> Option<[u8; 33]>
+    requires colour { colour < 16 }
+    requires fit { IsFitTry t.now shape.now }
+    ensures slot { (frame : ℕ) (forms : TryForms) → AreTryForms t.now shape.now forms
+        → HoldsAt (λ slot. IsMade colour frame slot result)
+        (spec.block_slots t.now.rate shape.now.blocks.items forms.blocks) place }
+{
+    match presence(&shape.blocks, place) {
+        None | Some(false) => None,
+        Some(true) => match t.blocks.get(place) {
+            None => None,
+            Some(block) => Some(block_burst(colour, t.rate, block)),
+        },
+    }
+}
+
+/// What goes out in a slot of a try, counted from 0.
+pub(crate) fn try_slot(colour: u8, t: &Try, shape: &PacketShape, place: usize) -> Option<[u8; 33]>
+    requires colour { colour < 16 }
+    requires fit { IsFitTry t.now shape.now }
+    ensures slot { (frame : ℕ) (forms : TryForms) → AreTryForms t.now shape.now forms
+        → HoldsAt (λ slot. IsMade colour frame slot result) (spec.try_slots t.now shape.now forms) place }
+{
+    let preambles = usize::from(shape.preambles);
+    if place < preambles {
+        let left = preambles - place + shape.blocks.len();
+        return Some(csbk_burst(colour, &preamble(t, left as u8)));
+    }
+    if place == preambles {
+        return Some(header_burst(colour, &t.header));
+    }
+    block_slot(colour, t, shape, place - preambles - 1)
+}
