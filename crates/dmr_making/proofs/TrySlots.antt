@@ -1,21 +1,25 @@
 -- What the slots of a try send, part by part.
 use Rattle.std.proofs.Common.{◌≡◌, ℕ, zero, suc, ◌+◌, ◌-◌, ◌<◌, ◌≤◌, ◌++◌, Bool, true, false, List, [], ◌∷◌, map, zip, length, drop}
-use Rattle.std.proofs.Common.{arith, refl, ap, sym, ◌∙◌, subst, Option, Some, None, get_or, slice_get, AllZip}
+use Rattle.std.proofs.Common.{arith, refl, ap, sym, ◌∙◌, subst, Option, Some, None, get_or, slice_get, Bor, All}
+use Rattle.std.specs.List.{AllZip}
+use Rattle.std.specs.Option.{option_copied}
+use Rattle.std.proofs.lemmas.List.Elements.{All-get_or}
+use Rattle.std.proofs.lemmas.Option.{get_or_from_slice_get, slice_get_within}
 use Rattle.std.proofs.lemmas.List.{length-map, map-append}
 use Rattle.std.proofs.lemmas.Slice.Zip.{AllZip-long}
 use Rattle.dmr_burst.specs.DataTypes.{csbk, data_header}
 use Rattle.dmr_csbk.specs.declared.block.Csbk.{Csbk}
+use Rattle.dmr_data.specs.Block.{IsWrittenBlock}
 use Rattle.dmr_data.specs.declared.block.Block.{Block}
 use Rattle.dmr_data.specs.declared.rate.Rate.{Rate}
 use Rattle.dmr_gateway.specs.Heard.{kind_of_rate}
 use Rattle.dmr_hearing.specs.Slots.{SentSlot, Silent, Data}
-use Rattle.dmr_making.proofs.CallSlots.{map_twice, both}
+use Rattle.dmr_making.proofs.CallSlots.{map_twice, both, none_past}
 use Rattle.dmr_making.proofs.Standing.{at_left, at_right, at_map, at_past}
 use Rattle.dmr_making.specs.Calls.{slots_sent}
 use Rattle.dmr_making.specs.Information.{IsCsbkInformation}
 use Rattle.dmr_making.specs.Standing.{HoldsAt}
-use Rattle.dmr_making.specs.Tries.{TryForms, AreTryForms, IsFitTry, counts_down, preamble_of, block_slots, blocks_with, try_slots}
-use Rattle.dmr_making.specs.Tries.{transmission_of_try}
+use Rattle.dmr_making.specs.Tries.{TryForms, AreTryForms, counts_down, preamble_of, block_slots, try_slots}
 use Rattle.dmr_making.specs.declared.tries.Try.{Try}
 use Rattle.dmr_script.specs.declared.shape.PacketShape.{PacketShape}
 use Rattle.dmr_voice.specs.CallMeaning.{Cell, DataTry, cells, data_cell}
@@ -89,7 +93,7 @@ behind_header P t shape forms place p past other here =
     (suc (place - shape.preambles - 1)) place (omega (arith, long, past, other)) here
 
 -- a block is there or absent
-block_at : (P : SentSlot → Type 0) (rate : Rate) (presence : List Bool) (forms : List (List Bool)) (k : ℕ)
+pub block_at : (P : SentSlot → Type 0) (rate : Rate) (presence : List Bool) (forms : List (List Bool)) (k : ℕ)
     → (get_or presence k false ≡ true → HoldsAt (λ (information : List Bool). P (Data (kind_of_rate rate) information None)) forms k)
     → (get_or presence k false ≡ false → P Silent)
     → HoldsAt P (block_slots rate presence forms) k
@@ -98,3 +102,41 @@ block_at P rate (b ∷ bs) [] k here silent = tt
 block_at P rate (true ∷ bs) (f ∷ fs) zero here silent = here refl
 block_at P rate (false ∷ bs) (f ∷ fs) zero here silent = silent refl
 block_at P rate (b ∷ bs) (f ∷ fs) (suc k) here silent = block_at P rate bs fs k here silent
+
+-- a block that is sent
+pub sent_block : (P : SentSlot → Type 0) (t : Try) (shape : PacketShape) (forms : TryForms) (place : ℕ) (block : Block)
+    → AreTryForms t shape forms → slice_get t.blocks place ≡ Some block → get_or shape.blocks.items place false ≡ true
+    → ((information : List Bool) → IsWrittenBlock t.rate block information → P (Data (kind_of_rate t.rate) information None))
+    → HoldsAt P (block_slots t.rate shape.blocks.items forms.blocks) place
+sent_block P t shape forms place block p e there here =
+    block_at P t.rate shape.blocks.items forms.blocks place
+    (λ q. at_zip (λ (information : List Bool). P (Data (kind_of_rate t.rate) information None))
+    (λ block information. IsWrittenBlock t.rate block information) t.blocks forms.blocks place block p.blocks e here)
+    (λ q. absurd (cc (there, q)))
+
+-- no block past the last
+pub no_block : (P : SentSlot → Type 0) (t : Try) (shape : PacketShape) (forms : TryForms) (place : ℕ)
+    → AreTryForms t shape forms → slice_get t.blocks place ≡ None → get_or shape.blocks.items place false ≡ true
+    → HoldsAt P (block_slots t.rate shape.blocks.items forms.blocks) place
+no_block P t shape forms place p e there =
+    let past : length t.blocks ≤ place = none_past t.blocks place e in
+    let long : length forms.blocks ≡ length t.blocks =
+    AllZip-long (λ block information. IsWrittenBlock t.rate block information) t.blocks forms.blocks p.blocks in
+    block_at P t.rate shape.blocks.items forms.blocks place
+    (λ q. at_past (λ (information : List Bool). P (Data (kind_of_rate t.rate) information None)) forms.blocks place
+    (omega (arith, past, long)))
+    (λ q. absurd (cc (there, q)))
+
+-- what is copied of a reference that was read
+pub copied : {X : Type 0} (found : Option (Bor X)) (read : Option X) (block : Bor X) → option_copied found ≡ read
+    → found ≡ Some block → read ≡ Some block.now
+copied found read block p q = sym p ∙ ap option_copied q
+
+pub copied_none : {X : Type 0} (found : Option (Bor X)) (read : Option X) → option_copied found ≡ read → found ≡ None
+    → read ≡ None
+copied_none found read p q = sym p ∙ ap option_copied q
+
+-- what holds of each holds of what is read
+pub fit_at : {X : Type 0} (P : X → Type 0) (xs : List X) (k : ℕ) (x : X) → All P xs → slice_get xs k ≡ Some x → P x
+fit_at P xs k x all e =
+    subst P (get_or_from_slice_get xs k x x e) (All-get_or P xs k x (slice_get_within xs k x e) all)

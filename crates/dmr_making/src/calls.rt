@@ -131,7 +131,7 @@ fn last_burst(voice: Voice) -> [u8; 33]
 }
 
 /// Whether a place is there. There is none past the last.
-pub(crate) fn presence(places: &[bool], place: usize) -> Option<bool>
+fn presence(places: &[bool], place: usize) -> Option<bool>
     ensures value { result ≡ slice_get places.now place }
 {
     places.get(place).copied()

@@ -1,12 +1,11 @@
 //! The bursts of a try of a packet, slot by slot.
-ghost use Rattle.std.specs.Prelude.{◌≡◌, ◌<◌, ◌≤◌, ◌^◌, ◌+◌, ◌-◌, ℕ, slice_get, option_copied, length};
+ghost use Rattle.std.specs.Prelude.{◌≡◌, ◌<◌, ◌≤◌, ◌^◌, ◌+◌, ◌-◌, ℕ, slice_index_or, false, length};
 ghost use Rattle.dmr_making.specs.Made.{IsMade};
 ghost use Rattle.dmr_making.specs.Standing.{HoldsAt};
 ghost use Rattle.dmr_making.specs.Tries as spec;
 ghost use Rattle.dmr_making.specs.Tries.{TryForms, AreTryForms, IsFitTry};
 
 use crate::bursts::{block_burst, csbk_burst, header_burst};
-use crate::calls::presence;
 use dmr_csbk::{Csbk, PREAMBLE};
 use dmr_data::{Blocks, Header, Rate};
 use dmr_script::PacketShape;
@@ -52,6 +51,21 @@ fn preamble(t: &Try, left: u8) -> Csbk
     }
 }
 
+/// How many bursts follow a preamble, with which there are so many in front of the header.
+fn count_behind(preambles: usize, blocks: &[bool]) -> u8
+    requires room { preambles + length blocks.now ≤ 255 }
+    ensures value { result ≡ preambles + length blocks.now }
+{
+    (preambles + blocks.len()) as u8
+}
+
+/// Whether a block is sent. None past the last is.
+fn is_there(blocks: &[bool], place: usize) -> bool
+    ensures value { result ≡ slice_index_or blocks.now place false }
+{
+    place < blocks.len() && blocks[place]
+}
+
 /// What goes out in the slot of a block, and nothing past the last.
 fn block_slot(colour: u8, t: &Try, shape: &PacketShape, place: usize) -> Option<[u8; 33]>
     requires colour { colour < 16 }
@@ -60,13 +74,11 @@ fn block_slot(colour: u8, t: &Try, shape: &PacketShape, place: usize) -> Option<
         → HoldsAt (λ slot. IsMade colour frame slot result)
         (spec.block_slots t.now.rate shape.now.blocks.items forms.blocks) place }
 {
-    match presence(&shape.blocks, place) {
-        None | Some(false) => None,
-        Some(true) => match t.blocks.get(place) {
-            None => None,
-            Some(block) => Some(block_burst(colour, t.rate, block)),
-        },
+    if !is_there(&shape.blocks, place) {
+        return None;
     }
+    let block = t.blocks.get(place)?;
+    Some(block_burst(colour, t.rate, block))
 }
 
 /// What goes out in a slot of a try, counted from 0.
@@ -78,8 +90,8 @@ pub(crate) fn try_slot(colour: u8, t: &Try, shape: &PacketShape, place: usize) -
 {
     let preambles = usize::from(shape.preambles);
     if place < preambles {
-        let left = preambles - place + shape.blocks.len();
-        return Some(csbk_burst(colour, &preamble(t, left as u8)));
+        let left = count_behind(preambles - place, &shape.blocks);
+        return Some(csbk_burst(colour, &preamble(t, left)));
     }
     if place == preambles {
         return Some(header_burst(colour, &t.header));
