@@ -21,7 +21,6 @@ use Rattle.dmr_making.specs.Information.{IsCsbkInformation}
 use Rattle.dmr_making.specs.Standing.{HoldsAt}
 use Rattle.dmr_making.specs.Tries.{TryForms, AreTryForms, counts_down, preamble_of, block_slots, try_slots}
 use Rattle.dmr_making.specs.declared.tries.Try.{Try}
-use Rattle.dmr_script.specs.declared.shape.PacketShape.{PacketShape}
 use Rattle.dmr_voice.specs.CallMeaning.{Cell, DataTry, cells, data_cell}
 use Rattle.dmr_voice.specs.declared.said.Role.TheVariants as role
 
@@ -47,50 +46,50 @@ length_counts zero b = refl
 length_counts (suc n) b = let k = length_counts n b in omega (arith, k)
 
 -- there are as many of them as are sent
-length_preambles : (t : Try) (shape : PacketShape) (forms : TryForms) → AreTryForms t shape forms
-    → length (map (λ (information : List Bool). Data csbk information None) forms.preambles) ≡ shape.preambles
-length_preambles t shape forms p =
+length_preambles : (t : Try) (preambles : ℕ) (presence : List Bool) (forms : TryForms) → AreTryForms t preambles presence forms
+    → length (map (λ (information : List Bool). Data csbk information None) forms.preambles) ≡ preambles
+length_preambles t preambles presence forms p =
     length-map forms.preambles (λ (information : List Bool). Data csbk information None)
     ∙ AllZip-long (λ left information. IsCsbkInformation (preamble_of t left) information)
-    (counts_down shape.preambles (length shape.blocks.items)) forms.preambles p.preambles
-    ∙ length_counts shape.preambles (length shape.blocks.items)
+    (counts_down preambles (length presence)) forms.preambles p.preambles
+    ∙ length_counts preambles (length presence)
 
 -- a preamble
-pub preamble_at : (P : SentSlot → Type 0) (t : Try) (shape : PacketShape) (forms : TryForms) (place : ℕ)
-    → AreTryForms t shape forms → place < shape.preambles
-    → ((information : List Bool) → IsCsbkInformation (preamble_of t (shape.preambles - place + length shape.blocks.items)) information
+pub preamble_at : (P : SentSlot → Type 0) (t : Try) (preambles : ℕ) (presence : List Bool) (forms : TryForms) (place : ℕ)
+    → AreTryForms t preambles presence forms → place < preambles
+    → ((information : List Bool) → IsCsbkInformation (preamble_of t (preambles - place + length presence)) information
     → P (Data csbk information None))
-    → HoldsAt P (try_slots t shape forms) place
-preamble_at P t shape forms place p lt here =
-    let long = length_preambles t shape forms p in
+    → HoldsAt P (try_slots t preambles presence forms) place
+preamble_at P t preambles presence forms place p lt here =
+    let long = length_preambles t preambles presence forms p in
     at_left P (map (λ (information : List Bool). Data csbk information None) forms.preambles)
-    (Data data_header forms.header None ∷ block_slots t.rate shape.blocks.items forms.blocks) place (omega (arith, long, lt))
+    (Data data_header forms.header None ∷ block_slots t.rate presence forms.blocks) place (omega (arith, long, lt))
     (at_map P (λ (information : List Bool). Data csbk information None) forms.preambles place
     (at_zip (λ (information : List Bool). P (Data csbk information None))
     (λ left information. IsCsbkInformation (preamble_of t left) information)
-    (counts_down shape.preambles (length shape.blocks.items)) forms.preambles place
-    (shape.preambles - place + length shape.blocks.items) p.preambles
-    (counts_at shape.preambles (length shape.blocks.items) place lt) here))
+    (counts_down preambles (length presence)) forms.preambles place
+    (preambles - place + length presence) p.preambles
+    (counts_at preambles (length presence) place lt) here))
 
 -- the header
-pub header_at : (P : SentSlot → Type 0) (t : Try) (shape : PacketShape) (forms : TryForms) (place : ℕ)
-    → AreTryForms t shape forms → place ≡ shape.preambles → P (Data data_header forms.header None)
-    → HoldsAt P (try_slots t shape forms) place
-header_at P t shape forms place p e here =
-    let long = length_preambles t shape forms p in
+pub header_at : (P : SentSlot → Type 0) (t : Try) (preambles : ℕ) (presence : List Bool) (forms : TryForms) (place : ℕ)
+    → AreTryForms t preambles presence forms → place ≡ preambles → P (Data data_header forms.header None)
+    → HoldsAt P (try_slots t preambles presence forms) place
+header_at P t preambles presence forms place p e here =
+    let long = length_preambles t preambles presence forms p in
     at_right P (map (λ (information : List Bool). Data csbk information None) forms.preambles)
-    (Data data_header forms.header None ∷ block_slots t.rate shape.blocks.items forms.blocks) 0 place (omega (arith, long, e)) here
+    (Data data_header forms.header None ∷ block_slots t.rate presence forms.blocks) 0 place (omega (arith, long, e)) here
 
 -- a block, by its place among these
-pub behind_header : (P : SentSlot → Type 0) (t : Try) (shape : PacketShape) (forms : TryForms) (place : ℕ)
-    → AreTryForms t shape forms → (place < shape.preambles → ⊥) → (place ≡ shape.preambles → ⊥)
-    → HoldsAt P (block_slots t.rate shape.blocks.items forms.blocks) (place - shape.preambles - 1)
-    → HoldsAt P (try_slots t shape forms) place
-behind_header P t shape forms place p past other here =
-    let long = length_preambles t shape forms p in
+pub behind_header : (P : SentSlot → Type 0) (t : Try) (preambles : ℕ) (presence : List Bool) (forms : TryForms) (place : ℕ)
+    → AreTryForms t preambles presence forms → (place < preambles → ⊥) → (place ≡ preambles → ⊥)
+    → HoldsAt P (block_slots t.rate presence forms.blocks) (place - preambles - 1)
+    → HoldsAt P (try_slots t preambles presence forms) place
+behind_header P t preambles presence forms place p past other here =
+    let long = length_preambles t preambles presence forms p in
     at_right P (map (λ (information : List Bool). Data csbk information None) forms.preambles)
-    (Data data_header forms.header None ∷ block_slots t.rate shape.blocks.items forms.blocks)
-    (suc (place - shape.preambles - 1)) place (omega (arith, long, past, other)) here
+    (Data data_header forms.header None ∷ block_slots t.rate presence forms.blocks)
+    (suc (place - preambles - 1)) place (omega (arith, long, past, other)) here
 
 -- a block is there or absent
 pub block_at : (P : SentSlot → Type 0) (rate : Rate) (presence : List Bool) (forms : List (List Bool)) (k : ℕ)
@@ -104,25 +103,25 @@ block_at P rate (false ∷ bs) (f ∷ fs) zero here silent = silent refl
 block_at P rate (b ∷ bs) (f ∷ fs) (suc k) here silent = block_at P rate bs fs k here silent
 
 -- a block that is sent
-pub sent_block : (P : SentSlot → Type 0) (t : Try) (shape : PacketShape) (forms : TryForms) (place : ℕ) (block : Block)
-    → AreTryForms t shape forms → slice_get t.blocks place ≡ Some block → get_or shape.blocks.items place false ≡ true
+pub sent_block : (P : SentSlot → Type 0) (t : Try) (preambles : ℕ) (presence : List Bool) (forms : TryForms) (place : ℕ) (block : Block)
+    → AreTryForms t preambles presence forms → slice_get t.blocks place ≡ Some block → get_or presence place false ≡ true
     → ((information : List Bool) → IsWrittenBlock t.rate block information → P (Data (kind_of_rate t.rate) information None))
-    → HoldsAt P (block_slots t.rate shape.blocks.items forms.blocks) place
-sent_block P t shape forms place block p e there here =
-    block_at P t.rate shape.blocks.items forms.blocks place
+    → HoldsAt P (block_slots t.rate presence forms.blocks) place
+sent_block P t preambles presence forms place block p e there here =
+    block_at P t.rate presence forms.blocks place
     (λ q. at_zip (λ (information : List Bool). P (Data (kind_of_rate t.rate) information None))
     (λ block information. IsWrittenBlock t.rate block information) t.blocks forms.blocks place block p.blocks e here)
     (λ q. absurd (cc (there, q)))
 
 -- no block past the last
-pub no_block : (P : SentSlot → Type 0) (t : Try) (shape : PacketShape) (forms : TryForms) (place : ℕ)
-    → AreTryForms t shape forms → slice_get t.blocks place ≡ None → get_or shape.blocks.items place false ≡ true
-    → HoldsAt P (block_slots t.rate shape.blocks.items forms.blocks) place
-no_block P t shape forms place p e there =
+pub no_block : (P : SentSlot → Type 0) (t : Try) (preambles : ℕ) (presence : List Bool) (forms : TryForms) (place : ℕ)
+    → AreTryForms t preambles presence forms → slice_get t.blocks place ≡ None → get_or presence place false ≡ true
+    → HoldsAt P (block_slots t.rate presence forms.blocks) place
+no_block P t preambles presence forms place p e there =
     let past : length t.blocks ≤ place = none_past t.blocks place e in
     let long : length forms.blocks ≡ length t.blocks =
     AllZip-long (λ block information. IsWrittenBlock t.rate block information) t.blocks forms.blocks p.blocks in
-    block_at P t.rate shape.blocks.items forms.blocks place
+    block_at P t.rate presence forms.blocks place
     (λ q. at_past (λ (information : List Bool). P (Data (kind_of_rate t.rate) information None)) forms.blocks place
     (omega (arith, past, long)))
     (λ q. absurd (cc (there, q)))

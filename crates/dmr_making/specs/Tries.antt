@@ -11,7 +11,6 @@ use Rattle.dmr_gateway.specs.Heard.{kind_of_rate}
 use Rattle.dmr_hearing.specs.Slots.{SentSlot, Silent, Data}
 use Rattle.dmr_making.specs.Information.{IsCsbkInformation, IsHeaderInformation}
 use Rattle.dmr_making.specs.declared.tries.Try.{Try}
-use Rattle.dmr_script.specs.declared.shape.PacketShape.{PacketShape}
 use Rattle.dmr_voice.specs.CallMeaning.{Block, Transmission, DataTry}
 
 -- the three octets of an address, the most significant first
@@ -41,9 +40,9 @@ pub record TryForms : Type 0 where
   pub blocks : List (List Bool)
 
 -- They are those of this try, in this shape.
-pub record AreTryForms (t : Try) (shape : PacketShape) (forms : TryForms) : Type 0 where
+pub record AreTryForms (t : Try) (preambles : ℕ) (presence : List Bool) (forms : TryForms) : Type 0 where
   pub preambles : AllZip (λ left information. IsCsbkInformation (preamble_of t left) information)
-      (counts_down shape.preambles (length shape.blocks.items)) forms.preambles
+      (counts_down preambles (length presence)) forms.preambles
   pub header : IsHeaderInformation t.header forms.header
   pub blocks : AllZip (λ block information. IsWrittenBlock t.rate block information) t.blocks forms.blocks
 
@@ -53,24 +52,24 @@ blocks_with rate presence forms =
     map (λ p. if p.0 then Some (record { kind = kind_of_rate rate; information = p.1 }) else None) (zip presence forms)
 
 -- The transmission that a try is.
-abbrev pub transmission_of_try : Try → PacketShape → TryForms → Transmission
-transmission_of_try t shape forms = DataTry forms.preambles forms.header (blocks_with t.rate shape.blocks.items forms.blocks)
+abbrev pub transmission_of_try : Try → ℕ → List Bool → TryForms → Transmission
+transmission_of_try t preambles presence forms = DataTry forms.preambles forms.header (blocks_with t.rate presence forms.blocks)
 
 -- A try fits its fields, and its shape has a place for each block.
-pub record IsFitTry (t : Try) (shape : PacketShape) : Type 0 where
+pub record IsFitTry (t : Try) (preambles : ℕ) (presence : List Bool) : Type 0 where
   pub source : t.source < 2 ^ 24
   pub destination : t.destination < 2 ^ 24
   pub header : IsFitHeader t.header
   pub blocks : All (λ block. FitsBlock t.rate block.serial block.octets) t.blocks
-  pub count : length t.blocks ≡ length shape.blocks.items
-  pub room : shape.preambles + length shape.blocks.items ≤ 255
+  pub count : length t.blocks ≡ length presence
+  pub room : preambles + length presence ≤ 255
 
 -- what the blocks of a try send
 abbrev pub block_slots : Rate → List Bool → List (List Bool) → List SentSlot
 block_slots rate presence forms = map (λ p. if p.0 then Data (kind_of_rate rate) p.1 None else Silent) (zip presence forms)
 
 -- what each slot of a try sends, part by part
-abbrev pub try_slots : Try → PacketShape → TryForms → List SentSlot
-try_slots t shape forms =
+abbrev pub try_slots : Try → ℕ → List Bool → TryForms → List SentSlot
+try_slots t preambles presence forms =
     map (λ information. Data csbk information None) forms.preambles
-    ++ (Data data_header forms.header None ∷ block_slots t.rate shape.blocks.items forms.blocks)
+    ++ (Data data_header forms.header None ∷ block_slots t.rate presence forms.blocks)

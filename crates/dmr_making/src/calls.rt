@@ -270,3 +270,12 @@ pub(crate) fn call_slot(colour: u8, call: &Call, place: usize, frame: u32) -> Op
         CallStart::Late(tail) => late_slot(colour, call, tail, place, frame),
     }
 }
+
+/// How many slots a call has.
+pub(crate) fn call_length(call: &Call) -> usize {
+    let front = match &call.shape.start {
+        CallStart::Headers(headers) => 1 + headers.more.len() + silences_behind(call, headers),
+        CallStart::Late(tail) => tail.len(),
+    };
+    front + call.shape.places.len() + call.shape.terminators as usize
+}

@@ -4,4 +4,10 @@
 mod bursts;
 mod calls;
 mod controls;
+mod making;
+mod packets;
+mod sending;
+mod timeline;
 mod tries;
+
+pub use making::{Plan, PlanFault, Summary, plan};

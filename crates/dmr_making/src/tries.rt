@@ -8,7 +8,6 @@ ghost use Rattle.dmr_making.specs.Tries.{TryForms, AreTryForms, IsFitTry};
 use crate::bursts::{block_burst, csbk_burst, header_burst};
 use dmr_csbk::{Csbk, PREAMBLE};
 use dmr_data::{Blocks, Header, Rate};
-use dmr_script::PacketShape;
 
 /// A try of a packet: what its bursts hold, if all of them are sent.
 #[derive(Drop)]
@@ -67,14 +66,14 @@ fn is_there(blocks: &[bool], place: usize) -> bool
 }
 
 /// What goes out in the slot of a block, and nothing past the last.
-fn block_slot(colour: u8, t: &Try, shape: &PacketShape, place: usize) -> Option<[u8; 33]>
+fn block_slot(colour: u8, t: &Try, preambles: u8, blocks: &[bool], place: usize) -> Option<[u8; 33]>
     requires colour { colour < 16 }
-    requires fit { IsFitTry t.now shape.now }
-    ensures slot { (frame : ℕ) (forms : TryForms) → AreTryForms t.now shape.now forms
+    requires fit { IsFitTry t.now preambles blocks.now }
+    ensures slot { (frame : ℕ) (forms : TryForms) → AreTryForms t.now preambles blocks.now forms
         → HoldsAt (λ slot. IsMade colour frame slot result)
-        (spec.block_slots t.now.rate shape.now.blocks.items forms.blocks) place }
+        (spec.block_slots t.now.rate blocks.now forms.blocks) place }
 {
-    if !is_there(&shape.blocks, place) {
+    if !is_there(blocks, place) {
         return None;
     }
     let block = t.blocks.get(place)?;
@@ -82,19 +81,25 @@ fn block_slot(colour: u8, t: &Try, shape: &PacketShape, place: usize) -> Option<
 }
 
 /// What goes out in a slot of a try, counted from 0.
-pub(crate) fn try_slot(colour: u8, t: &Try, shape: &PacketShape, place: usize) -> Option<[u8; 33]>
+pub(crate) fn try_slot(
+    colour: u8,
+    t: &Try,
+    preambles: u8,
+    blocks: &[bool],
+    place: usize,
+) -> Option<[u8; 33]>
     requires colour { colour < 16 }
-    requires fit { IsFitTry t.now shape.now }
-    ensures slot { (frame : ℕ) (forms : TryForms) → AreTryForms t.now shape.now forms
-        → HoldsAt (λ slot. IsMade colour frame slot result) (spec.try_slots t.now shape.now forms) place }
+    requires fit { IsFitTry t.now preambles blocks.now }
+    ensures slot { (frame : ℕ) (forms : TryForms) → AreTryForms t.now preambles blocks.now forms
+        → HoldsAt (λ slot. IsMade colour frame slot result) (spec.try_slots t.now preambles blocks.now forms) place }
 {
-    let preambles = usize::from(shape.preambles);
-    if place < preambles {
-        let left = count_behind(preambles - place, &shape.blocks);
+    let before = usize::from(preambles);
+    if place < before {
+        let left = count_behind(before - place, blocks);
         return Some(csbk_burst(colour, &preamble(t, left)));
     }
-    if place == preambles {
+    if place == before {
         return Some(header_burst(colour, &t.header));
     }
-    block_slot(colour, t, shape, place - preambles - 1)
+    block_slot(colour, t, preambles, blocks, place - before - 1)
 }

@@ -65,6 +65,20 @@ pub enum Place {
     F,
 }
 
+impl Place {
+    /// The place behind it; a superframe follows upon another.
+    pub(crate) fn next(self) -> Place {
+        match self {
+            Place::A => Place::B,
+            Place::B => Place::C,
+            Place::C => Place::D,
+            Place::D => Place::E,
+            Place::E => Place::F,
+            Place::F => Place::A,
+        }
+    }
+}
+
 impl fmt::Display for Place {
     fn fmt<W: fmt::Write>(&self, f: &mut fmt::Formatter<W>) -> fmt::Result {
         match self {

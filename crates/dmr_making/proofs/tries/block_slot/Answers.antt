@@ -6,28 +6,21 @@ use Rattle.dmr_making.proofs.TrySlots.{block_at, sent_block, no_block, copied, c
 use Rattle.dmr_making.specs.Made.{IsMade}
 use Rattle.dmr_making.proofs.tries.block_slot.Goals as goal
 
--- what was asked of the shape
-asked : (items slice : List Bool) (place : ℕ) (answer given : Bool) → answer ≡ get_or slice place false → slice ≡ items
-    → answer ≡ given → get_or items place false ≡ given
-asked items slice place answer given p q r = sym (p ∙ ap (λ (l : List Bool). get_or l place false) q) ∙ r
-
 pub returns-then-not-is_there : goal.returns-then-not-is_there
 returns-then-not-is_there c = record {
   slot = λ frame forms p.
-      let absent : get_or c.args.shape.now.blocks.items c.args.place false ≡ false =
-      asked c.args.shape.now.blocks.items c.deref.result.now c.args.place c.is_there.result false c.is_there.ensures.value
-      c.deref.ensures.value c.if-not-is_there.true in
-      block_at (λ (slot : SentSlot). IsMade c.args.colour frame slot None) c.args.t.now.rate c.args.shape.now.blocks.items
+      let absent : get_or c.args.blocks.now c.args.place false ≡ false =
+      sym c.is_there.ensures.value ∙ c.if-not-is_there.true in
+      block_at (λ (slot : SentSlot). IsMade c.args.colour frame slot None) c.args.t.now.rate c.args.blocks.now
       forms.blocks c.args.place (λ q. absurd (cc (absent, q))) (λ q. refl);
 }
 
 pub returns-in_err-block : goal.returns-in_err-block
 returns-in_err-block c = record {
   slot = λ frame forms p.
-      let there : get_or c.args.shape.now.blocks.items c.args.place false ≡ true =
-      asked c.args.shape.now.blocks.items c.deref.result.now c.args.place c.is_there.result true c.is_there.ensures.value
-      c.deref.ensures.value c.if-not-is_there.false in
-      no_block (λ (slot : SentSlot). IsMade c.args.colour frame slot c.from_residual.result) c.args.t.now c.args.shape.now forms
+      let there : get_or c.args.blocks.now c.args.place false ≡ true =
+      sym c.is_there.ensures.value ∙ c.if-not-is_there.false in
+      no_block (λ (slot : SentSlot). IsMade c.args.colour frame slot c.from_residual.result) c.args.t.now c.args.preambles c.args.blocks.now forms
       c.args.place p (copied_none c.get.result (slice_get c.args.t.now.blocks c.args.place) c.get.ensures.value c.in_err-block.was)
       there;
 }
@@ -41,10 +34,9 @@ block_burst-requires-clause-fit c =
 pub returns : goal.returns
 returns c = record {
   slot = λ frame forms p.
-      let there : get_or c.args.shape.now.blocks.items c.args.place false ≡ true =
-      asked c.args.shape.now.blocks.items c.deref.result.now c.args.place c.is_there.result true c.is_there.ensures.value
-      c.deref.ensures.value c.if-not-is_there.false in
-      sent_block (λ (slot : SentSlot). IsMade c.args.colour frame slot (Some c.block_burst.result)) c.args.t.now c.args.shape.now
+      let there : get_or c.args.blocks.now c.args.place false ≡ true =
+      sym c.is_there.ensures.value ∙ c.if-not-is_there.false in
+      sent_block (λ (slot : SentSlot). IsMade c.args.colour frame slot (Some c.block_burst.result)) c.args.t.now c.args.preambles c.args.blocks.now
       forms c.args.place c.in_ok-block.block.now p
       (copied c.get.result (slice_get c.args.t.now.blocks c.args.place) c.in_ok-block.block c.get.ensures.value c.in_ok-block.was)
       there c.block_burst.ensures.burst;
