@@ -1,4 +1,6 @@
+pub mod Bodies
 pub mod CallSlots
+pub mod Flags
 pub mod SameBursts
 pub mod Standing
 pub mod Superframes

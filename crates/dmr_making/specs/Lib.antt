@@ -3,6 +3,7 @@ pub mod Controls
 pub mod Fit
 pub mod Information
 pub mod Made
+pub mod Packets
 pub mod Places
 pub mod Standing
 pub mod Tries

@@ -10,4 +10,4 @@ mod sending;
 mod timeline;
 mod tries;
 
-pub use making::{Plan, PlanFault, Summary, plan};
+pub use making::{Plan, PlanFault, Summary, plan_script};

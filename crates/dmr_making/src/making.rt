@@ -1,8 +1,6 @@
 //! Recordings of scripts.
 use crate::timeline::{Halt, Placed, Timeline, sending_at};
-use dmr_record::{
-    FRAME_LIMIT, RecordFault, Sink, UPLINK_MAGIC, write_head, write_uplink_slot,
-};
+use dmr_record::{FRAME_LIMIT, RecordFault, Sink, UPLINK_MAGIC, write_head, write_uplink_slot};
 use dmr_script::{NumberedStatement, Refusal, RefusedLine, Slot, Statement};
 use std::alloc::Global;
 
@@ -71,7 +69,11 @@ impl<'a> Player<'a> {
 }
 
 /// The transmissions of the statements of a script, in their slots and frames, or the first line that shows that there are none.
-pub fn plan(alloc: Global, statements: &[NumberedStatement], has_list: bool) -> Result<Plan, PlanFault> {
+pub fn plan_script(
+    alloc: Global,
+    statements: &[NumberedStatement],
+    has_list: bool,
+) -> Result<Plan, PlanFault> {
     let mut plan = Plan {
         colour: 1,
         first: Timeline::new(alloc),

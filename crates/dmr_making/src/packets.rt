@@ -1,11 +1,13 @@
 //! The tries that a script says.
-ghost use Rattle.std.specs.Prelude.{◌≡◌, ◌<◌, ◌≤◌, ◌^◌, ◌+◌, length};
+ghost use Rattle.std.specs.Prelude.{◌≡◌, ◌<◌, ◌≤◌, ◌^◌, ◌+◌, All, length};
+ghost use Rattle.dmr_ip.specs.Contents.{FitsDatagram};
+ghost use Rattle.dmr_script.specs.Fits.{FitsPacket, FitsPartial, FitsShortData, FitsAnswer};
 ghost use Rattle.dmr_making.specs.Packets as spec;
 
 use crate::tries::Try;
 use dmr_data::{
-    Blocks, Confirmed, Header, Octets, PACKET_LIMIT, Packet, Rate, Response, ShortData, Unconfirmed,
-    split_packet,
+    Blocks, Confirmed, Header, Octets, PACKET_LIMIT, Packet, Rate, Response, ShortData,
+    Unconfirmed, split_packet,
 };
 use dmr_ip::{Datagram, compress, expand};
 use dmr_script::{
@@ -18,10 +20,12 @@ const COMPRESSED: u8 = 3;
 /// How many octets a compressed form has in front of its data, with both ports spelled out.
 const FORM_HEAD: usize = 9;
 
-/// The compressed form of a UDP datagram that spells both ports. ETSI TS 102 361-3.
-fn plain_form(group: bool, message: &UdpMessage) -> Octets<1400>
+/// The compressed form of a UDP datagram with these data that spells both ports. ETSI TS 102 361-3.
+fn plain_form(group: bool, message: &UdpMessage, payload: &[u8]) -> Octets<1400>
+    requires payload { payload.now ≡ message.now.data.items }
     requires room { 28 + length message.now.data.items ≤ 1400 }
     ensures value { result ≡ spec.plain_form group message.now }
+    ensures fits { FitsDatagram (spec.contents_of message.now) }
 {
     let id = message.identification.to_be_bytes();
     let source = message.source_port.to_be_bytes();
@@ -39,7 +43,7 @@ fn plain_form(group: bool, message: &UdpMessage) -> Octets<1400>
         destination[1],
     ];
     let mut form = Octets::from_slice(&head);
-    form.extend_from_slice(&message.data);
+    form.extend_from_slice(payload);
     form
 }
 
@@ -49,14 +53,15 @@ fn datagram_of(p: &PacketTry, message: &UdpMessage) -> Datagram
     requires destination { p.now.destination < 2 ^ 24 }
     requires room { 28 + length message.now.data.items ≤ 1400 }
     ensures value { result ≡ spec.datagram_in p.now message.now }
+    ensures fits { FitsDatagram (spec.contents_of message.now) }
 {
-    let form = plain_form(p.group, message);
+    let form = plain_form(p.group, message, &message.data);
     expand(form.as_slice(), p.source, p.destination, p.group).unwrap()
 }
 
 /// What a packet carries: octets, or a UDP datagram as it is or in its compressed form.
 fn body_of(p: &PacketTry) -> Octets<PACKET_LIMIT>
-    requires fit { spec.IsFitPacketTry p.now }
+    requires fit { FitsPacket p.now }
     ensures value { result ≡ spec.body_of p.now }
 {
     match &p.body {
@@ -75,7 +80,7 @@ fn body_of(p: &PacketTry) -> Octets<PACKET_LIMIT>
 
 /// The packet that a try sends.
 fn packet_of(p: &PacketTry) -> Packet
-    requires fit { spec.IsFitPacketTry p.now }
+    requires fit { FitsPacket p.now }
     ensures packet { spec.IsPacketIn p.now result }
 {
     split_packet(body_of(p).as_slice(), p.rate, p.confirmed)
@@ -116,7 +121,7 @@ fn packet_header(p: &PacketTry, pad: u8, full: bool, blocks: u8) -> Header
 
 /// A full try of a packet.
 pub(crate) fn full_try(p: &PacketTry) -> Try
-    requires fit { spec.IsFitPacketTry p.now }
+    requires fit { FitsPacket p.now }
     ensures is { spec.IsFullTry p.now result }
 {
     let packet = packet_of(p);
@@ -134,8 +139,8 @@ pub(crate) fn full_try(p: &PacketTry) -> Try
 /// The blocks of these numbers.
 fn picked(blocks: &[dmr_data::Block], serials: &[u8]) -> Blocks
     requires most { length serials.now ≤ 127 }
-    requires inside { spec.AreSerialsWithin (length blocks.now) serials.now }
-    ensures value { result ≡ spec.picked blocks.now serials.now }
+    requires inside { All (λ serial. serial < length blocks.now) serials.now }
+    ensures picked { spec.ArePicked blocks.now serials.now result }
 {
     let mut some = Blocks::new();
     for serial in serials {
@@ -146,8 +151,9 @@ fn picked(blocks: &[dmr_data::Block], serials: &[u8]) -> Blocks
 
 /// A further try of some blocks of a packet.
 pub(crate) fn partial_try(p: &PacketTry, partial: &PartialTry) -> Try
-    requires fit { spec.IsFitPacketTry p.now }
-    requires partial { spec.IsFitPartial p.now partial.now }
+    requires fit { FitsPacket p.now }
+    requires partial { FitsPartial partial.now }
+    requires inside { All (λ serial. serial < length p.now.shape.blocks.items) partial.now.serials.items }
     ensures is { spec.IsPartialTry p.now partial.now result }
 {
     let packet = packet_of(p);
@@ -164,7 +170,7 @@ pub(crate) fn partial_try(p: &PacketTry, partial: &PartialTry) -> Try
 
 /// Short data and its blocks.
 pub(crate) fn short_data_try(short: &ShortDataTry) -> Try
-    requires fit { spec.IsFitShortData short.now }
+    requires fit { FitsShortData short.now }
     ensures is { spec.IsShortDataTry short.now result }
 {
     let packet = split_packet(&short.octets, Rate::Half, false);
@@ -203,16 +209,23 @@ pub(crate) fn status_try(status: &StatusSent) -> Try
     }
 }
 
+/// Whether a block is among those that are wanted once more.
+fn is_among(serials: &[u8], serial: u8) -> bool
+    ensures value { result ≡ spec.is_among serials.now serial }
+{
+    serials.iter().any(|one| *one == serial)
+}
+
 /// The flags of the blocks of a packet but those that are wanted once more, the first block in the lowest bit.
-fn flags_of(wanted: &Wanted) -> u128
-    requires most { wanted.now.blocks ≤ 127 }
-    ensures value { result ≡ spec.flags_of wanted.now.serials.items 0 wanted.now.blocks }
+fn flags_of(serials: &[u8], blocks: u8) -> u128
+    requires most { blocks ≤ 127 }
+    ensures value { result ≡ spec.flags_from serials.now 0 blocks }
 {
     let mut flags = 0;
-    let mut serial = wanted.blocks;
+    let mut serial = blocks;
     while serial > 0 {
         serial -= 1;
-        let flag = if wanted.serials.contains(&serial) { 0 } else { 1 };
+        let flag = if is_among(serials, serial) { 0 } else { 1 };
         flags = 2 * flags + flag;
     }
     flags
@@ -223,7 +236,7 @@ fn flag_packet(wanted: &Wanted) -> Packet
     requires most { wanted.now.blocks ≤ 127 }
     ensures packet { spec.IsFlagPacket wanted.now result }
 {
-    let flags = flags_of(wanted).to_le_bytes();
+    let flags = flags_of(&wanted.serials, wanted.blocks).to_le_bytes();
     if wanted.blocks > 64 {
         let mut octets = Octets::<20>::from_slice(&flags);
         octets.extend_from_slice(&[0; 4]);
@@ -250,7 +263,7 @@ fn answer_header(answer: &Answer, class: u8, kind: u8, blocks: u8) -> Header
 
 /// An answer with this header, and blocks of flags.
 fn answer_with(answer: &Answer, header: Header, blocks: Blocks) -> Try
-    ensures value { result ≡ spec.answer_with answer.now header blocks.entry }
+    ensures value { result ≡ spec.answer_with answer.now header blocks }
 {
     Try {
         source: answer.source,
@@ -264,8 +277,8 @@ fn answer_with(answer: &Answer, header: Header, blocks: Blocks) -> Try
 
 /// An answer to a confirmed packet, with its flags where it has any.
 pub(crate) fn answer_try(answer: &Answer) -> Try
-    requires fit { spec.IsFitAnswer answer.now }
-    ensures is { spec.IsAnswerTry answer.now result }
+    requires fit { FitsAnswer answer.now }
+    ensures is { spec.IsAnswerOf answer.now answer.now.kind result }
 {
     match &answer.kind {
         AnswerKind::Acknowledged => {

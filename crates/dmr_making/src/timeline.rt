@@ -79,10 +79,7 @@ fn packet_at(statements: &[NumberedStatement], at: Option<usize>) -> Option<&Pac
 }
 
 /// What a placed transmission sends.
-pub(crate) fn sending_at(
-    statements: &[NumberedStatement],
-    placed: Placed,
-) -> Option<Sending<'_>> {
+pub(crate) fn sending_at(statements: &[NumberedStatement], placed: Placed) -> Option<Sending<'_>> {
     let transmit = transmit_at(statements, placed.statement)?;
     let packet = packet_at(statements, placed.packet);
     Some(Sending { transmit, packet })
@@ -193,7 +190,11 @@ fn again_fault(again: &Again, packet: Option<&PacketTry>) -> Option<Refusal> {
             }
         }
         Again::Partial(partial) => {
-            if partial.serials.iter().all(|serial| usize::from(*serial) < blocks) {
+            if partial
+                .serials
+                .iter()
+                .all(|serial| usize::from(*serial) < blocks)
+            {
                 None
             } else {
                 Some(Refusal::BlockPastPacket)
@@ -253,13 +254,7 @@ impl Timeline {
         match self.before {
             Before::Nothing => 0,
             Before::SilencedCall => 6,
-            Before::SilencedHeaders => {
-                if begins_with_data(transmit) {
-                    1
-                } else {
-                    6
-                }
-            }
+            Before::SilencedHeaders => { if begins_with_data(transmit) { 1 } else { 6 } }
             Before::Row(colour) => match (self.silences, before_next(own, transmit)) {
                 (None, Before::Row(next)) if next == colour => 0,
                 _ => 1,
