@@ -6,7 +6,7 @@ use Rattle.std.proofs.lemmas.List.{length-append, length-replicate}
 use Rattle.std.proofs.Math.Nat.{mul-le-mul_right, suc-mul, zero-mul}
 use Rattle.std.proofs.lemmas.Bool.{cases_order}
 use Rattle.dmr_data.specs.Block.{payload}
-use Rattle.dmr_data.specs.Packet.{octets_of_blocks, HaveOctets}
+use Rattle.dmr_data.specs.Packet.{octets_of_blocks, HaveOctets, IsWrittenPacket}
 use Rattle.dmr_data.specs.declared.block.Block.{Block}
 use Rattle.dmr_data.specs.declared.packet.Packet.{Packet}
 use Rattle.dmr_ip.specs.Contents.{datagram_between, radio_address, address}
@@ -80,26 +80,31 @@ length_octets size (b ∷ blocks) have =
     let long = length-append b.octets (octets_of_blocks blocks) in
     omega (arith, one, rest, more, long)
 
--- a packet has as many blocks as hold its body
+-- a written packet has as many blocks as hold its body
+pub count_of_blocks : (octets : List ℕ) (packet : Packet) (size blocks : ℕ) → payload packet.rate packet.confirmed ≡ size
+    → IsWrittenPacket octets packet → length octets + 4 ≤ blocks * size → blocks * size < length octets + 4 + size
+    → length packet.blocks ≡ blocks
+count_of_blocks octets packet size blocks same w enough fewest =
+    let all : length (octets_of_blocks packet.blocks) ≡ length packet.blocks * payload packet.rate packet.confirmed =
+    length_octets (payload packet.rate packet.confirmed) packet.blocks w.sizes in
+    let whole = ap (λ (l : List ℕ). length l) w.octets.whole in
+    let a = length-append (octets ++ replicate packet.pad 0) w.octets.check in
+    let b = length-append octets (replicate packet.pad 0) in
+    let pads = length-replicate {A = ℕ} packet.pad 0 in
+    let check : length w.octets.check ≡ 4 = w.octets.four in
+    let sum : length packet.blocks * size ≡ length octets + packet.pad + 4 =
+    ap (λ (k : ℕ). length packet.blocks * k) (sym same) ∙ sym all ∙ whole ∙ omega (arith, a, b, pads, check) in
+    let few : packet.pad < size = subst (λ (k : ℕ). packet.pad < k) same w.fewest in
+    same_count (length packet.blocks) blocks size (length octets) packet.pad sum few enough fewest
+
+-- a packet of a script has as many blocks as its shape
 pub packet_count : (p : PacketTry) (packet : Packet) → FitsPacket p → IsPacketIn p packet
     → length packet.blocks ≡ length p.shape.blocks.items
 packet_count p packet fit is =
     let size : ℕ = payload p.rate p.confirmed in
     let same : payload packet.rate packet.confirmed ≡ size = cc (is.rate, is.confirmed) in
-    let w = is.written in
-    let all : length (octets_of_blocks packet.blocks) ≡ length packet.blocks * payload packet.rate packet.confirmed =
-    length_octets (payload packet.rate packet.confirmed) packet.blocks w.sizes in
-    let whole = ap (λ (l : List ℕ). length l) w.octets.whole in
-    let a = length-append (body_of p ++ replicate packet.pad 0) w.octets.check in
-    let b = length-append (body_of p) (replicate packet.pad 0) in
-    let pads = length-replicate {A = ℕ} packet.pad 0 in
     let long = body_length p in
-    let check : length w.octets.check ≡ 4 = w.octets.four in
-    let sum : length packet.blocks * size ≡ length (body_of p) + packet.pad + 4 =
-    ap (λ (k : ℕ). length packet.blocks * k) (sym same) ∙ sym all ∙ whole ∙ omega (arith, a, b, pads, check) in
-    let few : packet.pad < size = subst (λ (k : ℕ). packet.pad < k) same w.fewest in
-    let enough : length (body_of p) + 4 ≤ length p.shape.blocks.items * size =
-    subst (λ (k : ℕ). k + 4 ≤ length p.shape.blocks.items * size) (sym long) fit.holds.enough in
-    let fewest : length p.shape.blocks.items * size < length (body_of p) + 4 + size =
-    subst (λ (k : ℕ). length p.shape.blocks.items * size < k + 4 + size) (sym long) fit.holds.fewest in
-    same_count (length packet.blocks) (length p.shape.blocks.items) size (length (body_of p)) packet.pad sum few enough fewest
+    let blocks : ℕ = length p.shape.blocks.items in
+    count_of_blocks (body_of p) packet size blocks same is.written
+    (subst (λ (k : ℕ). k + 4 ≤ blocks * size) (sym long) fit.holds.enough)
+    (subst (λ (k : ℕ). blocks * size < k + 4 + size) (sym long) fit.holds.fewest)

@@ -259,7 +259,7 @@ sent_headed colour call forms h (b ∷ bs) e =
     (map_same (λ (c : Cell). c.sent) h.silences (record (header_cell lc forms.header) { sent = Silent })) same))
 
 -- what the rest of a call sends from its first A on
-sent_late : (colour : ℕ) (call : Call) (forms : CallForms)
+pub sent_late : (colour : ℕ) (call : Call) (forms : CallForms)
     → slots_sent colour (late_call call forms []) ≡ voice_slots colour call forms
 sent_late colour call forms = sent_voice colour call forms None
 

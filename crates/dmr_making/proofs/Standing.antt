@@ -1,6 +1,6 @@
 -- What stands in a place of a list that is made of others.
 use Rattle.std.proofs.Common.{◌≡◌, ℕ, zero, suc, ◌+◌, ◌<◌, ◌≤◌, List, [], ◌∷◌, ◌++◌, map, drop, length, replicate, arith, subst}
-use Rattle.std.proofs.Common.{get_or, sym}
+use Rattle.std.proofs.Common.{get_or, ap, refl, take}
 use Rattle.dmr_making.specs.Standing.{HoldsAt}
 
 -- in front of a seam it is what stands there in the first list
@@ -54,3 +54,14 @@ pub at_past : {X : Type 0} (P : X → Type 0) (xs : List X) (k : ℕ) → length
 at_past P [] k le = tt
 at_past P (x ∷ xs) zero le = absurd (omega arith)
 at_past P (x ∷ xs) (suc k) le = at_past P xs k (omega arith)
+
+-- a list of one
+pub at_one : {X : Type 0} (P : X → Type 0) (x : X) (k : ℕ) → P x → HoldsAt P (x ∷ []) k
+at_one P x zero h = h
+at_one P x (suc k) h = tt
+
+-- the first of equals
+pub take_same : {X : Type 0} (n m : ℕ) (x : X) → n ≤ m → take n (replicate m x) ≡ replicate n x
+take_same zero m x le = refl
+take_same (suc n) zero x le = absurd (omega arith)
+take_same (suc n) (suc m) x le = ap (λ (l : List _). x ∷ l) (take_same n m x (omega arith))

@@ -1,5 +1,5 @@
 -- What a script's values have to fit, so that there are bursts for them.
-use Rattle.std.specs.Prelude.{ℕ, ◌<◌, ◌≤◌, All, length}
+use Rattle.std.specs.Prelude.{ℕ, ◌≡◌, ◌<◌, ◌≤◌, All, length}
 use Rattle.dmr_script.specs.declared.call.Call.{Call}
 use Rattle.dmr_script.specs.declared.call.Carried.{Carried}
 use Rattle.dmr_script.specs.declared.call.Carried.TheVariants.{Own, Nothing, LinkControl}
@@ -26,6 +26,17 @@ pub record IsFitCall (call : Call) : Type 0 where
   pub start : IsFitStart call.shape.start
 
 -- the opcode of the link control of a terminator fits six bits
-abbrev pub IsFitLone : LoneBurst → Type 0
-IsFitLone (lone.Terminator lc) = lc.flco < 64
-IsFitLone burst = Unit {0}
+abbrev pub IsFitTerminator : LoneBurst → Type 0
+IsFitTerminator (lone.Terminator lc) = lc.flco < 64
+IsFitTerminator burst = Unit {0}
+
+-- information that is said bit by bit has 196 bits
+abbrev pub IsFitRaw : LoneBurst → Type 0
+IsFitRaw (lone.RateThreeQuarters bits) = length bits ≡ 196
+IsFitRaw (lone.RateOne bits) = length bits ≡ 196
+IsFitRaw burst = Unit {0}
+
+-- A data burst by itself fits.
+pub record IsFitLone (burst : LoneBurst) : Type 0 where
+  pub terminator : IsFitTerminator burst
+  pub raw : IsFitRaw burst

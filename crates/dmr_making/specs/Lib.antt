@@ -5,5 +5,8 @@ pub mod Information
 pub mod Made
 pub mod Packets
 pub mod Places
+pub mod Seen
+pub mod Senders
+pub mod Sends
 pub mod Standing
 pub mod Tries

@@ -120,30 +120,34 @@ pub record IsPartialTry (p : PacketTry) (partial : PartialTry) (t : Try) : Type 
 
 -- 2. Other tries.
 
--- Short data: its octets in unconfirmed blocks at rate 1/2, and a header that counts these and the bits of padding.
+-- short data in the blocks of this packet, with a header that counts these and the bits of padding
+abbrev pub short_try : ShortDataTry → Packet → Try
+short_try s packet = record {
+  source = s.source;
+  group = s.group;
+  destination = s.destination;
+  header = header.ShortData (record {
+    group = s.group;
+    wanted = false;
+    blocks = length packet.blocks;
+    destination = s.destination;
+    source = s.source;
+    data_format = s.format;
+    resynchronize = false;
+    full = true;
+    bit_padding = 8 * packet.pad;
+  });
+  rate = Half;
+  blocks = packet.blocks;
+}
+
+-- Short data: its octets go in unconfirmed blocks at rate 1/2.
 pub record IsShortDataTry (s : ShortDataTry) (t : Try) : Type 0 where
   pub packet : Packet
   pub rate : packet.rate ≡ Half
   pub confirmed : packet.confirmed ≡ false
   pub written : IsWrittenPacket s.octets.items packet
-  pub is : t ≡ record {
-    source = s.source;
-    group = s.group;
-    destination = s.destination;
-    header = header.ShortData (record {
-      group = s.group;
-      wanted = false;
-      blocks = length packet.blocks;
-      destination = s.destination;
-      source = s.source;
-      data_format = s.format;
-      resynchronize = false;
-      full = true;
-      bit_padding = 8 * packet.pad;
-    });
-    rate = Half;
-    blocks = packet.blocks;
-  }
+  pub is : t ≡ short_try s packet
 
 -- a status, which has no blocks
 abbrev pub status_try : StatusSent → Try

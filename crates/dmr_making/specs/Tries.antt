@@ -40,9 +40,9 @@ pub record TryForms : Type 0 where
   pub blocks : List (List Bool)
 
 -- They are those of this try, in this shape.
-pub record AreTryForms (t : Try) (preambles : ℕ) (presence : List Bool) (forms : TryForms) : Type 0 where
+pub record AreTryForms (t : Try) (before : ℕ) (presence : List Bool) (forms : TryForms) : Type 0 where
   pub preambles : AllZip (λ left information. IsCsbkInformation (preamble_of t left) information)
-      (counts_down preambles (length presence)) forms.preambles
+      (counts_down before (length presence)) forms.preambles
   pub header : IsHeaderInformation t.header forms.header
   pub blocks : AllZip (λ block information. IsWrittenBlock t.rate block information) t.blocks forms.blocks
 

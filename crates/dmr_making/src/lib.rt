@@ -4,6 +4,7 @@
 mod bursts;
 mod calls;
 mod controls;
+pub mod laws;
 mod making;
 mod packets;
 mod sending;
