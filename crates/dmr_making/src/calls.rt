@@ -270,21 +270,3 @@ pub(crate) fn call_slot(colour: u8, call: &Call, place: usize, frame: u32) -> Op
         CallStart::Late(tail) => late_slot(colour, call, tail, place, frame),
     }
 }
-
-/// How many slots a call has, or the most that are counted.
-pub(crate) fn call_length(call: &Call) -> usize {
-    let front = match &call.shape.start {
-        CallStart::Headers(headers) => {
-            let silences = silences_behind(call, headers);
-            headers
-                .more
-                .len()
-                .saturating_add(1)
-                .saturating_add(silences)
-        }
-        CallStart::Late(tail) => tail.len(),
-    };
-    front
-        .saturating_add(call.shape.places.len())
-        .saturating_add(call.shape.terminators as usize)
-}

@@ -13,7 +13,7 @@ ghost use Rattle.dmr_script.specs.Fits.{FitsPacket, FitsShortData, FitsStatus, F
 ghost use Rattle.dmr_script.specs.declared.packet.Again.TheVariants as again;
 
 use crate::bursts::csbk_burst;
-use crate::calls::{call_length, call_slot};
+use crate::calls::call_slot;
 use crate::controls::lone_burst;
 use crate::packets::{answer_try, full_try, partial_try, short_data_try, status_try};
 use crate::tries::{Try, try_slot};
@@ -26,17 +26,17 @@ use dmr_script::{
 /// Every block of a packet, which has at most 127.
 const ALL_BLOCKS: [bool; 127] = [true; 127];
 
-/// A transmission of a script, with the packet that it tries again where it does.
+/// A transmission of a script in its slot.
 #[derive(Clone, Copy)]
-pub(crate) struct Sending<'a> {
+pub struct Sending<'a> {
     /// What is sent, and with which colour code.
-    pub(crate) transmit: &'a Transmit,
-    /// The last confirmed packet in front of it in its slot.
-    pub(crate) packet: Option<&'a PacketTry>,
+    pub transmit: &'a Transmit,
+    /// The last confirmed packet in front of it in its slot, which a further try sends again.
+    pub last: Option<&'a PacketTry>,
 }
 
 /// The colour code that is sent with.
-pub(crate) fn colour_of(own: u8, sender: Sender) -> u8
+fn colour_of(own: u8, sender: Sender) -> u8
     ensures value { result ≡ spec.colour_of own sender }
 {
     match sender {
@@ -237,47 +237,19 @@ impl<'a> Sending<'a> {
     ghost use Rattle.dmr_making.specs.Standing.{HoldsAt};
     ghost use Rattle.dmr_script.specs.Fits.{FitsSender};
 
-    /// What goes out in one of its slots, counted from 0, in this frame of a recording of this colour code.
-    pub(crate) fn slot(self, own: u8, place: usize, frame: u32) -> Option<[u8; 33]>
+    /// What goes out in one of its slots, counted from 0, in this frame of a recording of this colour code: the 33 octets of a
+    /// burst of a mobile station, or nothing. Past its last slot it says nothing.
+    pub fn slot(self, own: u8, place: usize, frame: u32) -> Option<[u8; 33]>
         requires own { own < 16 }
         requires frame { frame < 1048576 }
         requires sender { FitsSender self.transmit.now.sender }
-        requires fit { IsFitSaid (option_copied self.packet) self.transmit.now.transmission }
+        requires fit { IsFitSaid (option_copied self.last) self.transmit.now.transmission }
         ensures slot { (sent : Sent)
-            → Sends (spec.colour_of own self.entry.transmit.now.sender) (option_copied self.entry.packet)
+            → Sends (spec.colour_of own self.entry.transmit.now.sender) (option_copied self.entry.last)
             self.entry.transmit.now.transmission sent
             → HoldsAt (λ slot. IsMade (spec.colour_of own self.entry.transmit.now.sender) frame slot result) sent.slots place }
     {
         let colour = colour_of(own, self.transmit.sender);
-        said_slot(
-            colour,
-            &self.transmit.transmission,
-            self.packet,
-            place,
-            frame,
-        )
+        said_slot(colour, &self.transmit.transmission, self.last, place, frame)
     }
-
-    /// How many slots it has.
-    pub(crate) fn length(self) -> usize {
-        match &self.transmit.transmission {
-            Transmission::Call(call) => call_length(call),
-            Transmission::Packet(packet) => shape_length(&packet.shape),
-            Transmission::Again(Again::Full(Some(shape))) => shape_length(shape),
-            Transmission::Again(Again::Full(None)) => match self.packet {
-                None => 1,
-                Some(packet) => 1 + block_count(packet),
-            },
-            Transmission::Again(Again::Partial(partial)) => shape_length(&partial.shape),
-            Transmission::ShortData(short) => shape_length(&short.shape),
-            Transmission::Status(status) => shape_length(&status.shape),
-            Transmission::Answer(answer) => shape_length(&answer.shape),
-            Transmission::Control(_) | Transmission::Burst(_) => 1,
-        }
-    }
-}
-
-/// How many slots a try of this shape has.
-fn shape_length(shape: &PacketShape) -> usize {
-    usize::from(shape.preambles) + 1 + shape.blocks.len()
 }
