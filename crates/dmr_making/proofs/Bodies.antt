@@ -1,5 +1,6 @@
 -- How many octets packets carry, and how many blocks they have.
-use Rattle.std.proofs.Common.{◌≡◌, ℕ, ◌+◌, ◌*◌, ◌<◌, ◌≤◌, ◌==◌, ◌||◌, true, false, Bool, List, [], ◌∷◌, ◌++◌, length, replicate, arith, refl, ap, sym, ◌∙◌, subst, inl, inr, suc}
+use Rattle.std.proofs.Common.{◌≡◌, ℕ, ◌+◌, ◌*◌, ◌<◌, ◌≤◌, ◌==◌, ◌||◌, true, false, Bool, List, [], ◌∷◌, ◌++◌, length, replicate}
+use Rattle.std.proofs.Common.{arith, refl, ap, sym, ◌∙◌, subst, inl, inr}
 use Rattle.std.specs.Bool.{if◌then◌else◌}
 use Rattle.std.proofs.lemmas.List.Elements.{All-head, All-tail}
 use Rattle.std.proofs.lemmas.List.{length-append, length-replicate}
@@ -9,10 +10,10 @@ use Rattle.dmr_data.specs.Block.{payload}
 use Rattle.dmr_data.specs.Packet.{octets_of_blocks, HaveOctets, IsWrittenPacket}
 use Rattle.dmr_data.specs.declared.block.Block.{Block}
 use Rattle.dmr_data.specs.declared.packet.Packet.{Packet}
-use Rattle.dmr_ip.specs.Contents.{datagram_between, radio_address, address}
-use Rattle.dmr_ip.specs.Spelling.{form, written_form, identifier_of, port_octets as spelled_port}
-use Rattle.dmr_making.specs.Packets.{contents_of, datagram_in, body_with, body_of, IsPacketIn}
-use Rattle.dmr_script.specs.Fits.{port_octets, body_octets, FitsPacket, HoldsBody}
+use Rattle.dmr_ip.specs.Contents.{datagram_between}
+use Rattle.dmr_ip.specs.Spelling.{written_form, identifier_of, port_octets as spelled_port}
+use Rattle.dmr_making.specs.Packets.{contents_of, datagram_in, body_with, packet_octets, IsPacketIn}
+use Rattle.dmr_script.specs.Fits.{port_octets, body_octets, FitsPacket}
 use Rattle.dmr_script.specs.declared.packet.Body.{Body}
 use Rattle.dmr_script.specs.declared.packet.Body.TheVariants as body
 use Rattle.dmr_script.specs.declared.packet.PacketTry.{PacketTry}
@@ -57,7 +58,7 @@ body_length_by p (body.Udp m) false e =
     ∙ ap (λ (b : Bool). if b then 5 + port_octets m.source_port + port_octets m.destination_port + length m.data.items
     else 28 + length m.data.items) (sym e)
 
-pub body_length : (p : PacketTry) → length (body_of p) ≡ body_octets p.sap p.body
+pub body_length : (p : PacketTry) → length (packet_octets p) ≡ body_octets p.sap p.body
 body_length p = body_length_by p p.body (p.sap == 3) refl
 
 -- two numbers of blocks of which one holds a body and the other is just enough for it
@@ -105,6 +106,6 @@ packet_count p packet fit is =
     let same : payload packet.rate packet.confirmed ≡ size = cc (is.rate, is.confirmed) in
     let long = body_length p in
     let blocks : ℕ = length p.shape.blocks.items in
-    count_of_blocks (body_of p) packet size blocks same is.written
+    count_of_blocks (packet_octets p) packet size blocks same is.written
     (subst (λ (k : ℕ). k + 4 ≤ blocks * size) (sym long) fit.holds.enough)
     (subst (λ (k : ℕ). blocks * size < k + 4 + size) (sym long) fit.holds.fewest)

@@ -1,9 +1,10 @@
 -- What the slots of a call send, part by part.
-use Rattle.std.proofs.Common.{◌≡◌, ℕ, zero, suc, ◌+◌, ◌-◌, ◌*◌, ◌/◌, ◌%◌, ◌<◌, ◌≤◌, ◌++◌, Bool, true, false, List, [], ◌∷◌, map, zip, length}
-use Rattle.std.proofs.Common.{arith, refl, ap, sym, ◌∙◌, subst, Option, Some, None, get_or, flat_map, replicate, drop, slice_get, if◌then◌else◌}
-use Rattle.std.proofs.Math.ListN.{get_or-append}
+use Rattle.std.proofs.Common.{◌≡◌, ℕ, zero, suc, ◌+◌, ◌-◌, ◌/◌, ◌%◌, ◌<◌, ◌≤◌, ◌++◌, Bool, true, false, List, [], ◌∷◌, map}
+use Rattle.std.proofs.Common.{zip, length}
+use Rattle.std.proofs.Common.{arith, refl, ap, sym, ◌∙◌, subst, Option, Some, None, get_or, flat_map, replicate, drop, slice_get}
+use Rattle.std.proofs.Common.{if◌then◌else◌}
 use Rattle.std.proofs.lemmas.Option.{slice_get_within, get_or_from_slice_get}
-use Rattle.std.proofs.lemmas.List.{length-map, append-nil, map-append, length-replicate, get_or-append-add, length-append}
+use Rattle.std.proofs.lemmas.List.{length-map, map-append, length-replicate, get_or-append-add}
 use Rattle.dmr_burst.specs.DataTypes.{terminator_with_lc}
 use Rattle.dmr_burst.specs.declared.burst.Burst.TheVariants as burst
 use Rattle.dmr_hearing.proofs.OneLinkControl.{one_carrier}
@@ -11,18 +12,21 @@ use Rattle.dmr_hearing.specs.Slots.{SentSlot, Silent, Data}
 use Rattle.dmr_link.specs.declared.full_lc.FullLc.{FullLc}
 use Rattle.dmr_making.proofs.Standing.{at_left, at_seam, at_right, at_replicate, at_drop, at_map, at_read}
 use Rattle.dmr_making.proofs.Superframes.{place_at, voice_at, length_voice, index_is, place_index, IsFullAt}
-use Rattle.dmr_making.specs.Calls.{AreFieldsOf, CallForms, AreFormsOf, superframe_slots, superframes_from, voice_slots, headed_slots}
-use Rattle.dmr_making.specs.Calls.{tail_slots, late_slots, header_slot, silences_behind, lead_of, ending_of, headed_call, late_call, slots_sent}
+use Rattle.dmr_making.specs.Calls.{AreFieldsOf, CallForms, superframe_slots, superframes_from, voice_slots}
+use Rattle.dmr_making.specs.Calls.{headed_slots}
+use Rattle.dmr_making.specs.Calls.{tail_slots, late_slots, header_slot, silences_behind, lead_of, call_ending, headed_call}
+use Rattle.dmr_making.specs.Calls.{late_call, slots_sent}
 use Rattle.dmr_making.specs.Calls.{six_fields, places_with}
-use Rattle.dmr_making.specs.Made.{IsMade, IsBurstOf, vocoder_of_frame}
+use Rattle.dmr_making.specs.Made.{IsMade, IsMobileBurst, vocoder_of_frame}
 use Rattle.dmr_making.specs.Places.{full_slots, lcss_with}
 use Rattle.dmr_making.specs.Standing.{HoldsAt}
 use Rattle.dmr_script.specs.declared.call.Call.{Call}
 use Rattle.dmr_script.specs.declared.shape.HeaderKind.{HeaderKind}
 use Rattle.dmr_script.specs.declared.shape.HeaderKind.TheVariants as header
 use Rattle.dmr_script.specs.declared.shape.Headers.{Headers}
-use Rattle.dmr_voice.specs.CallMeaning.{Cell, Superframe, Ending, Lead, cells, superframe_cells, ending_cells, lead_cell, header_cell}
-use Rattle.dmr_voice.specs.CallMeaning.{Present, is_complete, place_cell, data_cell, LateCall, VoiceCall, HeadersAlone, Transmission}
+use Rattle.dmr_voice.specs.CallMeaning.{Cell, Superframe, superframe_cells, ending_cells, lead_cell}
+use Rattle.dmr_voice.specs.CallMeaning.{header_cell}
+use Rattle.dmr_voice.specs.CallMeaning.{Present, is_complete, place_cell, data_cell}
 use Rattle.dmr_voice.specs.Places.{option_or, voice_of, lcss}
 use Rattle.dmr_voice.specs.declared.place.Place.{Place}
 use Rattle.dmr_voice.specs.declared.place.Place.TheVariants.{A, B, C, D, E, F}
@@ -80,7 +84,7 @@ sent_leads call forms (header.Privacy ∷ kinds) =
 
 -- terminators
 sent_ending : (call : Call) (forms : CallForms) (n : ℕ)
-    → sent (ending_cells call.link_control (ending_of forms n))
+    → sent (ending_cells call.link_control (call_ending forms n))
     ≡ replicate n (Data terminator_with_lc forms.terminator (Some call.link_control))
 sent_ending call forms zero = refl
 sent_ending call forms (suc n) =
@@ -90,11 +94,11 @@ sent_ending call forms (suc n) =
 -- the voice of a call, and what ends it
 sent_voice : (colour : ℕ) (call : Call) (forms : CallForms) (known : Option FullLc)
     → sent (superframe_cells colour known (superframes_from call forms.fields 0 call.shape.places.items)
-    ++ ending_cells call.link_control (ending_of forms call.shape.terminators))
+    ++ ending_cells call.link_control (call_ending forms call.shape.terminators))
     ≡ voice_slots colour call forms
 sent_voice colour call forms known =
     let ss : List Superframe = superframes_from call forms.fields 0 call.shape.places.items in
-    let ends : List Cell = ending_cells call.link_control (ending_of forms call.shape.terminators) in
+    let ends : List Cell = ending_cells call.link_control (call_ending forms call.shape.terminators) in
     map-append (λ (c : Cell). c.sent) (superframe_cells colour known ss) ends
     ∙ both (sent (superframe_cells colour known ss)) (sent ends) (flat_map (superframe_slots colour) ss)
     (replicate call.shape.terminators (Data terminator_with_lc forms.terminator (Some call.link_control)))
@@ -105,11 +109,14 @@ sent_voice colour call forms known =
 -- the burst of a place that carries a fragment
 fragment_at : (colour frame : ℕ) (pi : Bool) (carried : Option FullLc) (field fragment : ℕ) (octets : List ℕ)
     → (place : Place) → (lcss place carried ≡ lcss_with carried fragment)
-    → IsBurstOf (burst.Voice (record { colour = colour; pi = pi; lcss = lcss_with carried fragment }) field (vocoder_of_frame frame))
+    → IsMobileBurst (burst.Voice (record { colour = colour; pi = pi; lcss = lcss_with carried fragment }) field (vocoder_of_frame
+    frame))
     octets
-    → IsBurstOf (burst.Voice (record { colour = colour; pi = pi; lcss = lcss place carried }) field (vocoder_of_frame frame)) octets
+    → IsMobileBurst (burst.Voice (record { colour = colour; pi = pi; lcss = lcss place carried }) field (vocoder_of_frame frame))
+    octets
 fragment_at colour frame pi carried field fragment octets place e b =
-    subst (λ (k : ℕ). IsBurstOf (burst.Voice (record { colour = colour; pi = pi; lcss = k }) field (vocoder_of_frame frame)) octets)
+    subst (λ (k : ℕ). IsMobileBurst (burst.Voice (record { colour = colour; pi = pi; lcss = k }) field (vocoder_of_frame frame))
+    octets)
     (sym e) b
 
 -- the LCSS of a place is its fragment, where there is a link control
@@ -135,38 +142,38 @@ fragment_of_F (Some lc) = refl
 
 -- So the burst of each place is what a superframe sends there, where all of it is there.
 pub full_B : (colour frame : ℕ) (pi : Bool) (carried : Option FullLc) (fields octets : List ℕ)
-    → IsBurstOf (burst.Voice (record { colour = colour; pi = pi; lcss = lcss_with carried 1 }) (get_or fields 0 0)
+    → IsMobileBurst (burst.Voice (record { colour = colour; pi = pi; lcss = lcss_with carried 1 }) (get_or fields 0 0)
     (vocoder_of_frame frame)) octets
     → HoldsAt (λ (slot : SentSlot). IsMade colour frame slot (Some octets)) (full_slots colour pi carried fields) 1
 full_B colour frame pi carried fields octets b =
     fragment_at colour frame pi carried (get_or fields 0 0) 1 octets B (fragment_of_B carried) b
 
 pub full_C : (colour frame : ℕ) (pi : Bool) (carried : Option FullLc) (fields octets : List ℕ)
-    → IsBurstOf (burst.Voice (record { colour = colour; pi = pi; lcss = lcss_with carried 3 }) (get_or fields 1 0)
+    → IsMobileBurst (burst.Voice (record { colour = colour; pi = pi; lcss = lcss_with carried 3 }) (get_or fields 1 0)
     (vocoder_of_frame frame)) octets
     → HoldsAt (λ (slot : SentSlot). IsMade colour frame slot (Some octets)) (full_slots colour pi carried fields) 2
 full_C colour frame pi carried fields octets b =
     fragment_at colour frame pi carried (get_or fields 1 0) 3 octets C (fragment_of_C carried) b
 
 pub full_D : (colour frame : ℕ) (pi : Bool) (carried : Option FullLc) (fields octets : List ℕ)
-    → IsBurstOf (burst.Voice (record { colour = colour; pi = pi; lcss = lcss_with carried 3 }) (get_or fields 2 0)
+    → IsMobileBurst (burst.Voice (record { colour = colour; pi = pi; lcss = lcss_with carried 3 }) (get_or fields 2 0)
     (vocoder_of_frame frame)) octets
     → HoldsAt (λ (slot : SentSlot). IsMade colour frame slot (Some octets)) (full_slots colour pi carried fields) 3
 full_D colour frame pi carried fields octets b =
     fragment_at colour frame pi carried (get_or fields 2 0) 3 octets D (fragment_of_D carried) b
 
 pub full_E : (colour frame : ℕ) (pi : Bool) (carried : Option FullLc) (fields octets : List ℕ)
-    → IsBurstOf (burst.Voice (record { colour = colour; pi = pi; lcss = lcss_with carried 2 }) (get_or fields 3 0)
+    → IsMobileBurst (burst.Voice (record { colour = colour; pi = pi; lcss = lcss_with carried 2 }) (get_or fields 3 0)
     (vocoder_of_frame frame)) octets
     → HoldsAt (λ (slot : SentSlot). IsMade colour frame slot (Some octets)) (full_slots colour pi carried fields) 4
 full_E colour frame pi carried fields octets b =
     fragment_at colour frame pi carried (get_or fields 3 0) 2 octets E (fragment_of_E carried) b
 
 pub full_F : (colour frame : ℕ) (pi : Bool) (carried : Option FullLc) (fields octets : List ℕ)
-    → IsBurstOf (burst.Voice (record { colour = colour; pi = pi; lcss = 0 }) 0 (vocoder_of_frame frame)) octets
+    → IsMobileBurst (burst.Voice (record { colour = colour; pi = pi; lcss = 0 }) 0 (vocoder_of_frame frame)) octets
     → HoldsAt (λ (slot : SentSlot). IsMade colour frame slot (Some octets)) (full_slots colour pi carried fields) 5
 full_F colour frame pi carried fields octets b =
-    subst (λ (k : ℕ). IsBurstOf (burst.Voice (record { colour = colour; pi = pi; lcss = k }) 0 (vocoder_of_frame frame)) octets)
+    subst (λ (k : ℕ). IsMobileBurst (burst.Voice (record { colour = colour; pi = pi; lcss = k }) 0 (vocoder_of_frame frame)) octets)
     (sym (fragment_of_F carried)) b
 
 -- A place of the voice: its burst where it is there, and nothing where it is absent.
@@ -230,7 +237,7 @@ pub sent_headed : (colour : ℕ) (call : Call) (forms : CallForms) (h : Headers)
 sent_headed colour call forms h [] e =
     let lc : FullLc = call.link_control in
     let leads : List Cell = map (lead_cell lc forms.header) (map (lead_of forms) h.more.items) in
-    let ends : List Cell = ending_cells lc (ending_of forms call.shape.terminators) in
+    let ends : List Cell = ending_cells lc (call_ending forms call.shape.terminators) in
     let last : SentSlot = Data terminator_with_lc forms.terminator (Some lc) in
     let none : flat_map (superframe_slots colour) (superframes_from call forms.fields 0 call.shape.places.items) ≡ [] =
     ap (λ (l : List Bool). flat_map (superframe_slots colour) (superframes_from call forms.fields 0 l)) (sym e) in
@@ -245,10 +252,10 @@ sent_headed colour call forms h (b ∷ bs) e =
     let leads : List Cell = map (lead_cell lc forms.header) (map (lead_of forms) h.more.items) in
     let gap : List Cell = replicate h.silences (record (header_cell lc forms.header) { sent = Silent }) in
     let voice : List Cell = superframe_cells colour (Some lc) (superframes_from call forms.fields 0 (b ∷ bs))
-    ++ ending_cells lc (ending_of forms call.shape.terminators) in
+    ++ ending_cells lc (call_ending forms call.shape.terminators) in
     let same : sent voice ≡ voice_slots colour call forms =
     ap (λ (l : List Bool). sent (superframe_cells colour (Some lc) (superframes_from call forms.fields 0 l)
-    ++ ending_cells lc (ending_of forms call.shape.terminators))) e
+    ++ ending_cells lc (call_ending forms call.shape.terminators))) e
     ∙ sent_voice colour call forms (Some lc) in
     ap (λ (l : List SentSlot). header_slot call forms header.Voice ∷ l)
     (map-append (λ (c : Cell). c.sent) leads (gap ++ voice)
@@ -346,7 +353,11 @@ pub late_front : (P : SentSlot → Type 0) (colour : ℕ) (call : Call) (forms :
     → HoldsAt P (late_slots colour call forms tail) place
 late_front P colour call forms tail place five inside here =
     let long : length (tail_slots colour call forms tail) ≡ length tail = length_tail colour call forms tail five in
-    at_left P (tail_slots colour call forms tail) (slots_sent colour (late_call call forms [])) place (omega (arith, long, inside)) here
+    at_left P (tail_slots colour call forms tail) (slots_sent colour (late_call call forms [])) place (omega (
+      arith,
+      long,
+      inside,
+    )) here
 
 -- and from there on
 pub late_voice : (P : SentSlot → Type 0) (colour : ℕ) (call : Call) (forms : CallForms) (tail : List Bool) (place : ℕ)

@@ -2,7 +2,8 @@
 use Rattle.std.specs.Option.{IsSome, option_map}
 use Rattle.std.specs.Result.{IsOk, is_ok}
 use Rattle.dmr_bits.specs.Packing.{pow_suc}
-use Rattle.std.proofs.Common.{◌∙◌, refl, subst, sym, ap, Result, Ok, Option, Some, None, ◌≡◌, ℕ, zero, suc, ◌+◌, ◌*◌, ◌^◌, ◌<◌, true, false, Bool, List, [], ◌∷◌, ◌++◌, arith}
+use Rattle.std.proofs.Common.{◌∙◌, refl, subst, sym, ap, Result, Ok, Option, Some, None, ◌≡◌, ℕ, zero, suc, ◌+◌, ◌*◌, ◌^◌, ◌<◌}
+use Rattle.std.proofs.Common.{true, false, Bool, List, [], ◌∷◌, ◌++◌, arith}
 use Rattle.std.specs.Bool.{if◌then◌else◌}
 use Rattle.std.specs.List.{AllZip}
 use Rattle.dmr_making.specs.Packets.{flags_from, is_among}

@@ -1,5 +1,5 @@
 -- What goes out is a recording of what is sent.
-use Rattle.std.proofs.Common.{◌≡◌, ℕ, List, Option, Some, None, sym, subst, refl}
+use Rattle.std.proofs.Common.{ℕ, List, Option, Some, None, sym, subst, refl}
 use Rattle.dmr_hearing.proofs.Undamaged.{data_recorded, voice_sync_recorded, voice_recorded}
 use Rattle.dmr_hearing.specs.Damage.{IsSentSlot, IsRecordedAs}
 use Rattle.dmr_hearing.specs.Slots.{SentSlot, Silent, Data, VoiceSync, Voice, ForeignVoice, ForeignData, CutOff}

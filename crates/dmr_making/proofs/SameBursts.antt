@@ -1,12 +1,7 @@
 -- Information that is said in one way: what a burst carries of a link control, a block or a header is pinned.
-use Rattle.std.proofs.Common.{◌≡◌, ℕ, ◌<◌, Bool, List, All, length, take, subst, sym, ◌∙◌}
-use Rattle.dmr_bits.specs.Bits.{bits_of_octets}
-use Rattle.dmr_bptc.proofs.Written.{one_written}
+use Rattle.std.proofs.Common.{◌≡◌, ℕ, Bool, List, subst}
 use Rattle.dmr_bptc.specs.ProductWord.{IsWritten}
 use Rattle.dmr_burst.specs.declared.burst.Burst.TheVariants as burst
-use Rattle.dmr_checks.proofs.Blocks.{sealed_alike}
-use Rattle.dmr_checks.specs.Sealed.{IsSealed}
-use Rattle.dmr_checks.specs.declared.sealing.Mask.TheVariants as mask
 use Rattle.dmr_csbk.proofs.Blocks.{same_message as same_csbk}
 use Rattle.dmr_csbk.specs.Block.{IsCsbk}
 use Rattle.dmr_csbk.specs.declared.block.Csbk.{Csbk}
@@ -17,13 +12,13 @@ use Rattle.dmr_link.proofs.SealedForms.{same_message as same_lc}
 use Rattle.dmr_link.specs.Sealed.{IsLc}
 use Rattle.dmr_link.specs.declared.full_lc.FullLc.{FullLc}
 use Rattle.dmr_link.specs.declared.sealing.LcUse.{LcUse}
-use Rattle.dmr_making.specs.Information.{IsLcInformation, IsCsbkInformation, IsHeaderInformation, IsPiInformation}
-use Rattle.dmr_making.specs.Made.{IsBurstOf}
+use Rattle.dmr_making.specs.Information.{IsLcInformation, IsCsbkInformation, IsHeaderInformation}
+use Rattle.dmr_making.specs.Made.{IsMobileBurst}
 
 -- a burst of one information is one of another that is equal
-pub same_data : (colour kind : ℕ) (octets : List ℕ) (a b : List Bool) → a ≡ b → IsBurstOf (burst.Data colour kind a) octets
-    → IsBurstOf (burst.Data colour kind b) octets
-same_data colour kind octets a b e p = subst (λ (x : List Bool). IsBurstOf (burst.Data colour kind x) octets) e p
+pub same_data : (colour kind : ℕ) (octets : List ℕ) (a b : List Bool) → a ≡ b → IsMobileBurst (burst.Data colour kind a) octets
+    → IsMobileBurst (burst.Data colour kind b) octets
+same_data colour kind octets a b e p = subst (λ (x : List Bool). IsMobileBurst (burst.Data colour kind x) octets) e p
 
 -- what is written for a message is written for another that is equal
 pub written_for : (m n information : List Bool) → m ≡ n → IsWritten m information → IsWritten n information

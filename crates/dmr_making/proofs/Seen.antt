@@ -1,6 +1,7 @@
 -- The slots of a transmission are seen as what is sent in them.
-use Rattle.std.proofs.Common.{◌≡◌, ℕ, zero, suc, ◌-◌, ◌≤◌, Bool, true, false, List, [], ◌∷◌, ◌++◌, map, zip, drop, length, replicate, flat_map}
-use Rattle.std.proofs.Common.{arith, refl, ap, sym, ◌∙◌, subst, get_or, Option, Some, None, if◌then◌else◌}
+use Rattle.std.proofs.Common.{◌≡◌, ℕ, zero, suc, ◌-◌, ◌≤◌, Bool, true, false, List, [], ◌∷◌, ◌++◌, map, zip, drop, length}
+use Rattle.std.proofs.Common.{replicate, flat_map}
+use Rattle.std.proofs.Common.{arith, refl, ap, sym, subst, get_or, Option, Some, None, if◌then◌else◌}
 use Rattle.std.specs.List.{AllZip, AllByRecursion}
 use Rattle.dmr_bits.specs.Bits.{bits_of_octets}
 use Rattle.dmr_burst.specs.DataTypes as data_type
@@ -10,25 +11,26 @@ use Rattle.dmr_hearing.specs.Slots.{SentSlot, Silent, Data, VoiceSync, Voice, Fo
 use Rattle.dmr_link.specs.declared.full_lc.FullLc.{FullLc}
 use Rattle.dmr_making.proofs.CallSlots.{sent_headed, sent_late}
 use Rattle.dmr_making.specs.Calls.{CallForms, AreFormsOf, place_slot, superframe_slots, superframes_from, header_slot, voice_slots}
-use Rattle.dmr_making.specs.Calls.{headed_call, late_call, call_with, slots_with, slots_sent, silences_behind, late_slots, tail_slots}
+use Rattle.dmr_making.specs.Calls.{headed_call, late_call, started_call, slots_with, slots_sent, silences_behind, late_slots}
+use Rattle.dmr_making.specs.Calls.{tail_slots}
 use Rattle.dmr_making.specs.Calls.{places_with, six_fields}
 use Rattle.dmr_making.specs.Fit.{IsFitStart}
 use Rattle.dmr_making.specs.Seen.{IsSeenAs, AreSeenAs}
-use Rattle.dmr_making.specs.Sends.{Sent}
 use Rattle.dmr_script.specs.declared.call.Call.{Call}
 use Rattle.dmr_script.specs.declared.shape.CallStart.{CallStart}
 use Rattle.dmr_script.specs.declared.shape.CallStart.TheVariants as start
 use Rattle.dmr_script.specs.declared.shape.HeaderKind.{HeaderKind}
 use Rattle.dmr_script.specs.declared.shape.HeaderKind.TheVariants as header
 use Rattle.dmr_script.specs.declared.shape.Headers.{Headers}
-use Rattle.dmr_voice.specs.CallMeaning.{Present, Superframe, Transmission}
+use Rattle.dmr_voice.specs.CallMeaning.{Present, Superframe}
 use Rattle.dmr_voice.specs.Places.{lcss}
 use Rattle.dmr_voice.specs.declared.place.Place.{Place}
 use Rattle.dmr_voice.specs.declared.place.Place.TheVariants.{A, B, C, D, E, F}
 
 -- 1. Lists.
 
-pub all_append : {X : Type 0} (P : X → Type 0) (xs ys : List X) → AllByRecursion P xs → AllByRecursion P ys → AllByRecursion P (xs ++ ys)
+pub all_append : {X : Type 0} (P : X → Type 0) (xs ys : List X) → AllByRecursion P xs → AllByRecursion P ys
+    → AllByRecursion P (xs ++ ys)
 all_append P [] ys p q = q
 all_append P (x ∷ xs) ys p q = (p.0, all_append P xs ys p.1 q)
 
@@ -86,7 +88,8 @@ pub all_seen : (colour : ℕ) (slots : List SentSlot) → AllByRecursion (IsPlai
 all_seen colour [] p = tt
 all_seen colour (s ∷ slots) p = (plain_seen colour s p.0, all_seen colour slots p.1)
 
-pub all_sent : (colour : ℕ) (slots : List SentSlot) → AllByRecursion (IsPlain colour) slots → AllByRecursion (IsSentSlot colour) slots
+pub all_sent : (colour : ℕ) (slots : List SentSlot) → AllByRecursion (IsPlain colour) slots
+    → AllByRecursion (IsSentSlot colour) slots
 all_sent colour [] p = tt
 all_sent colour (s ∷ slots) p = (plain_sent colour s p.0, all_sent colour slots p.1)
 
@@ -110,7 +113,8 @@ sent_tail colour call forms (b ∷ tail) =
     ap (λ (l : List SentSlot). (if b then CutOff else Silent) ∷ l) (sent_tail colour call forms tail)
 
 -- a place of a superframe
-place_plain : (colour : ℕ) (carries : Option FullLc) (place : Place) (y : Option Present) → IsPlain colour (place_slot colour carries place y)
+place_plain : (colour : ℕ) (carries : Option FullLc) (place : Place) (y : Option Present)
+    → IsPlain colour (place_slot colour carries place y)
 place_plain colour carries A None = tt
 place_plain colour carries B None = tt
 place_plain colour carries C None = tt
@@ -150,9 +154,11 @@ headed_plain colour call forms h p =
     let gap : ℕ = silences_behind call.shape.places.items h in
     subst (AllByRecursion (IsPlain colour)) (sym (sent_headed colour call forms h call.shape.places.items refl)) (
       header_plain colour call forms header.Voice p,
-      all_append (IsPlain colour) (map (header_slot call forms) h.more.items) (replicate gap Silent ++ voice_slots colour call forms)
+      all_append (IsPlain colour) (map (header_slot call forms) h.more.items) (replicate gap Silent ++ voice_slots colour call
+          forms)
           (all_map (IsPlain colour) (header_slot call forms) h.more.items (λ kind. header_plain colour call forms kind p))
-          (all_append (IsPlain colour) (replicate gap Silent) (voice_slots colour call forms) (all_same (IsPlain colour) gap Silent tt)
+          (all_append (IsPlain colour) (replicate gap Silent) (voice_slots colour call forms) (all_same (IsPlain colour) gap
+          Silent tt)
           (voice_plain colour call forms p)),
     )
 
@@ -256,6 +262,6 @@ headed_seen colour call forms h p =
 
 -- any call
 pub call_seen : (colour : ℕ) (call : Call) (forms : CallForms) (s : CallStart) → AreFormsOf call forms → IsFitStart s
-    → AreSeenAs colour (record { transmission = call_with call forms s; slots = slots_with colour call forms s })
+    → AreSeenAs colour (record { transmission = started_call call forms s; slots = slots_with colour call forms s })
 call_seen colour call forms (start.Headers h) p fit = headed_seen colour call forms h p
 call_seen colour call forms (start.Late tail) p fit = late_seen colour call forms tail.items p fit

@@ -1,30 +1,28 @@
 -- The slots of tries and of data bursts are seen as what is sent in them.
-use Rattle.std.proofs.Common.{◌≡◌, ℕ, zero, suc, Bool, true, false, List, [], ◌∷◌, ◌++◌, map, zip, drop, length, replicate}
-use Rattle.std.proofs.Common.{arith, refl, ap, sym, ◌∙◌, subst, Option, Some, None, if◌then◌else◌}
+use Rattle.std.proofs.Common.{◌≡◌, ℕ, Bool, true, false, List, [], ◌∷◌, ◌++◌, map, drop, length, replicate}
+use Rattle.std.proofs.Common.{refl, ap, sym, ◌∙◌, subst, Option, Some, None}
 use Rattle.std.specs.List.{AllZip, AllByRecursion}
-use Rattle.std.proofs.lemmas.List.{map-append}
 use Rattle.dmr_bits.specs.Bits.{bits_of_octets}
 use Rattle.dmr_burst.specs.DataTypes as data_type
-use Rattle.dmr_csbk.specs.declared.block.Csbk.{Csbk}
 use Rattle.dmr_data.proofs.Existing.{length-sent}
 use Rattle.dmr_data.specs.Block.{IsWrittenBlock}
 use Rattle.dmr_data.specs.declared.block.Block.{Block as DataBlock}
 use Rattle.dmr_data.specs.declared.rate.Rate.{Rate}
 use Rattle.dmr_data.specs.declared.rate.Rate.TheVariants.{Half, Full}
-use Rattle.dmr_gateway.specs.Heard.{kind_of_rate}
+use Rattle.dmr_making.specs.Information.{kind_at_rate}
 use Rattle.dmr_hearing.specs.Slots.{SentSlot, Silent, Data}
-use Rattle.dmr_making.proofs.CallSlots.{map_twice, both}
 use Rattle.dmr_making.proofs.Seen.{IsPlain, all_seen, all_sent, all_append, call_seen}
-use Rattle.dmr_making.specs.Calls.{slots_sent, AreFormsOf}
+use Rattle.dmr_making.specs.Calls.{slots_sent}
 use Rattle.dmr_making.specs.Controls.{control_slot, csbk_control, lone_control, IsLoneInformation}
-use Rattle.dmr_making.specs.Information.{IsCsbkInformation, IsHeaderInformation}
+use Rattle.dmr_making.specs.Information.{IsCsbkInformation}
 use Rattle.dmr_making.specs.Packets.{status_try}
 use Rattle.dmr_making.specs.Fit.{IsFitRaw}
 use Rattle.dmr_making.specs.Seen.{AreSeenAs, IsSeenAs}
-use Rattle.dmr_making.specs.Senders.{IsFitSaid}
-use Rattle.dmr_making.specs.Sends.{Sent, Sends, SendsTry, SendsCall, SendsAgain, SendsLone, one_burst}
-use Rattle.dmr_making.specs.Tries.{TryForms, AreTryForms, preamble_of, counts_down, block_slots, blocks_with, try_slots, transmission_of_try}
-use Rattle.dmr_making.specs.declared.tries.Try.{Try}
+use Rattle.dmr_making.specs.Senders.{IsSendable}
+use Rattle.dmr_making.specs.Sends.{Transmitted, SendsSaid, SendsTry, SendsAgain, one_burst}
+use Rattle.dmr_making.specs.Tries.{TryForms, preamble_of, counts_down, block_slots, blocks_with, try_slots}
+use Rattle.dmr_making.specs.Tries.{transmission_of_try}
+use Rattle.dmr_making.specs.declared.tries.SentTry.{SentTry}
 use Rattle.dmr_script.specs.declared.control.LoneBurst.{LoneBurst}
 use Rattle.dmr_script.specs.declared.control.LoneBurst.TheVariants as lone
 use Rattle.dmr_script.specs.declared.packet.Again.{Again}
@@ -32,8 +30,7 @@ use Rattle.dmr_script.specs.declared.packet.Again.TheVariants as again
 use Rattle.dmr_script.specs.declared.packet.PacketTry.{PacketTry}
 use Rattle.dmr_script.specs.declared.statement.Transmission.{Transmission as Said}
 use Rattle.dmr_script.specs.declared.statement.Transmission.TheVariants as said
-use Rattle.dmr_voice.specs.CallMeaning.{Cell, Control, DataTry, cells, data_cell}
-use Rattle.dmr_voice.specs.declared.said.Role.TheVariants as role
+use Rattle.dmr_voice.specs.CallMeaning.{Control, DataTry}
 
 -- 1. Tries.
 
@@ -44,14 +41,14 @@ sent_blocks : (colour : ℕ) (header : List Bool) (rate : Rate) (presence : List
 sent_blocks colour header rate [] forms = refl
 sent_blocks colour header rate (b ∷ bs) [] = refl
 sent_blocks colour header rate (true ∷ bs) (f ∷ fs) =
-    ap (λ (l : List SentSlot). Data data_type.data_header header None ∷ Data (kind_of_rate rate) f None ∷ drop 1 l)
+    ap (λ (l : List SentSlot). Data data_type.data_header header None ∷ Data (kind_at_rate rate) f None ∷ drop 1 l)
     (sent_blocks colour header rate bs fs)
 sent_blocks colour header rate (false ∷ bs) (f ∷ fs) =
     ap (λ (l : List SentSlot). Data data_type.data_header header None ∷ Silent ∷ drop 1 l) (sent_blocks colour header rate bs fs)
 
 -- a block
 block_plain : (colour : ℕ) (rate : Rate) (block : DataBlock) (bits : List Bool) → IsWrittenBlock rate block bits
-    → IsPlain colour (Data (kind_of_rate rate) bits None)
+    → IsPlain colour (Data (kind_at_rate rate) bits None)
 block_plain colour Half block bits w = (w.content, w.sent, refl)
 block_plain colour Full block bits w = (length-sent Full block bits w, refl)
 
@@ -65,7 +62,7 @@ blocks_plain colour rate (true ∷ bs) (x ∷ blocks) (f ∷ fs) p =
     (block_plain colour rate x f p.0, blocks_plain colour rate bs blocks fs p.1)
 blocks_plain colour rate (false ∷ bs) (x ∷ blocks) (f ∷ fs) p = (tt, blocks_plain colour rate bs blocks fs p.1)
 
-preambles_plain : (colour : ℕ) (t : Try) (lefts : List ℕ) (forms : List (List Bool))
+preambles_plain : (colour : ℕ) (t : SentTry) (lefts : List ℕ) (forms : List (List Bool))
     → AllZip (λ left information. IsCsbkInformation (preamble_of t left) information) lefts forms
     → AllByRecursion (IsPlain colour) (map (λ (information : List Bool). Data data_type.csbk information None) forms)
 preambles_plain colour t [] [] p = tt
@@ -75,17 +72,18 @@ preambles_plain colour t (l ∷ lefts) (f ∷ fs) p =
     ((p.0.message, p.0.block.sealed, p.0.written, refl), preambles_plain colour t lefts fs p.1)
 
 -- all slots of a try
-sent_try : (colour : ℕ) (t : Try) (before : ℕ) (presence : List Bool) (forms : TryForms)
+sent_try : (colour : ℕ) (t : SentTry) (before : ℕ) (presence : List Bool) (forms : TryForms)
     → slots_sent colour (transmission_of_try t before presence forms) ≡ try_slots t before presence forms
 sent_try colour t before presence forms = by_preambles forms.preambles
   where
-    by_preambles : (csbks : List (List Bool)) → slots_sent colour (DataTry csbks forms.header (blocks_with t.rate presence forms.blocks))
+    by_preambles : (csbks : List (List Bool))
+        → slots_sent colour (DataTry csbks forms.header (blocks_with t.rate presence forms.blocks))
         ≡ map (λ (information : List Bool). Data data_type.csbk information None) csbks
         ++ (Data data_type.data_header forms.header None ∷ block_slots t.rate presence forms.blocks)
     by_preambles [] = sent_blocks colour forms.header t.rate presence forms.blocks
     by_preambles (c ∷ csbks) = ap (λ (l : List SentSlot). Data data_type.csbk c None ∷ l) (by_preambles csbks)
 
-try_seen : (colour : ℕ) (t : Try) (before : ℕ) (presence : List Bool) (sent : Sent) → SendsTry t before presence sent
+try_seen : (colour : ℕ) (t : SentTry) (before : ℕ) (presence : List Bool) (sent : Transmitted) → SendsTry t before presence sent
     → AreSeenAs colour sent
 try_seen colour t before presence sent p =
     let slots : List SentSlot = try_slots t before presence p.forms in
@@ -106,7 +104,7 @@ try_seen colour t before presence sent p =
 
 -- 2. Data bursts by themselves.
 
-one_seen : (colour : ℕ) (control : Control) (sent : Sent) → sent ≡ one_burst control → IsPlain colour (control_slot control)
+one_seen : (colour : ℕ) (control : Control) (sent : Transmitted) → sent ≡ one_burst control → IsPlain colour (control_slot control)
     → AreSeenAs colour sent
 one_seen colour control sent e plain =
     let slots : List SentSlot = control_slot control ∷ [] in
@@ -128,13 +126,14 @@ lone_plain colour (lone.RateOne bits) information p raw = (ap (λ (l : List Bool
 
 -- 3. All of them.
 
-again_seen : (colour : ℕ) (p : PacketTry) (a : Again) (sent : Sent) → SendsAgain p a sent → AreSeenAs colour sent
+again_seen : (colour : ℕ) (p : PacketTry) (a : Again) (sent : Transmitted) → SendsAgain p a sent → AreSeenAs colour sent
 again_seen colour p (again.Full None) sent s = try_seen colour s.0 0 (replicate (length p.shape.blocks.items) true) sent s.2
 again_seen colour p (again.Full (Some shape)) sent s = try_seen colour s.0 shape.preambles shape.blocks.items sent s.2
 again_seen colour p (again.Partial partial) sent s =
     try_seen colour s.0 partial.shape.preambles partial.shape.blocks.items sent s.2
 
-pub all_seen_as : (colour : ℕ) (last : Option PacketTry) (t : Said) (sent : Sent) → IsFitSaid last t → Sends colour last t sent
+pub all_seen_as : (colour : ℕ) (last : Option PacketTry) (t : Said) (sent : Transmitted) → IsSendable last t
+    → SendsSaid colour last t sent
     → AreSeenAs colour sent
 all_seen_as colour last (said.Call call) sent fit s =
     subst (AreSeenAs colour) (sym s.is) (call_seen colour call s.forms call.shape.start s.forms_are fit.start)

@@ -10,7 +10,8 @@ at_left P (x ∷ xs) ys zero lt h = h
 at_left P (x ∷ xs) ys (suc k) lt h = at_left P xs ys k (omega arith) h
 
 -- and behind it what stands there in the second
-pub at_right : {X : Type 0} (P : X → Type 0) (xs ys : List X) (j k : ℕ) → k ≡ length xs + j → HoldsAt P ys j → HoldsAt P (xs ++ ys) k
+pub at_right : {X : Type 0} (P : X → Type 0) (xs ys : List X) (j k : ℕ) → k ≡ length xs + j → HoldsAt P ys j
+    → HoldsAt P (xs ++ ys) k
 at_right P [] ys j k e h = let same : j ≡ k = omega arith in subst (HoldsAt P ys) same h
 at_right P (x ∷ xs) ys j zero e h = absurd (omega arith)
 at_right P (x ∷ xs) ys j (suc k) e h = at_right P xs ys j k (omega arith) h

@@ -1,12 +1,14 @@
 -- What stands in a place of the voice of a call.
-use Rattle.std.proofs.Common.{◌≡◌, ℕ, zero, suc, ◌+◌, ◌*◌, ◌<◌, ◌≤◌, ◌++◌, Bool, true, false, List, [], ◌∷◌, map, zip, length, arith}
-use Rattle.std.proofs.Common.{refl, ap, sym, subst, Option, Some, None, get_or, flat_map, ◌∙◌}
+use Rattle.std.proofs.Common.{◌≡◌, ℕ, zero, suc, ◌+◌, ◌*◌, ◌<◌, ◌≤◌, ◌++◌, Bool, true, false, List, [], ◌∷◌, map, zip, length}
+use Rattle.std.proofs.Common.{arith}
+use Rattle.std.proofs.Common.{refl, sym, subst, Option, Some, get_or, flat_map, ◌∙◌}
 use Rattle.std.proofs.Math.ListN.{get_or-append}
 use Rattle.std.proofs.lemmas.List.{append-nil}
 use Rattle.dmr_hearing.specs.Slots.{SentSlot, Silent}
 use Rattle.dmr_link.specs.declared.full_lc.FullLc.{FullLc}
 use Rattle.dmr_making.proofs.Standing.{at_left, at_past}
-use Rattle.dmr_making.specs.Calls.{place_slot, places_with, six_fields, superframe_of, superframe_slots, superframes_from, carried_by}
+use Rattle.dmr_making.specs.Calls.{place_slot, places_with, six_fields, superframe_of, superframe_slots, superframes_from}
+use Rattle.dmr_making.specs.Calls.{carried_by}
 use Rattle.dmr_making.specs.Places.{full_slots}
 use Rattle.dmr_making.specs.Standing.{HoldsAt}
 use Rattle.dmr_script.specs.declared.call.Call.{Call}

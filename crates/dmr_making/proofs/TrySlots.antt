@@ -1,28 +1,24 @@
 -- What the slots of a try send, part by part.
-use Rattle.std.proofs.Common.{◌≡◌, ℕ, zero, suc, ◌+◌, ◌-◌, ◌<◌, ◌≤◌, ◌++◌, Bool, true, false, List, [], ◌∷◌, map, zip, length, drop}
+use Rattle.std.proofs.Common.{◌≡◌, ℕ, zero, suc, ◌+◌, ◌-◌, ◌<◌, ◌≤◌, Bool, true, false, List, [], ◌∷◌, map, length}
 use Rattle.std.proofs.Common.{arith, refl, ap, sym, ◌∙◌, subst, Option, Some, None, get_or, slice_get, Bor, All}
 use Rattle.std.specs.List.{AllZip}
 use Rattle.std.specs.Option.{option_copied}
 use Rattle.std.proofs.lemmas.List.Elements.{All-get_or}
 use Rattle.std.proofs.lemmas.Option.{get_or_from_slice_get, slice_get_within}
-use Rattle.std.proofs.lemmas.List.{length-map, map-append}
+use Rattle.std.proofs.lemmas.List.{length-map}
 use Rattle.std.proofs.lemmas.Slice.Zip.{AllZip-long}
 use Rattle.dmr_burst.specs.DataTypes.{csbk, data_header}
-use Rattle.dmr_csbk.specs.declared.block.Csbk.{Csbk}
 use Rattle.dmr_data.specs.Block.{IsWrittenBlock}
 use Rattle.dmr_data.specs.declared.block.Block.{Block}
 use Rattle.dmr_data.specs.declared.rate.Rate.{Rate}
-use Rattle.dmr_gateway.specs.Heard.{kind_of_rate}
+use Rattle.dmr_making.specs.Information.{kind_at_rate}
 use Rattle.dmr_hearing.specs.Slots.{SentSlot, Silent, Data}
-use Rattle.dmr_making.proofs.CallSlots.{map_twice, both, none_past}
+use Rattle.dmr_making.proofs.CallSlots.{none_past}
 use Rattle.dmr_making.proofs.Standing.{at_left, at_right, at_map, at_past}
-use Rattle.dmr_making.specs.Calls.{slots_sent}
 use Rattle.dmr_making.specs.Information.{IsCsbkInformation}
 use Rattle.dmr_making.specs.Standing.{HoldsAt}
 use Rattle.dmr_making.specs.Tries.{TryForms, AreTryForms, counts_down, preamble_of, block_slots, try_slots}
-use Rattle.dmr_making.specs.declared.tries.Try.{Try}
-use Rattle.dmr_voice.specs.CallMeaning.{Cell, DataTry, cells, data_cell}
-use Rattle.dmr_voice.specs.declared.said.Role.TheVariants as role
+use Rattle.dmr_making.specs.declared.tries.SentTry.{SentTry}
 
 -- what stands beside what is read of another list
 at_zip : {A B : Type 0} (P : B → Type 0) (R : A → B → Type 0) (xs : List A) (ys : List B) (k : ℕ) (x : A) → AllZip R xs ys
@@ -46,7 +42,7 @@ length_counts zero b = refl
 length_counts (suc n) b = let k = length_counts n b in omega (arith, k)
 
 -- there are as many of them as are sent
-length_preambles : (t : Try) (preambles : ℕ) (presence : List Bool) (forms : TryForms) → AreTryForms t preambles presence forms
+length_preambles : (t : SentTry) (preambles : ℕ) (presence : List Bool) (forms : TryForms) → AreTryForms t preambles presence forms
     → length (map (λ (information : List Bool). Data csbk information None) forms.preambles) ≡ preambles
 length_preambles t preambles presence forms p =
     length-map forms.preambles (λ (information : List Bool). Data csbk information None)
@@ -55,7 +51,7 @@ length_preambles t preambles presence forms p =
     ∙ length_counts preambles (length presence)
 
 -- a preamble
-pub preamble_at : (P : SentSlot → Type 0) (t : Try) (preambles : ℕ) (presence : List Bool) (forms : TryForms) (place : ℕ)
+pub preamble_at : (P : SentSlot → Type 0) (t : SentTry) (preambles : ℕ) (presence : List Bool) (forms : TryForms) (place : ℕ)
     → AreTryForms t preambles presence forms → place < preambles
     → ((information : List Bool) → IsCsbkInformation (preamble_of t (preambles - place + length presence)) information
     → P (Data csbk information None))
@@ -72,7 +68,7 @@ preamble_at P t preambles presence forms place p lt here =
     (counts_at preambles (length presence) place lt) here))
 
 -- the header
-pub header_at : (P : SentSlot → Type 0) (t : Try) (preambles : ℕ) (presence : List Bool) (forms : TryForms) (place : ℕ)
+pub header_at : (P : SentSlot → Type 0) (t : SentTry) (preambles : ℕ) (presence : List Bool) (forms : TryForms) (place : ℕ)
     → AreTryForms t preambles presence forms → place ≡ preambles → P (Data data_header forms.header None)
     → HoldsAt P (try_slots t preambles presence forms) place
 header_at P t preambles presence forms place p e here =
@@ -81,7 +77,7 @@ header_at P t preambles presence forms place p e here =
     (Data data_header forms.header None ∷ block_slots t.rate presence forms.blocks) 0 place (omega (arith, long, e)) here
 
 -- a block, by its place among these
-pub behind_header : (P : SentSlot → Type 0) (t : Try) (preambles : ℕ) (presence : List Bool) (forms : TryForms) (place : ℕ)
+pub behind_header : (P : SentSlot → Type 0) (t : SentTry) (preambles : ℕ) (presence : List Bool) (forms : TryForms) (place : ℕ)
     → AreTryForms t preambles presence forms → (place < preambles → ⊥) → (place ≡ preambles → ⊥)
     → HoldsAt P (block_slots t.rate presence forms.blocks) (place - preambles - 1)
     → HoldsAt P (try_slots t preambles presence forms) place
@@ -93,7 +89,8 @@ behind_header P t preambles presence forms place p past other here =
 
 -- a block is there or absent
 pub block_at : (P : SentSlot → Type 0) (rate : Rate) (presence : List Bool) (forms : List (List Bool)) (k : ℕ)
-    → (get_or presence k false ≡ true → HoldsAt (λ (information : List Bool). P (Data (kind_of_rate rate) information None)) forms k)
+    → (get_or presence k false ≡ true
+    → HoldsAt (λ (information : List Bool). P (Data (kind_at_rate rate) information None)) forms k)
     → (get_or presence k false ≡ false → P Silent)
     → HoldsAt P (block_slots rate presence forms) k
 block_at P rate [] forms k here silent = tt
@@ -103,18 +100,19 @@ block_at P rate (false ∷ bs) (f ∷ fs) zero here silent = silent refl
 block_at P rate (b ∷ bs) (f ∷ fs) (suc k) here silent = block_at P rate bs fs k here silent
 
 -- a block that is sent
-pub sent_block : (P : SentSlot → Type 0) (t : Try) (preambles : ℕ) (presence : List Bool) (forms : TryForms) (place : ℕ) (block : Block)
+pub sent_block : (P : SentSlot
+    → Type 0) (t : SentTry) (preambles : ℕ) (presence : List Bool) (forms : TryForms) (place : ℕ) (block : Block)
     → AreTryForms t preambles presence forms → slice_get t.blocks place ≡ Some block → get_or presence place false ≡ true
-    → ((information : List Bool) → IsWrittenBlock t.rate block information → P (Data (kind_of_rate t.rate) information None))
+    → ((information : List Bool) → IsWrittenBlock t.rate block information → P (Data (kind_at_rate t.rate) information None))
     → HoldsAt P (block_slots t.rate presence forms.blocks) place
 sent_block P t preambles presence forms place block p e there here =
     block_at P t.rate presence forms.blocks place
-    (λ q. at_zip (λ (information : List Bool). P (Data (kind_of_rate t.rate) information None))
+    (λ q. at_zip (λ (information : List Bool). P (Data (kind_at_rate t.rate) information None))
     (λ block information. IsWrittenBlock t.rate block information) t.blocks forms.blocks place block p.blocks e here)
     (λ q. absurd (cc (there, q)))
 
 -- no block past the last
-pub no_block : (P : SentSlot → Type 0) (t : Try) (preambles : ℕ) (presence : List Bool) (forms : TryForms) (place : ℕ)
+pub no_block : (P : SentSlot → Type 0) (t : SentTry) (preambles : ℕ) (presence : List Bool) (forms : TryForms) (place : ℕ)
     → AreTryForms t preambles presence forms → slice_get t.blocks place ≡ None → get_or presence place false ≡ true
     → HoldsAt P (block_slots t.rate presence forms.blocks) place
 no_block P t preambles presence forms place p e there =
@@ -122,7 +120,7 @@ no_block P t preambles presence forms place p e there =
     let long : length forms.blocks ≡ length t.blocks =
     AllZip-long (λ block information. IsWrittenBlock t.rate block information) t.blocks forms.blocks p.blocks in
     block_at P t.rate presence forms.blocks place
-    (λ q. at_past (λ (information : List Bool). P (Data (kind_of_rate t.rate) information None)) forms.blocks place
+    (λ q. at_past (λ (information : List Bool). P (Data (kind_at_rate t.rate) information None)) forms.blocks place
     (omega (arith, past, long)))
     (λ q. absurd (cc (there, q)))
 

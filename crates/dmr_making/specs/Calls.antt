@@ -1,5 +1,6 @@
 -- A call of a script as a transmission, and what each of its slots sends.
-use Rattle.std.specs.Prelude.{◌≡◌, ℕ, zero, suc, ◌-◌, ◌%◌, Bool, true, List, [], ◌∷◌, ◌++◌, map, drop, length, replicate, flat_map, zip}
+use Rattle.std.specs.Prelude.{◌≡◌, ℕ, zero, suc, ◌-◌, ◌%◌, Bool, true, List, [], ◌∷◌, ◌++◌, map, drop, length, replicate, flat_map}
+use Rattle.std.specs.Prelude.{zip}
 use Rattle.std.specs.Prelude.{slice_index_or, Option, Some, None, if◌then◌else◌}
 use Rattle.dmr_hearing.specs.Fields.{IsCarrier}
 use Rattle.dmr_burst.specs.DataTypes.{pi_header, voice_lc_header, terminator_with_lc}
@@ -87,30 +88,30 @@ lead_of forms header.Voice = HeaderAgain
 lead_of forms header.Privacy = PiHeader forms.pi_header
 
 -- by so many terminators a call ends, or by silence where there are none
-abbrev pub ending_of : CallForms → ℕ → Ending
-ending_of forms zero = Silenced
-ending_of forms (suc more) = Terminated forms.terminator more
+abbrev pub call_ending : CallForms → ℕ → Ending
+call_ending forms zero = Silenced
+call_ending forms (suc more) = Terminated forms.terminator more
 
 -- The transmission that a call with its headers is: headers alone where no place follows them.
 abbrev pub headed_call : Call → CallForms → Headers → List Bool → Transmission
 headed_call call forms h [] = HeadersAlone call.link_control forms.header (map (lead_of forms) h.more.items)
-    (ending_of forms call.shape.terminators)
+    (call_ending forms call.shape.terminators)
 headed_call call forms h (place ∷ places) = VoiceCall call.link_control forms.header (map (lead_of forms) h.more.items) h.silences
-    (superframes_from call forms.fields 0 (place ∷ places)) (ending_of forms call.shape.terminators)
+    (superframes_from call forms.fields 0 (place ∷ places)) (call_ending forms call.shape.terminators)
 
 -- The transmission that the rest of a call is, behind these places of which it is said whether a burst is there.
 abbrev pub late_call : Call → CallForms → List Bool → Transmission
 late_call call forms tail = LateCall call.link_control tail (superframes_from call forms.fields 0 call.shape.places.items)
-    (ending_of forms call.shape.terminators)
+    (call_ending forms call.shape.terminators)
 
 -- The transmission that a call with this in front of its first A is.
-abbrev pub call_with : Call → CallForms → CallStart → Transmission
-call_with call forms (start.Headers h) = headed_call call forms h call.shape.places.items
-call_with call forms (start.Late tail) = late_call call forms tail.items
+abbrev pub started_call : Call → CallForms → CallStart → Transmission
+started_call call forms (start.Headers h) = headed_call call forms h call.shape.places.items
+started_call call forms (start.Late tail) = late_call call forms tail.items
 
 -- The transmission that a call is.
 abbrev pub call_of : Call → CallForms → Transmission
-call_of call forms = call_with call forms call.shape.start
+call_of call forms = started_call call forms call.shape.start
 
 -- 3. What its slots send.
 

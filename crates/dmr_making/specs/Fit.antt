@@ -1,5 +1,5 @@
 -- What a script's values have to fit, so that there are bursts for them.
-use Rattle.std.specs.Prelude.{ℕ, ◌≡◌, ◌<◌, ◌≤◌, All, length}
+use Rattle.std.specs.Prelude.{◌≡◌, ◌<◌, ◌≤◌, All, length}
 use Rattle.dmr_script.specs.declared.call.Call.{Call}
 use Rattle.dmr_script.specs.declared.call.Carried.{Carried}
 use Rattle.dmr_script.specs.declared.call.Carried.TheVariants.{Own, Nothing, LinkControl}

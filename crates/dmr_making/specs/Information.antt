@@ -1,14 +1,16 @@
 -- The information of the data bursts that a script names, with all check bits. ETSI TS 102 361-1, clauses 7 to 9.
 use Rattle.std.specs.Prelude.{◌≡◌, ℕ, ◌<◌, All, List, Bool, length, take}
-use Rattle.dmr_bits.specs.Bits.{bits_of_octets, octets_of}
+use Rattle.dmr_bits.specs.Bits.{bits_of_octets}
 use Rattle.dmr_bptc.specs.ProductWord.{IsWritten}
-use Rattle.dmr_burst.specs.DataTypes.{voice_lc_header, terminator_with_lc}
+use Rattle.dmr_burst.specs.DataTypes.{voice_lc_header, terminator_with_lc, rate_half_data, rate_one_data}
 use Rattle.dmr_checks.specs.Sealed.{IsSealed}
 use Rattle.dmr_checks.specs.declared.sealing.Mask.TheVariants as mask
 use Rattle.dmr_csbk.specs.Block.{IsCsbk}
 use Rattle.dmr_csbk.specs.declared.block.Csbk.{Csbk}
 use Rattle.dmr_data.specs.HeaderForms.{IsWrittenForm}
 use Rattle.dmr_data.specs.declared.header.Header.{Header}
+use Rattle.dmr_data.specs.declared.rate.Rate.{Rate}
+use Rattle.dmr_data.specs.declared.rate.Rate.TheVariants.{Half, Full}
 use Rattle.dmr_link.specs.Sealed.{IsLc}
 use Rattle.dmr_link.specs.declared.full_lc.FullLc.{FullLc}
 use Rattle.dmr_link.specs.declared.sealing.LcUse.{LcUse}
@@ -45,3 +47,8 @@ pub record IsHeaderInformation (header : Header) (information : List Bool) : Typ
   pub message : List Bool
   pub form : IsWrittenForm header message
   pub written : IsWritten message information
+
+-- the data type of blocks at this rate
+abbrev pub kind_at_rate : Rate → ℕ
+kind_at_rate Half = rate_half_data
+kind_at_rate Full = rate_one_data

@@ -17,21 +17,21 @@ unfoldable pub vocoder_of_frame : ℕ → List Bool
 vocoder_of_frame frame = thrice (thrice (bits_of 24 (0x800000 + frame)))
 
 -- these octets are the exact encoding of a burst that a mobile station sends
-pub record IsBurstOf (b : Burst) (octets : List ℕ) : Type 0 where
+pub record IsMobileBurst (b : Burst) (octets : List ℕ) : Type 0 where
   pub encoding : IsEncoding b side.Ms (bits_of_octets octets)
 
 -- a burst goes out, and it is this one
-abbrev pub IsSentAs : Burst → Option (List ℕ) → Type 0
-IsSentAs b None = ⊥
-IsSentAs b (Some octets) = IsBurstOf b octets
+abbrev pub GoesOutAs : Burst → Option (List ℕ) → Type 0
+GoesOutAs b None = ⊥
+GoesOutAs b (Some octets) = IsMobileBurst b octets
 
 -- What goes out in this frame for what a slot sends, with this colour code. A script says each burst exactly, as one of its own
 -- colour code: what another colour code hears of it is said elsewhere.
 abbrev pub IsMade : (colour frame : ℕ) → SentSlot → Option (List ℕ) → Type 0
 IsMade colour frame Silent made = made ≡ None
-IsMade colour frame (Data kind information lc) made = IsSentAs (burst.Data colour kind information) made
-IsMade colour frame VoiceSync made = IsSentAs (burst.VoiceSync (vocoder_of_frame frame)) made
-IsMade colour frame (Voice emb embedded) made = IsSentAs (burst.Voice emb embedded (vocoder_of_frame frame)) made
+IsMade colour frame (Data kind information lc) made = GoesOutAs (burst.Data colour kind information) made
+IsMade colour frame VoiceSync made = GoesOutAs (burst.VoiceSync (vocoder_of_frame frame)) made
+IsMade colour frame (Voice emb embedded) made = GoesOutAs (burst.Voice emb embedded (vocoder_of_frame frame)) made
 IsMade colour frame (ForeignVoice emb) made = ⊥
 IsMade colour frame ForeignData made = ⊥
 IsMade colour frame CutOff made = ⊥

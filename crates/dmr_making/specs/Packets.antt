@@ -1,6 +1,6 @@
 -- The tries that a script says.
-use Rattle.std.specs.Prelude.{◌≡◌, ℕ, zero, suc, ◌+◌, ◌*◌, ◌<◌, ◌==◌, nat_lt, Bool, true, false, List, [], ◌++◌, length, take}
-use Rattle.std.specs.Prelude.{replicate, slice_get, Some, if◌then◌else◌, Option}
+use Rattle.std.specs.Prelude.{◌≡◌, ℕ, zero, suc, ◌+◌, ◌*◌, ◌==◌, nat_lt, Bool, true, false, List, [], ◌++◌, length, take}
+use Rattle.std.specs.Prelude.{replicate, slice_get, Some, if◌then◌else◌}
 use Rattle.std.specs.Int.{to_le_bytes, w128}
 use Rattle.std.specs.List.{AllZip, list_any}
 use Rattle.dmr_data.specs.Packet.{IsWrittenPacket}
@@ -11,7 +11,7 @@ use Rattle.dmr_data.specs.declared.packet.Packet.{Packet}
 use Rattle.dmr_data.specs.declared.rate.Rate.TheVariants.{Half}
 use Rattle.dmr_ip.specs.Contents.{Contents, datagram_of}
 use Rattle.dmr_ip.specs.Spelling.{form, written_form}
-use Rattle.dmr_making.specs.declared.tries.Try.{Try}
+use Rattle.dmr_making.specs.declared.tries.SentTry.{SentTry}
 use Rattle.dmr_script.specs.declared.packet.Answer.{Answer}
 use Rattle.dmr_script.specs.declared.packet.AnswerKind.{AnswerKind}
 use Rattle.dmr_script.specs.declared.packet.AnswerKind.TheVariants as kind
@@ -50,14 +50,14 @@ body_with p (body.Octets octets) = octets.items
 body_with p (body.Udp m) = if p.sap == 3 then written_form p.group (contents_of m) else datagram_in p m
 
 -- the octets that a packet carries
-abbrev pub body_of : PacketTry → List ℕ
-body_of p = body_with p p.body
+abbrev pub packet_octets : PacketTry → List ℕ
+packet_octets p = body_with p p.body
 
 -- The packet in its blocks.
 pub record IsPacketIn (p : PacketTry) (packet : Packet) : Type 0 where
   pub rate : packet.rate ≡ p.rate
   pub confirmed : packet.confirmed ≡ p.confirmed
-  pub written : IsWrittenPacket (body_of p) packet
+  pub written : IsWrittenPacket (packet_octets p) packet
 
 -- The header of a try with so many blocks, all of the packet or some of it. It is as a gateway sends it: a confirmed try begins no
 -- new numbers, and its fragment is the last one and the first.
@@ -90,7 +90,7 @@ packet_header p pad full blocks =
     })
 
 -- a try of a packet with this header and these blocks
-abbrev pub try_with : PacketTry → Header → List Block → Try
+abbrev pub try_with : PacketTry → Header → List Block → SentTry
 try_with p h blocks = record {
   source = p.source;
   group = p.group;
@@ -101,7 +101,7 @@ try_with p h blocks = record {
 }
 
 -- A full try of a packet: its header counts all of its blocks.
-pub record IsFullTry (p : PacketTry) (t : Try) : Type 0 where
+pub record IsFullTry (p : PacketTry) (t : SentTry) : Type 0 where
   pub packet : Packet
   pub packet_is : IsPacketIn p packet
   pub is : t ≡ try_with p (packet_header p packet.pad true (length packet.blocks)) packet.blocks
@@ -111,7 +111,7 @@ abbrev pub ArePicked : List Block → List ℕ → List Block → Type 0
 ArePicked blocks serials some = AllZip (λ serial block. slice_get blocks serial ≡ Some block) serials some
 
 -- A try of some blocks of a packet. All else of its header is that of the packet, its number among it.
-pub record IsPartialTry (p : PacketTry) (partial : PartialTry) (t : Try) : Type 0 where
+pub record IsPartialTry (p : PacketTry) (partial : PartialTry) (t : SentTry) : Type 0 where
   pub packet : Packet
   pub packet_is : IsPacketIn p packet
   pub blocks : List Block
@@ -121,7 +121,7 @@ pub record IsPartialTry (p : PacketTry) (partial : PartialTry) (t : Try) : Type 
 -- 2. Other tries.
 
 -- short data in the blocks of this packet, with a header that counts these and the bits of padding
-abbrev pub short_try : ShortDataTry → Packet → Try
+abbrev pub short_try : ShortDataTry → Packet → SentTry
 short_try s packet = record {
   source = s.source;
   group = s.group;
@@ -142,7 +142,7 @@ short_try s packet = record {
 }
 
 -- Short data: its octets go in unconfirmed blocks at rate 1/2.
-pub record IsShortDataTry (s : ShortDataTry) (t : Try) : Type 0 where
+pub record IsShortDataTry (s : ShortDataTry) (t : SentTry) : Type 0 where
   pub packet : Packet
   pub rate : packet.rate ≡ Half
   pub confirmed : packet.confirmed ≡ false
@@ -150,7 +150,7 @@ pub record IsShortDataTry (s : ShortDataTry) (t : Try) : Type 0 where
   pub is : t ≡ short_try s packet
 
 -- a status, which has no blocks
-abbrev pub status_try : StatusSent → Try
+abbrev pub status_try : StatusSent → SentTry
 status_try s = record {
   source = s.header.source;
   group = s.header.group;
@@ -170,20 +170,20 @@ flags_from serials serial zero = 0
 flags_from serials serial (suc more) = (if is_among serials serial then 0 else 1) + 2 * flags_from serials (suc serial) more
 
 -- the octets of the flags: eight, or sixteen and four zeros where the packet has more than 64 blocks
-abbrev pub flag_octets : Wanted → List ℕ
-flag_octets w =
+abbrev pub octets_of_flags : Wanted → List ℕ
+octets_of_flags w =
     let octets = to_le_bytes w128 (flags_from w.serials.items 0 w.blocks) in
     if nat_lt 64 w.blocks then octets ++ replicate 4 0 else take 8 octets
 
 -- The packet of the flags, in unconfirmed blocks at rate 1/2.
-pub record IsFlagPacket (w : Wanted) (packet : Packet) : Type 0 where
+pub record IsPacketOfFlags (w : Wanted) (packet : Packet) : Type 0 where
   pub rate : packet.rate ≡ Half
   pub confirmed : packet.confirmed ≡ false
-  pub written : IsWrittenPacket (flag_octets w) packet
+  pub written : IsWrittenPacket (octets_of_flags w) packet
 
 -- the header of an answer of this class and type, with so many blocks of flags
-abbrev pub answer_header : Answer → ℕ → ℕ → ℕ → Header
-answer_header a class kind blocks =
+abbrev pub header_of_answer : Answer → ℕ → ℕ → ℕ → Header
+header_of_answer a class kind blocks =
     header.Response (record {
       sap = a.sap;
       destination = a.destination;
@@ -195,8 +195,8 @@ answer_header a class kind blocks =
     })
 
 -- an answer with this header and these blocks
-abbrev pub answer_with : Answer → Header → List Block → Try
-answer_with a h blocks = record {
+abbrev pub try_of_answer : Answer → Header → List Block → SentTry
+try_of_answer a h blocks = record {
   source = a.source;
   group = false;
   destination = a.destination;
@@ -206,9 +206,9 @@ answer_with a h blocks = record {
 }
 
 -- An answer: of class 0 where the packet came, 1 where it failed, and 2 with flags where some blocks are wanted once more.
-abbrev pub IsAnswerOf : Answer → AnswerKind → Try → Type 0
-IsAnswerOf a kind.Acknowledged t = t ≡ answer_with a (answer_header a 0 1 0) []
-IsAnswerOf a kind.Failed t = t ≡ answer_with a (answer_header a 1 1 0) []
+abbrev pub IsAnswerOf : Answer → AnswerKind → SentTry → Type 0
+IsAnswerOf a kind.Acknowledged t = t ≡ try_of_answer a (header_of_answer a 0 1 0) []
+IsAnswerOf a kind.Failed t = t ≡ try_of_answer a (header_of_answer a 1 1 0) []
 IsAnswerOf a (kind.SelectiveRepeat w) t =
-    (packet : Packet) × IsFlagPacket w packet
-    × (t ≡ answer_with a (answer_header a 2 0 (length packet.blocks)) packet.blocks)
+    (packet : Packet) × IsPacketOfFlags w packet
+    × (t ≡ try_of_answer a (header_of_answer a 2 0 (length packet.blocks)) packet.blocks)

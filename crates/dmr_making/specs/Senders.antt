@@ -1,5 +1,5 @@
 -- Whose colour code a transmission has, and what has to hold of it before it is sent.
-use Rattle.std.specs.Prelude.{◌≡◌, ℕ, ◌<◌, All, length, Option, Some, None}
+use Rattle.std.specs.Prelude.{ℕ, ◌<◌, All, length, Option, Some, None}
 use Rattle.dmr_making.specs.Fit.{IsFitCall, IsFitLone}
 use Rattle.dmr_script.specs.Fits.{FitsPacket, FitsPartial, FitsShortData, FitsStatus, FitsAnswer, HasBlocks}
 use Rattle.dmr_script.specs.declared.packet.Again.{Again}
@@ -23,13 +23,13 @@ IsFitAgain p (again.Partial partial) =
     FitsPartial partial × All (λ serial. serial < length p.shape.blocks.items) partial.serials.items
 
 -- what a script reads fits, and a further try has a packet that it fits
-abbrev pub IsFitSaid : Option PacketTry → Transmission → Type 0
-IsFitSaid last (said.Call call) = IsFitCall call
-IsFitSaid last (said.Packet p) = FitsPacket p
-IsFitSaid None (said.Again again) = ⊥
-IsFitSaid (Some p) (said.Again again) = FitsPacket p × IsFitAgain p again
-IsFitSaid last (said.ShortData s) = FitsShortData s
-IsFitSaid last (said.Status s) = FitsStatus s
-IsFitSaid last (said.Answer a) = FitsAnswer a
-IsFitSaid last (said.Control csbk) = csbk.code < 64
-IsFitSaid last (said.Burst lone) = IsFitLone lone
+abbrev pub IsSendable : Option PacketTry → Transmission → Type 0
+IsSendable last (said.Call call) = IsFitCall call
+IsSendable last (said.Packet p) = FitsPacket p
+IsSendable None (said.Again again) = ⊥
+IsSendable (Some p) (said.Again again) = FitsPacket p × IsFitAgain p again
+IsSendable last (said.ShortData s) = FitsShortData s
+IsSendable last (said.Status s) = FitsStatus s
+IsSendable last (said.Answer a) = FitsAnswer a
+IsSendable last (said.Control csbk) = csbk.code < 64
+IsSendable last (said.Burst lone) = IsFitLone lone

@@ -6,10 +6,10 @@ ghost use Rattle.dmr_bptc.specs.ProductWord.{IsWritten};
 ghost use Rattle.dmr_csbk.specs.Block.{IsCsbk};
 ghost use Rattle.dmr_data.specs.Block.{FitsBlock, IsWrittenBlock};
 ghost use Rattle.dmr_data.specs.Header.{IsFitHeader};
-ghost use Rattle.dmr_gateway.specs.Heard.{kind_of_rate};
+ghost use Rattle.dmr_making.specs.Information.{kind_at_rate};
 ghost use Rattle.dmr_making.specs.Information.{IsLcInformation, IsPiInformation, IsCsbkInformation, IsHeaderInformation};
 ghost use Rattle.dmr_making.specs.Information.{kind_of_use};
-ghost use Rattle.dmr_making.specs.Made.{IsBurstOf, thrice, vocoder_of_frame};
+ghost use Rattle.dmr_making.specs.Made.{IsMobileBurst, thrice, vocoder_of_frame};
 
 use dmr_bits::{Bits, Writer};
 use dmr_bptc::bptc_encode;
@@ -23,7 +23,7 @@ use dmr_link::{FullLc, LcUse, lc_info};
 pub(crate) fn data_burst(colour: u8, kind: u8, info: Bits<196>) -> [u8; 33]
     requires colour { colour < 16 }
     requires kind { kind < 16 }
-    ensures burst { IsBurstOf (burst.Data colour kind info) result }
+    ensures burst { IsMobileBurst (burst.Data colour kind info) result }
 {
     encode_burst(&Burst::Data { colour, kind, info }, Side::Ms)
 }
@@ -33,7 +33,7 @@ pub(crate) fn word_burst(colour: u8, kind: u8, message: &Bits<96>) -> [u8; 33]
     requires colour { colour < 16 }
     requires kind { kind < 16 }
     ensures burst { (information : List Bool) → IsWritten message.now information
-        → IsBurstOf (burst.Data colour kind information) result }
+        → IsMobileBurst (burst.Data colour kind information) result }
 {
     data_burst(colour, kind, bptc_encode(message))
 }
@@ -53,7 +53,7 @@ pub(crate) fn lc_burst(colour: u8, lc_use: LcUse, lc: &FullLc) -> [u8; 33]
     requires colour { colour < 16 }
     requires fit { lc.now.flco < 64 }
     ensures burst { (information : List Bool) → IsLcInformation lc_use lc.now information
-        → IsBurstOf (burst.Data colour (kind_of_use lc_use) information) result }
+        → IsMobileBurst (burst.Data colour (kind_of_use lc_use) information) result }
 {
     word_burst(colour, kind_of_use(lc_use), &lc_info(lc, lc_use))
 }
@@ -62,7 +62,7 @@ pub(crate) fn lc_burst(colour: u8, lc_use: LcUse, lc: &FullLc) -> [u8; 33]
 pub(crate) fn pi_header_burst(colour: u8, key: &[u8; 10]) -> [u8; 33]
     requires colour { colour < 16 }
     ensures burst { (information : List Bool) → IsPiInformation key.now information
-        → IsBurstOf (burst.Data colour 0 information) result }
+        → IsMobileBurst (burst.Data colour 0 information) result }
 {
     let sealed = Bits::<96>::from_octets(&seal(key, Mask::Pi));
     word_burst(colour, data_type::PI_HEADER, &sealed)
@@ -73,7 +73,7 @@ pub(crate) fn csbk_burst(colour: u8, csbk: &Csbk) -> [u8; 33]
     requires colour { colour < 16 }
     requires fit { csbk.now.code < 64 }
     ensures burst { (information : List Bool) → IsCsbkInformation csbk.now information
-        → IsBurstOf (burst.Data colour 3 information) result }
+        → IsMobileBurst (burst.Data colour 3 information) result }
 {
     word_burst(colour, data_type::CSBK, &csbk_info(csbk))
 }
@@ -83,14 +83,14 @@ pub(crate) fn header_burst(colour: u8, header: &Header) -> [u8; 33]
     requires colour { colour < 16 }
     requires fit { IsFitHeader header.now }
     ensures burst { (information : List Bool) → IsHeaderInformation header.now information
-        → IsBurstOf (burst.Data colour 6 information) result }
+        → IsMobileBurst (burst.Data colour 6 information) result }
 {
     word_burst(colour, data_type::DATA_HEADER, &header_info(header))
 }
 
 /// The data type of blocks at a rate.
-fn kind_of_rate(rate: Rate) -> u8
-    ensures value { result ≡ kind_of_rate rate }
+fn kind_at_rate(rate: Rate) -> u8
+    ensures value { result ≡ kind_at_rate rate }
     ensures fits { result < 16 }
 {
     match rate {
@@ -104,9 +104,9 @@ pub(crate) fn block_burst(colour: u8, rate: Rate, block: &Block) -> [u8; 33]
     requires colour { colour < 16 }
     requires fit { FitsBlock rate block.now.serial block.now.octets }
     ensures burst { (information : List Bool) → IsWrittenBlock rate block.now information
-        → IsBurstOf (burst.Data colour (kind_of_rate rate) information) result }
+        → IsMobileBurst (burst.Data colour (kind_at_rate rate) information) result }
 {
-    data_burst(colour, kind_of_rate(rate), block_info(block, rate))
+    data_burst(colour, kind_at_rate(rate), block_info(block, rate))
 }
 
 /// Writes the same 24 bits three times.
@@ -136,7 +136,7 @@ fn vocoder_of_frame(frame: u32) -> Bits<216>
 /// A voice burst with a voice sync, the first of a superframe.
 pub(crate) fn sync_burst(frame: u32) -> [u8; 33]
     requires frame { frame < 1048576 }
-    ensures burst { IsBurstOf (burst.VoiceSync (vocoder_of_frame frame)) result }
+    ensures burst { IsMobileBurst (burst.VoiceSync (vocoder_of_frame frame)) result }
 {
     let vocoder = vocoder_of_frame(frame);
     encode_burst(&Burst::VoiceSync { vocoder }, Side::Ms)
@@ -147,7 +147,7 @@ pub(crate) fn voice_burst(emb: Emb, embedded: u32, frame: u32) -> [u8; 33]
     requires colour { emb.colour < 16 }
     requires lcss { emb.lcss < 4 }
     requires frame { frame < 1048576 }
-    ensures burst { IsBurstOf (burst.Voice emb embedded (vocoder_of_frame frame)) result }
+    ensures burst { IsMobileBurst (burst.Voice emb embedded (vocoder_of_frame frame)) result }
 {
     let vocoder = vocoder_of_frame(frame);
     let voice = Burst::Voice {

@@ -1,11 +1,12 @@
 //! The bursts of a call, slot by slot.
-ghost use Rattle.std.specs.Prelude.{◌≡◌, ◌<◌, ◌≤◌, ◌+◌, ◌%◌, ℕ, List, Bool, Option, Some, IfSome, length, slice_index_or, slice_get};
+ghost use Rattle.std.specs.Prelude.{◌≡◌, ◌<◌, ◌≤◌, ◌+◌, ◌%◌, ℕ, List, Bool, Option, Some, IfSome, length, slice_index_or};
+ghost use Rattle.std.specs.Prelude.{slice_get};
 ghost use Rattle.dmr_hearing.specs.Fit.{IsFitLc};
 ghost use Rattle.dmr_making.specs.Calls as spec;
 ghost use Rattle.dmr_making.specs.Calls.{AreFieldsOf, AreFormsOf, CallForms};
 ghost use Rattle.dmr_making.specs.Fit.{IsFitCall};
 ghost use Rattle.dmr_burst.specs.declared.burst.Burst.TheVariants as burst;
-ghost use Rattle.dmr_making.specs.Made.{IsMade, IsBurstOf, vocoder_of_frame};
+ghost use Rattle.dmr_making.specs.Made.{IsMade, IsMobileBurst, vocoder_of_frame};
 ghost use Rattle.dmr_making.specs.Standing.{HoldsAt};
 ghost use Rattle.dmr_making.specs.Places.{place_number, full_slots, lcss_with, IsFitVoice};
 
@@ -86,7 +87,7 @@ fn fragment_burst(voice: Voice, carried: Option<FullLc>, fragment: u8, place: us
     requires fragment { fragment < 4 }
     requires place { place < 4 }
     requires fit { IsFitLc carried }
-    ensures burst { (fields : List ℕ) → AreFieldsOf carried fields → IsBurstOf (burst.Voice
+    ensures burst { (fields : List ℕ) → AreFieldsOf carried fields → IsMobileBurst (burst.Voice
         (record { colour = voice.colour; pi = voice.pi; lcss = lcss_with carried fragment })
         (slice_index_or fields place 0) (vocoder_of_frame voice.frame)) result }
 {
@@ -119,7 +120,7 @@ fn place_burst(voice: Voice, carried: Option<FullLc>, place: Place) -> [u8; 33]
 /// The burst of F, the last place, which carries nothing.
 fn last_burst(voice: Voice) -> [u8; 33]
     requires voice { IsFitVoice voice }
-    ensures burst { IsBurstOf (burst.Voice (record { colour = voice.colour; pi = voice.pi; lcss = 0 }) 0
+    ensures burst { IsMobileBurst (burst.Voice (record { colour = voice.colour; pi = voice.pi; lcss = 0 }) 0
         (vocoder_of_frame voice.frame)) result }
 {
     let emb = Emb {

@@ -5,7 +5,7 @@ ghost use Rattle.dmr_bptc.specs.ProductWord.{IsWritten};
 ghost use Rattle.dmr_bits.specs.Bits.{bits_of_octets};
 ghost use Rattle.dmr_making.specs.Controls.{IsLoneInformation, kind_of_lone};
 ghost use Rattle.dmr_making.specs.Fit.{IsFitLone};
-ghost use Rattle.dmr_making.specs.Made.{IsBurstOf};
+ghost use Rattle.dmr_making.specs.Made.{IsMobileBurst};
 
 use crate::bursts::{data_burst, lc_burst, word_burst};
 use dmr_bits::Bits;
@@ -18,7 +18,7 @@ fn octets_burst(colour: u8, kind: u8, octets: &[u8; 12]) -> [u8; 33]
     requires colour { colour < 16 }
     requires kind { kind < 16 }
     ensures burst { (information : List Bool) → IsWritten (bits_of_octets octets.now) information
-        → IsBurstOf (burst.Data colour kind information) result }
+        → IsMobileBurst (burst.Data colour kind information) result }
 {
     word_burst(colour, kind, &Bits::<96>::from_octets(octets))
 }
@@ -28,7 +28,7 @@ pub(crate) fn lone_burst(colour: u8, lone: &LoneBurst) -> [u8; 33]
     requires colour { colour < 16 }
     requires fit { IsFitLone lone.now }
     ensures burst { (information : List Bool) → IsLoneInformation lone.now information
-        → IsBurstOf (burst.Data colour (kind_of_lone lone.now) information) result }
+        → IsMobileBurst (burst.Data colour (kind_of_lone lone.now) information) result }
 {
     match lone {
         LoneBurst::Terminator(lc) => lc_burst(colour, LcUse::Terminator, lc),

@@ -1,13 +1,14 @@
 //! What the transmissions of a script send, slot by slot.
 //!
-//! A `Sending` is a transmission as a script says it (dmr_script), with the packet that it may send again. `slot` answers what goes
-//! out in one of its slots: nothing, or the 33 octets of a burst of a mobile station, in the exact encoding of what the script says.
+//! A `SlotTransmission` is a transmission as a script says it (dmr_script), with the packet that it may send again. `slot`
+//! answers what goes out in one of its slots: nothing, or the 33 octets of a burst of a mobile station, which are the exact
+//! encoding of what it says.
 //!
-//! Contracts see the statements as they were read. `Sends` of `specs/Sends.antt` says what a transmission sends: which transmission
-//! of a channel it is (dmr_voice), and what each of its slots sends (dmr_hearing). `Calls.antt`, `Packets.antt`, `Tries.antt` and
-//! `Controls.antt` have the parts of that, with `Information.antt`, what data bursts hold. `IsMade` of `Made.antt` is what goes out
-//! for a slot. `laws` ties these to what a channel hears: what goes out is a recording of what is sent, and what is sent is what
-//! the transmission says (`Seen.antt`).
+//! Contracts see the statements as they were read. `SendsSaid` of `specs/Sends.antt` says what a transmission sends: which
+//! transmission of a channel it is (dmr_voice), and what each of its slots sends (dmr_hearing). `Calls.antt`, `Packets.antt`,
+//! `Tries.antt` and `Controls.antt` have the parts of that, and `Information.antt` what data bursts hold. `IsMade` of `Made.antt`
+//! is what goes out for a slot. `laws` ties these to what a channel hears: what goes out is a recording of what is sent, and what is
+//! sent is what the transmission says (`Seen.antt`).
 #![tactic(auto)]
 
 mod bursts;
@@ -18,4 +19,4 @@ mod packets;
 mod sending;
 mod tries;
 
-pub use sending::Sending;
+pub use sending::SlotTransmission;

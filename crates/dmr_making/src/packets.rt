@@ -4,7 +4,7 @@ ghost use Rattle.dmr_ip.specs.Contents.{FitsDatagram};
 ghost use Rattle.dmr_script.specs.Fits.{FitsPacket, FitsPartial, FitsShortData, FitsAnswer};
 ghost use Rattle.dmr_making.specs.Packets as spec;
 
-use crate::tries::Try;
+use crate::tries::SentTry;
 use dmr_data::{
     Blocks, Confirmed, Header, Octets, PACKET_LIMIT, Packet, Rate, Response, ShortData,
     Unconfirmed, split_packet,
@@ -60,9 +60,9 @@ fn datagram_of(p: &PacketTry, message: &UdpMessage) -> Datagram
 }
 
 /// What a packet carries: octets, or a UDP datagram as it is or in its compressed form.
-fn body_of(p: &PacketTry) -> Octets<PACKET_LIMIT>
+fn packet_octets(p: &PacketTry) -> Octets<PACKET_LIMIT>
     requires fit { FitsPacket p.now }
-    ensures value { result ≡ spec.body_of p.now }
+    ensures value { result ≡ spec.packet_octets p.now }
 {
     match &p.body {
         Body::Octets(octets) => Octets::from_slice(octets),
@@ -83,7 +83,7 @@ fn packet_of(p: &PacketTry) -> Packet
     requires fit { FitsPacket p.now }
     ensures packet { spec.IsPacketIn p.now result }
 {
-    split_packet(body_of(p).as_slice(), p.rate, p.confirmed)
+    split_packet(packet_octets(p).as_slice(), p.rate, p.confirmed)
 }
 
 /// The header of a try of so many blocks, which is all of the packet or some blocks of it.
@@ -120,13 +120,13 @@ fn packet_header(p: &PacketTry, pad: u8, full: bool, blocks: u8) -> Header
 }
 
 /// A full try of a packet.
-pub(crate) fn full_try(p: &PacketTry) -> Try
+pub(crate) fn full_try(p: &PacketTry) -> SentTry
     requires fit { FitsPacket p.now }
     ensures is { spec.IsFullTry p.now result }
 {
     let packet = packet_of(p);
     let blocks = packet.blocks.as_slice().len() as u8;
-    Try {
+    SentTry {
         source: p.source,
         group: p.group,
         destination: p.destination,
@@ -150,7 +150,7 @@ fn picked(blocks: &[dmr_data::Block], serials: &[u8]) -> Blocks
 }
 
 /// A further try of some blocks of a packet.
-pub(crate) fn partial_try(p: &PacketTry, partial: &PartialTry) -> Try
+pub(crate) fn partial_try(p: &PacketTry, partial: &PartialTry) -> SentTry
     requires fit { FitsPacket p.now }
     requires partial { FitsPartial partial.now }
     requires inside { All (λ serial. serial < length p.now.shape.blocks.items) partial.now.serials.items }
@@ -158,7 +158,7 @@ pub(crate) fn partial_try(p: &PacketTry, partial: &PartialTry) -> Try
 {
     let packet = packet_of(p);
     let blocks = partial.serials.len() as u8;
-    Try {
+    SentTry {
         source: p.source,
         group: p.group,
         destination: p.destination,
@@ -169,13 +169,13 @@ pub(crate) fn partial_try(p: &PacketTry, partial: &PartialTry) -> Try
 }
 
 /// Short data and its blocks.
-pub(crate) fn short_data_try(short: &ShortDataTry) -> Try
+pub(crate) fn short_data_try(short: &ShortDataTry) -> SentTry
     requires fit { FitsShortData short.now }
     ensures is { spec.IsShortDataTry short.now result }
 {
     let packet = split_packet(&short.octets, Rate::Half, false);
     let blocks = packet.blocks.as_slice().len() as u8;
-    Try {
+    SentTry {
         source: short.source,
         group: short.group,
         destination: short.destination,
@@ -196,10 +196,10 @@ pub(crate) fn short_data_try(short: &ShortDataTry) -> Try
 }
 
 /// A status, which has no blocks.
-pub(crate) fn status_try(status: &StatusSent) -> Try
+pub(crate) fn status_try(status: &StatusSent) -> SentTry
     ensures is { result ≡ spec.status_try status.now }
 {
-    Try {
+    SentTry {
         source: status.header.source,
         group: status.header.group,
         destination: status.header.destination,
@@ -234,7 +234,7 @@ fn flags_of(serials: &[u8], blocks: u8) -> u128
 /// The packet of the flags of an answer: eight octets, or sixteen and four zeros where the packet has more than 64 blocks.
 fn flag_packet(wanted: &Wanted) -> Packet
     requires most { wanted.now.blocks ≤ 127 }
-    ensures packet { spec.IsFlagPacket wanted.now result }
+    ensures packet { spec.IsPacketOfFlags wanted.now result }
 {
     let flags = flags_of(&wanted.serials, wanted.blocks).to_le_bytes();
     if wanted.blocks > 64 {
@@ -247,8 +247,8 @@ fn flag_packet(wanted: &Wanted) -> Packet
 }
 
 /// The header of an answer with this class and type, and so many blocks of flags.
-fn answer_header(answer: &Answer, class: u8, kind: u8, blocks: u8) -> Header
-    ensures value { result ≡ spec.answer_header answer.now class kind blocks }
+fn header_of_answer(answer: &Answer, class: u8, kind: u8, blocks: u8) -> Header
+    ensures value { result ≡ spec.header_of_answer answer.now class kind blocks }
 {
     Header::Response(Response {
         sap: answer.sap,
@@ -262,10 +262,10 @@ fn answer_header(answer: &Answer, class: u8, kind: u8, blocks: u8) -> Header
 }
 
 /// An answer with this header, and blocks of flags.
-fn answer_with(answer: &Answer, header: Header, blocks: Blocks) -> Try
-    ensures value { result ≡ spec.answer_with answer.now header blocks }
+fn try_of_answer(answer: &Answer, header: Header, blocks: Blocks) -> SentTry
+    ensures value { result ≡ spec.try_of_answer answer.now header blocks }
 {
-    Try {
+    SentTry {
         source: answer.source,
         group: false,
         destination: answer.destination,
@@ -276,19 +276,27 @@ fn answer_with(answer: &Answer, header: Header, blocks: Blocks) -> Try
 }
 
 /// An answer to a confirmed packet, with its flags where it has any.
-pub(crate) fn answer_try(answer: &Answer) -> Try
+pub(crate) fn answer_try(answer: &Answer) -> SentTry
     requires fit { FitsAnswer answer.now }
     ensures is { spec.IsAnswerOf answer.now answer.now.kind result }
 {
     match &answer.kind {
         AnswerKind::Acknowledged => {
-            answer_with(answer, answer_header(answer, 0, 1, 0), Blocks::new())
+            try_of_answer(answer, header_of_answer(answer, 0, 1, 0), Blocks::new())
         }
-        AnswerKind::Failed => answer_with(answer, answer_header(answer, 1, 1, 0), Blocks::new()),
+        AnswerKind::Failed => try_of_answer(
+            answer,
+            header_of_answer(answer, 1, 1, 0),
+            Blocks::new(),
+        ),
         AnswerKind::SelectiveRepeat(wanted) => {
             let packet = flag_packet(wanted);
             let blocks = packet.blocks.as_slice().len() as u8;
-            answer_with(answer, answer_header(answer, 2, 0, blocks), packet.blocks)
+            try_of_answer(
+                answer,
+                header_of_answer(answer, 2, 0, blocks),
+                packet.blocks,
+            )
         }
     }
 }

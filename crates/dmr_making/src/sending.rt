@@ -3,10 +3,11 @@ ghost use Rattle.std.specs.Prelude.{◌≡◌, ◌<◌, ◌≤◌, ℕ, true, le
 ghost use Rattle.dmr_making.specs.Made.{IsMade};
 ghost use Rattle.dmr_making.specs.Fit.{IsFitCall, IsFitLone};
 ghost use Rattle.dmr_making.specs.Packets.{status_try};
-ghost use Rattle.dmr_making.specs.Sends.{Sent, SendsTry, SendsAgain, Sends, SendsCall, SendsPacket, SendsShortData, SendsAnswer};
+ghost use Rattle.dmr_making.specs.Sends.{Transmitted, SendsTry, SendsAgain, SendsSaid, SendsCall, SendsPacket, SendsShortData};
+ghost use Rattle.dmr_making.specs.Sends.{SendsAnswer};
 ghost use Rattle.dmr_making.specs.Sends.{SendsControl, SendsLone};
 ghost use Rattle.dmr_making.specs.Senders as spec;
-ghost use Rattle.dmr_making.specs.Senders.{IsFitAgain, IsFitSaid};
+ghost use Rattle.dmr_making.specs.Senders.{IsFitAgain, IsSendable};
 ghost use Rattle.dmr_making.specs.Standing.{HoldsAt};
 ghost use Rattle.dmr_making.specs.Tries.{IsFitTry};
 ghost use Rattle.dmr_script.specs.Fits.{FitsPacket, FitsShortData, FitsStatus, FitsAnswer};
@@ -16,7 +17,7 @@ use crate::bursts::csbk_burst;
 use crate::calls::call_slot;
 use crate::controls::lone_burst;
 use crate::packets::{answer_try, full_try, partial_try, short_data_try, status_try};
-use crate::tries::{Try, try_slot};
+use crate::tries::{SentTry, try_slot};
 use dmr_csbk::Csbk;
 use dmr_script::{
     Again, Answer, Call, LoneBurst, PacketShape, PacketTry, PartialTry, Sender, ShortDataTry,
@@ -28,7 +29,7 @@ const ALL_BLOCKS: [bool; 127] = [true; 127];
 
 /// A transmission of a script in its slot.
 #[derive(Clone, Copy)]
-pub struct Sending<'a> {
+pub struct SlotTransmission<'a> {
     /// What is sent, and with which colour code.
     pub transmit: &'a Transmit,
     /// The last confirmed packet in front of it in its slot, which a further try sends again.
@@ -46,22 +47,28 @@ fn colour_of(own: u8, sender: Sender) -> u8
 }
 
 /// What goes out in a slot of a try of this shape.
-fn shaped_slot(colour: u8, t: &Try, shape: &PacketShape, place: usize) -> Option<[u8; 33]>
+fn shaped_slot(colour: u8, t: &SentTry, shape: &PacketShape, place: usize) -> Option<[u8; 33]>
     requires colour { colour < 16 }
     requires fit { IsFitTry t.now shape.now.preambles shape.now.blocks.items }
-    ensures slot { (frame : ℕ) (sent : Sent) → SendsTry t.now shape.now.preambles shape.now.blocks.items sent
+    ensures slot { (frame : ℕ) (sent : Transmitted) → SendsTry t.now shape.now.preambles shape.now.blocks.items sent
         → HoldsAt (λ slot. IsMade colour frame slot result) sent.slots place }
 {
     try_slot(colour, t, shape.preambles, &shape.blocks, place)
 }
 
 /// What goes out in a slot of a try with so many blocks, of which all are sent.
-fn unshaped_slot(colour: u8, t: &Try, all: &[bool], count: usize, place: usize) -> Option<[u8; 33]>
+fn unshaped_slot(
+    colour: u8,
+    t: &SentTry,
+    all: &[bool],
+    count: usize,
+    place: usize,
+) -> Option<[u8; 33]>
     requires colour { colour < 16 }
     requires all { all.now ≡ replicate 127 true }
     requires count { count ≤ 127 }
     requires fit { IsFitTry t.now 0 (replicate count true) }
-    ensures slot { (frame : ℕ) (sent : Sent) → SendsTry t.now 0 (replicate count true) sent
+    ensures slot { (frame : ℕ) (sent : Transmitted) → SendsTry t.now 0 (replicate count true) sent
         → HoldsAt (λ slot. IsMade colour frame slot result) sent.slots place }
 {
     try_slot(colour, t, 0, &all[..count], place)
@@ -85,7 +92,7 @@ fn full_slot(
     requires colour { colour < 16 }
     requires packet { FitsPacket packet.now }
     requires fit { IsFitAgain packet.now (again.Full shape.now) }
-    ensures slot { (frame : ℕ) (sent : Sent) → SendsAgain packet.now (again.Full shape.now) sent
+    ensures slot { (frame : ℕ) (sent : Transmitted) → SendsAgain packet.now (again.Full shape.now) sent
         → HoldsAt (λ slot. IsMade colour frame slot result) sent.slots place }
 {
     match shape {
@@ -107,7 +114,7 @@ fn partial_slot(
     requires colour { colour < 16 }
     requires packet { FitsPacket packet.now }
     requires fit { IsFitAgain packet.now (again.Partial partial.now) }
-    ensures slot { (frame : ℕ) (sent : Sent) → SendsAgain packet.now (again.Partial partial.now) sent
+    ensures slot { (frame : ℕ) (sent : Transmitted) → SendsAgain packet.now (again.Partial partial.now) sent
         → HoldsAt (λ slot. IsMade colour frame slot result) sent.slots place }
 {
     shaped_slot(colour, &partial_try(packet, partial), &partial.shape, place)
@@ -118,7 +125,7 @@ fn again_slot(colour: u8, packet: &PacketTry, again: &Again, place: usize) -> Op
     requires colour { colour < 16 }
     requires packet { FitsPacket packet.now }
     requires fit { IsFitAgain packet.now again.now }
-    ensures slot { (frame : ℕ) (sent : Sent) → SendsAgain packet.now again.now sent
+    ensures slot { (frame : ℕ) (sent : Transmitted) → SendsAgain packet.now again.now sent
         → HoldsAt (λ slot. IsMade colour frame slot result) sent.slots place }
 {
     match again {
@@ -132,7 +139,7 @@ fn voice_slot(colour: u8, call: &Call, place: usize, frame: u32) -> Option<[u8; 
     requires colour { colour < 16 }
     requires frame { frame < 1048576 }
     requires fit { IsFitCall call.now }
-    ensures slot { (sent : Sent) → SendsCall colour call.now sent
+    ensures slot { (sent : Transmitted) → SendsCall colour call.now sent
         → HoldsAt (λ slot. IsMade colour frame slot result) sent.slots place }
 {
     call_slot(colour, call, place, frame)
@@ -142,7 +149,7 @@ fn voice_slot(colour: u8, call: &Call, place: usize, frame: u32) -> Option<[u8; 
 fn packet_slot(colour: u8, packet: &PacketTry, place: usize) -> Option<[u8; 33]>
     requires colour { colour < 16 }
     requires fit { FitsPacket packet.now }
-    ensures slot { (frame : ℕ) (sent : Sent) → SendsPacket packet.now sent
+    ensures slot { (frame : ℕ) (sent : Transmitted) → SendsPacket packet.now sent
         → HoldsAt (λ slot. IsMade colour frame slot result) sent.slots place }
 {
     shaped_slot(colour, &full_try(packet), &packet.shape, place)
@@ -152,7 +159,7 @@ fn packet_slot(colour: u8, packet: &PacketTry, place: usize) -> Option<[u8; 33]>
 fn short_data_slot(colour: u8, short: &ShortDataTry, place: usize) -> Option<[u8; 33]>
     requires colour { colour < 16 }
     requires fit { FitsShortData short.now }
-    ensures slot { (frame : ℕ) (sent : Sent) → SendsShortData short.now sent
+    ensures slot { (frame : ℕ) (sent : Transmitted) → SendsShortData short.now sent
         → HoldsAt (λ slot. IsMade colour frame slot result) sent.slots place }
 {
     shaped_slot(colour, &short_data_try(short), &short.shape, place)
@@ -162,7 +169,7 @@ fn short_data_slot(colour: u8, short: &ShortDataTry, place: usize) -> Option<[u8
 fn status_slot(colour: u8, status: &StatusSent, place: usize) -> Option<[u8; 33]>
     requires colour { colour < 16 }
     requires fit { FitsStatus status.now }
-    ensures slot { (frame : ℕ) (sent : Sent)
+    ensures slot { (frame : ℕ) (sent : Transmitted)
         → SendsTry (status_try status.now) status.now.shape.preambles status.now.shape.blocks.items sent
         → HoldsAt (λ slot. IsMade colour frame slot result) sent.slots place }
 {
@@ -173,7 +180,7 @@ fn status_slot(colour: u8, status: &StatusSent, place: usize) -> Option<[u8; 33]
 fn answer_slot(colour: u8, answer: &Answer, place: usize) -> Option<[u8; 33]>
     requires colour { colour < 16 }
     requires fit { FitsAnswer answer.now }
-    ensures slot { (frame : ℕ) (sent : Sent) → SendsAnswer answer.now sent
+    ensures slot { (frame : ℕ) (sent : Transmitted) → SendsAnswer answer.now sent
         → HoldsAt (λ slot. IsMade colour frame slot result) sent.slots place }
 {
     shaped_slot(colour, &answer_try(answer), &answer.shape, place)
@@ -183,7 +190,7 @@ fn answer_slot(colour: u8, answer: &Answer, place: usize) -> Option<[u8; 33]>
 fn control_slot(colour: u8, csbk: &Csbk) -> Option<[u8; 33]>
     requires colour { colour < 16 }
     requires fit { csbk.now.code < 64 }
-    ensures slot { (frame place : ℕ) (sent : Sent) → SendsControl csbk.now sent
+    ensures slot { (frame place : ℕ) (sent : Transmitted) → SendsControl csbk.now sent
         → HoldsAt (λ slot. IsMade colour frame slot result) sent.slots place }
 {
     Some(csbk_burst(colour, csbk))
@@ -193,7 +200,7 @@ fn control_slot(colour: u8, csbk: &Csbk) -> Option<[u8; 33]>
 fn lone_slot(colour: u8, lone: &LoneBurst) -> Option<[u8; 33]>
     requires colour { colour < 16 }
     requires fit { IsFitLone lone.now }
-    ensures slot { (frame place : ℕ) (sent : Sent) → SendsLone lone.now sent
+    ensures slot { (frame place : ℕ) (sent : Transmitted) → SendsLone lone.now sent
         → HoldsAt (λ slot. IsMade colour frame slot result) sent.slots place }
 {
     Some(lone_burst(colour, lone))
@@ -209,8 +216,8 @@ fn said_slot(
 ) -> Option<[u8; 33]>
     requires colour { colour < 16 }
     requires frame { frame < 1048576 }
-    requires fit { IsFitSaid (option_copied last) said.now }
-    ensures slot { (sent : Sent) → Sends colour (option_copied last.entry) said.now sent
+    requires fit { IsSendable (option_copied last) said.now }
+    ensures slot { (sent : Transmitted) → SendsSaid colour (option_copied last.entry) said.now sent
         → HoldsAt (λ slot. IsMade colour frame slot result) sent.slots place }
 {
     match said {
@@ -228,12 +235,12 @@ fn said_slot(
     }
 }
 
-impl<'a> Sending<'a> {
+impl<'a> SlotTransmission<'a> {
     ghost use Rattle.std.specs.Prelude.{◌<◌, option_copied};
     ghost use Rattle.dmr_making.specs.Made.{IsMade};
     ghost use Rattle.dmr_making.specs.Senders as spec;
-    ghost use Rattle.dmr_making.specs.Senders.{IsFitSaid};
-    ghost use Rattle.dmr_making.specs.Sends.{Sent, Sends};
+    ghost use Rattle.dmr_making.specs.Senders.{IsSendable};
+    ghost use Rattle.dmr_making.specs.Sends.{Transmitted, SendsSaid};
     ghost use Rattle.dmr_making.specs.Standing.{HoldsAt};
     ghost use Rattle.dmr_script.specs.Fits.{FitsSender};
 
@@ -243,9 +250,9 @@ impl<'a> Sending<'a> {
         requires own { own < 16 }
         requires frame { frame < 1048576 }
         requires sender { FitsSender self.transmit.now.sender }
-        requires fit { IsFitSaid (option_copied self.last) self.transmit.now.transmission }
-        ensures slot { (sent : Sent)
-            → Sends (spec.colour_of own self.entry.transmit.now.sender) (option_copied self.entry.last)
+        requires fit { IsSendable (option_copied self.last) self.transmit.now.transmission }
+        ensures slot { (sent : Transmitted)
+            → SendsSaid (spec.colour_of own self.entry.transmit.now.sender) (option_copied self.entry.last)
             self.entry.transmit.now.transmission sent
             → HoldsAt (λ slot. IsMade (spec.colour_of own self.entry.transmit.now.sender) frame slot result) sent.slots place }
     {

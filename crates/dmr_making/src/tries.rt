@@ -11,7 +11,7 @@ use dmr_data::{Blocks, Header, Rate};
 
 /// A try of a packet: what its bursts hold, if all of them are sent.
 #[derive(Drop)]
-pub(crate) struct Try {
+pub(crate) struct SentTry {
     /// Who sends it, an address of 24 bits.
     pub(crate) source: u32,
     /// Whether it is for a talk group.
@@ -27,7 +27,7 @@ pub(crate) struct Try {
 }
 
 /// The preamble of a try that so many bursts follow.
-fn preamble(t: &Try, left: u8) -> Csbk
+fn preamble(t: &SentTry, left: u8) -> Csbk
     requires source { t.now.source < 2 ^ 24 }
     requires destination { t.now.destination < 2 ^ 24 }
     ensures value { result ≡ spec.preamble_of t.now left }
@@ -66,7 +66,13 @@ fn is_there(blocks: &[bool], place: usize) -> bool
 }
 
 /// What goes out in the slot of a block, and nothing past the last.
-fn block_slot(colour: u8, t: &Try, preambles: u8, blocks: &[bool], place: usize) -> Option<[u8; 33]>
+fn block_slot(
+    colour: u8,
+    t: &SentTry,
+    preambles: u8,
+    blocks: &[bool],
+    place: usize,
+) -> Option<[u8; 33]>
     requires colour { colour < 16 }
     requires fit { IsFitTry t.now preambles blocks.now }
     ensures slot { (frame : ℕ) (forms : TryForms) → AreTryForms t.now preambles blocks.now forms
@@ -83,7 +89,7 @@ fn block_slot(colour: u8, t: &Try, preambles: u8, blocks: &[bool], place: usize)
 /// What goes out in a slot of a try, counted from 0.
 pub(crate) fn try_slot(
     colour: u8,
-    t: &Try,
+    t: &SentTry,
     preambles: u8,
     blocks: &[bool],
     place: usize,

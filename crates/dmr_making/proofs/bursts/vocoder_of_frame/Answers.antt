@@ -1,4 +1,4 @@
-use Rattle.std.proofs.Common.{◌≡◌, ℕ, ◌+◌, List, [], ◌++◌, Bool, ap, sym, ◌∙◌, append_assoc}
+use Rattle.std.proofs.Common.{◌≡◌, ℕ, ◌+◌, List, [], ◌++◌, Bool, ap, ◌∙◌, append_assoc}
 use Rattle.dmr_bits.specs.Bits.{bits_of}
 use Rattle.dmr_making.specs.Made.{thrice, vocoder_of_frame}
 use Rattle.dmr_making.proofs.bursts.vocoder_of_frame.Goals as goal

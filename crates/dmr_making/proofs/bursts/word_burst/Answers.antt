@@ -1,4 +1,3 @@
-use Rattle.std.proofs.Common.{List, Bool}
 use Rattle.dmr_bptc.proofs.Written.{one_written}
 use Rattle.dmr_making.proofs.SameBursts.{same_data}
 use Rattle.dmr_making.proofs.bursts.word_burst.Goals as goal

@@ -1,4 +1,4 @@
-use Rattle.std.proofs.Common.{◌≡◌, ℕ, ◌-◌, ◌<◌, ◌≤◌, ◌++◌, Bool, List, length, Some, None, refl, ap, sym, subst, ◌∙◌, arith, Option}
+use Rattle.std.proofs.Common.{Bool, List, refl, sym, subst}
 use Rattle.dmr_hearing.specs.Slots.{SentSlot}
 use Rattle.dmr_making.proofs.CallSlots.{sent_headed}
 use Rattle.dmr_making.specs.Calls.{slots_with, late_slots}

@@ -1,4 +1,5 @@
-use Rattle.std.proofs.Common.{◌≡◌, ℕ, ◌-◌, ◌<◌, ◌≤◌, Bool, List, length, Option, Some, None, slice_get, refl, ap, sym, subst, ◌∙◌, arith}
+use Rattle.std.proofs.Common.{◌≡◌, ℕ, ◌-◌, ◌<◌, ◌≤◌, List, length, Option, Some, None, slice_get, refl, ap, sym, subst, ◌∙◌}
+use Rattle.std.proofs.Common.{arith}
 use Rattle.dmr_hearing.specs.Slots.{SentSlot}
 use Rattle.dmr_making.proofs.CallSlots.{headed_first, headed_more, headed_gap, headed_voice, none_past}
 use Rattle.dmr_making.specs.Calls.{silences_behind, voice_slots}

@@ -1,4 +1,4 @@
-use Rattle.std.proofs.Common.{◌≡◌, ℕ, ◌-◌, ◌+◌, Bool, true, false, List, length, Some, None, get_or, refl, ap, sym, subst, ◌∙◌, arith}
+use Rattle.std.proofs.Common.{ℕ, ◌-◌, ◌+◌, Bool, true, false, List, length, Some, None, refl, subst}
 use Rattle.std.proofs.lemmas.List.{get_or_default}
 use Rattle.dmr_hearing.specs.Slots.{SentSlot}
 use Rattle.dmr_making.proofs.CallSlots.{tail_at}
@@ -12,7 +12,8 @@ returns-then-not-tail-place c = record {
   slot = λ forms p.
       let tail : List Bool = c.args.tail.now in
       tail_at (λ (slot : SentSlot). IsMade c.args.colour c.args.frame slot None) c.args.colour c.args.call.now forms tail
-      c.args.place (6 - length tail + c.args.place) refl c.requires.inside (λ q. absurd (let e = get_or_default tail c.args.place true false c.requires.inside in cc (e, q, c.if-not-tail-place.true))) (λ q. refl);
+      c.args.place (6 - length tail + c.args.place) refl c.requires.inside (λ q. absurd (let e = get_or_default tail c.args.place
+      true false c.requires.inside in cc (e, q, c.if-not-tail-place.true))) (λ q. refl);
 }
 
 pub returns : goal.returns

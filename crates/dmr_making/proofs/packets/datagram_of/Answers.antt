@@ -1,6 +1,5 @@
-use Rattle.std.proofs.Common.{◌≡◌, ℕ, List, Ok, refl, ap, sym, ◌∙◌, subst, inl, Result}
+use Rattle.std.proofs.Common.{◌≡◌, ℕ, Ok, refl, ◌∙◌, inl}
 use Rattle.dmr_ip.specs.Spelling.{SpellsDatagram, Identifies}
-use Rattle.dmr_ip.specs.declared.fault.ExpandFault.{ExpandFault}
 use Rattle.dmr_making.proofs.Flags.{ok_of}
 use Rattle.dmr_making.specs.Packets.{contents_of, datagram_in}
 use Rattle.dmr_making.proofs.packets.datagram_of.Goals as goal

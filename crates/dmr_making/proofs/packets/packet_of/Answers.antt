@@ -11,7 +11,7 @@ split_packet-requires c =
     let size : ℕ = payload p.rate p.confirmed in
     let blocks : ℕ = length p.shape.blocks.items in
     let long : length c.as_slice.result.now ≡ body_octets p.sap p.body =
-    ap (λ (l : List ℕ). length l) (c.as_slice.ensures.value ∙ c.body_of.ensures.value) ∙ body_length p in
+    ap (λ (l : List ℕ). length l) (c.as_slice.ensures.value ∙ c.packet_octets.ensures.value) ∙ body_length p in
     let most : blocks * size ≤ 127 * size = mul-le-mul_right size c.requires.fit.shape.most in
     let enough : body_octets p.sap p.body + 4 ≤ blocks * size = c.requires.fit.holds.enough in
     record { fits = omega (arith, long, most, enough) }

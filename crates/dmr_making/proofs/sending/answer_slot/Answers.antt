@@ -1,7 +1,7 @@
-use Rattle.std.proofs.Common.{List, Bool, sym, subst, refl, length}
+use Rattle.std.proofs.Common.{subst}
 use Rattle.dmr_making.proofs.OtherTries.{one_answer, answer_fits}
-use Rattle.dmr_making.specs.Sends.{SendsTry, Sent}
-use Rattle.dmr_making.specs.declared.tries.Try.{Try}
+use Rattle.dmr_making.specs.Sends.{SendsTry}
+use Rattle.dmr_making.specs.declared.tries.SentTry.{SentTry}
 use Rattle.dmr_making.proofs.sending.answer_slot.Goals as goal
 
 pub shaped_slot-requires-clause-fit : goal.shaped_slot-requires-clause-fit
@@ -11,6 +11,6 @@ pub returns : goal.returns
 returns c = record {
   slot = λ frame sent p.
       c.shaped_slot.ensures.slot frame sent
-      (subst (λ (t : Try). SendsTry t c.args.answer.now.shape.preambles c.args.answer.now.shape.blocks.items sent)
+      (subst (λ (t : SentTry). SendsTry t c.args.answer.now.shape.preambles c.args.answer.now.shape.blocks.items sent)
       (one_answer c.args.answer.now c.args.answer.now.kind p.0 c.answer_try.result p.1 c.answer_try.ensures.is) p.2);
 }

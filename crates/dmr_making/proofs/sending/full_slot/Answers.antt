@@ -1,13 +1,9 @@
-use Rattle.std.proofs.Common.{◌≡◌, ℕ, ◌≤◌, List, Bool, true, length, replicate, Option, Some, None, ap, sym, subst, ◌∙◌, arith, refl}
+use Rattle.std.proofs.Common.{ℕ, ◌≤◌, true, length, replicate, Option, Some, None, sym, subst, ◌∙◌, arith}
 use Rattle.std.proofs.lemmas.List.{length-replicate}
-use Rattle.dmr_hearing.specs.Slots.{SentSlot}
 use Rattle.dmr_making.proofs.TryFits.{one_full_try, full_try_fits}
-use Rattle.dmr_making.specs.Made.{IsMade}
-use Rattle.dmr_making.specs.Sends.{SendsTry, SendsAgain, Sent}
+use Rattle.dmr_making.specs.Sends.{SendsTry, SendsAgain}
 use Rattle.dmr_making.specs.Senders.{IsFitAgain}
-use Rattle.dmr_making.specs.Standing.{HoldsAt}
-use Rattle.dmr_making.specs.Tries.{IsFitTry}
-use Rattle.dmr_making.specs.declared.tries.Try.{Try}
+use Rattle.dmr_making.specs.declared.tries.SentTry.{SentTry}
 use Rattle.dmr_script.specs.Fits.{HasBlocks}
 use Rattle.dmr_script.specs.declared.packet.Again.TheVariants as again
 use Rattle.dmr_script.specs.declared.shape.PacketShape.{PacketShape}
@@ -44,7 +40,7 @@ returns-in-None c = record {
       subst (λ (s : Option PacketShape). SendsAgain packet (again.Full s) sent) c.in-None.is p in
       c.unshaped_slot.ensures.slot frame sent
       (subst (λ (n : ℕ). SendsTry c.full_try.result 0 (replicate n true) sent) (sym c.block_count-count.ensures.value)
-      (subst (λ (t : Try). SendsTry t 0 (replicate (length packet.shape.blocks.items) true) sent)
+      (subst (λ (t : SentTry). SendsTry t 0 (replicate (length packet.shape.blocks.items) true) sent)
       (one_full_try packet sends.0 c.full_try.result sends.1 c.full_try.ensures.is) sends.2));
 }
 
@@ -55,6 +51,6 @@ returns-in-Some c = record {
       let sends : SendsAgain packet (again.Full (Some c.in-Some.shape)) sent =
       subst (λ (s : Option PacketShape). SendsAgain packet (again.Full s) sent) c.in-Some.is p in
       c.shaped_slot.ensures.slot frame sent
-      (subst (λ (t : Try). SendsTry t c.in-Some.shape.preambles c.in-Some.shape.blocks.items sent)
+      (subst (λ (t : SentTry). SendsTry t c.in-Some.shape.preambles c.in-Some.shape.blocks.items sent)
       (one_full_try packet sends.0 c.full_try-in-Some.result sends.1 c.full_try-in-Some.ensures.is) sends.2);
 }

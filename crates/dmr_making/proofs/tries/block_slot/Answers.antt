@@ -1,4 +1,4 @@
-use Rattle.std.proofs.Common.{◌≡◌, ℕ, Bool, true, false, List, All, length, Some, None, get_or, slice_get, refl, ap, sym, ◌∙◌, arith, Option}
+use Rattle.std.proofs.Common.{◌≡◌, true, false, Some, None, get_or, slice_get, refl, sym, ◌∙◌}
 use Rattle.dmr_data.specs.Block.{FitsBlock}
 use Rattle.dmr_data.specs.declared.block.Block.{Block}
 use Rattle.dmr_hearing.specs.Slots.{SentSlot}
@@ -20,7 +20,8 @@ returns-in_err-block c = record {
   slot = λ frame forms p.
       let there : get_or c.args.blocks.now c.args.place false ≡ true =
       sym c.is_there.ensures.value ∙ c.if-not-is_there.false in
-      no_block (λ (slot : SentSlot). IsMade c.args.colour frame slot c.from_residual.result) c.args.t.now c.args.preambles c.args.blocks.now forms
+      no_block (λ (slot : SentSlot). IsMade c.args.colour frame slot c.from_residual.result) c.args.t.now c.args.preambles
+      c.args.blocks.now forms
       c.args.place p (copied_none c.get.result (slice_get c.args.t.now.blocks c.args.place) c.get.ensures.value c.in_err-block.was)
       there;
 }
@@ -36,7 +37,8 @@ returns c = record {
   slot = λ frame forms p.
       let there : get_or c.args.blocks.now c.args.place false ≡ true =
       sym c.is_there.ensures.value ∙ c.if-not-is_there.false in
-      sent_block (λ (slot : SentSlot). IsMade c.args.colour frame slot (Some c.block_burst.result)) c.args.t.now c.args.preambles c.args.blocks.now
+      sent_block (λ (slot : SentSlot). IsMade c.args.colour frame slot (Some c.block_burst.result)) c.args.t.now c.args.preambles
+      c.args.blocks.now
       forms c.args.place c.in_ok-block.block.now p
       (copied c.get.result (slice_get c.args.t.now.blocks c.args.place) c.in_ok-block.block c.get.ensures.value c.in_ok-block.was)
       there c.block_burst.ensures.burst;

@@ -11,7 +11,8 @@ use Rattle.dmr_making.proofs.tries.try_slot.Goals as goal
 pub returns-then-place-before : goal.returns-then-place-before
 returns-then-place-before c = record {
   slot = λ frame forms p.
-      preamble_at (λ (slot : SentSlot). IsMade c.args.colour frame slot (Some c.csbk_burst.result)) c.args.t.now c.args.preambles c.args.blocks.now
+      preamble_at (λ (slot : SentSlot). IsMade c.args.colour frame slot (Some c.csbk_burst.result)) c.args.t.now c.args.preambles
+      c.args.blocks.now
       forms c.args.place p (omega (arith, c.from-before.ensures, c.if-place-before.true)) (λ information q.
       let t = c.args.t.now in
       let items : List Bool = c.args.blocks.now in
@@ -26,14 +27,17 @@ returns-then-place-before c = record {
 pub returns-then-place-before-2 : goal.returns-then-place-before-2
 returns-then-place-before-2 c = record {
   slot = λ frame forms p.
-      header_at (λ (slot : SentSlot). IsMade c.args.colour frame slot (Some c.header_burst.result)) c.args.t.now c.args.preambles c.args.blocks.now
-      forms c.args.place p (omega (arith, c.from-before.ensures, c.if-place-before-2.true)) (c.header_burst.ensures.burst forms.header p.header);
+      header_at (λ (slot : SentSlot). IsMade c.args.colour frame slot (Some c.header_burst.result)) c.args.t.now c.args.preambles
+      c.args.blocks.now
+      forms c.args.place p (omega (arith, c.from-before.ensures, c.if-place-before-2.true)) (c.header_burst.ensures.burst
+      forms.header p.header);
 }
 
 pub returns : goal.returns
 returns c = record {
   slot = λ frame forms p.
-      behind_header (λ (slot : SentSlot). IsMade c.args.colour frame slot c.block_slot.result) c.args.t.now c.args.preambles c.args.blocks.now
+      behind_header (λ (slot : SentSlot). IsMade c.args.colour frame slot c.block_slot.result) c.args.t.now c.args.preambles
+      c.args.blocks.now
       forms c.args.place p (λ lt. omega (arith, c.from-before.ensures, c.if-place-before.false))
       (λ e. c.if-place-before-2.false (e ∙ sym c.from-before.ensures))
       (subst (λ (k : ℕ). HoldsAt (λ (slot : SentSlot). IsMade c.args.colour frame slot c.block_slot.result)
