@@ -5,6 +5,7 @@ pub mod Information
 pub mod Made
 pub mod Packets
 pub mod Places
+pub mod Playing
 pub mod Seen
 pub mod Senders
 pub mod Sends

@@ -16,6 +16,7 @@ mod calls;
 mod controls;
 pub mod laws;
 mod packets;
+mod playing;
 mod sending;
 mod tries;
 

@@ -1,0 +1,90 @@
+-- What a slot of a recording sends, frame by frame, of the transmissions that are placed in it.
+use Rattle.std.specs.Prelude.{◌≡◌, ℕ, ◌+◌, ◌-◌, ◌<◌, ◌≤◌, All, List, [], ◌∷◌, ◌++◌, map, drop, length, replicate, slice_get}
+use Rattle.std.specs.Prelude.{Option, Some, None, option_and_then, IfSome}
+use Rattle.dmr_hearing.specs.Slots.{SentSlot, Silent}
+use Rattle.dmr_making.specs.Made.{IsMade}
+use Rattle.dmr_making.specs.Senders.{colour_of, IsSendable}
+use Rattle.dmr_making.specs.Sends.{Transmitted, SendsSaid}
+use Rattle.dmr_making.specs.Standing.{HoldsAt}
+use Rattle.dmr_making.specs.declared.playing.Placed.{Placed}
+use Rattle.dmr_making.specs.declared.playing.Player.{Player}
+use Rattle.dmr_script.specs.Fits.{FitsSender}
+use Rattle.dmr_script.specs.declared.packet.PacketTry.{PacketTry}
+use Rattle.dmr_script.specs.declared.statement.NumberedStatement.{NumberedStatement}
+use Rattle.dmr_script.specs.declared.statement.Statement.{Statement}
+use Rattle.dmr_script.specs.declared.statement.Statement.TheVariants as statement
+use Rattle.dmr_script.specs.declared.statement.Transmission.{Transmission}
+use Rattle.dmr_script.specs.declared.statement.Transmission.TheVariants as said
+use Rattle.dmr_script.specs.declared.statement.Transmit.{Transmit}
+
+-- 1. What a statement says.
+
+-- the transmission that a statement is, where it is one
+abbrev pub transmit_of : Statement → Option Transmit
+transmit_of (statement.Transmit t) = Some t
+transmit_of other = None
+
+-- the transmission that the statement with this number is
+abbrev pub transmit_in : List NumberedStatement → ℕ → Option Transmit
+transmit_in statements at = option_and_then (λ (s : NumberedStatement). transmit_of s.statement) (slice_get statements at)
+
+-- the packet of a full try
+abbrev pub packet_of : Transmission → Option PacketTry
+packet_of (said.Packet p) = Some p
+packet_of other = None
+
+-- the packet that the statement with this number says, where there is one
+abbrev pub packet_in : List NumberedStatement → Option ℕ → Option PacketTry
+packet_in statements None = None
+packet_in statements (Some at) = option_and_then (λ (t : Transmit). packet_of t.transmission) (transmit_in statements at)
+
+-- 2. A slot.
+
+-- Frames of a slot, each with what is sent in it and the colour code that it is sent with.
+abbrev pub Line : Type 0
+Line = List (ℕ × SentSlot)
+
+-- A transmission that is placed is one of the statements, and fits.
+pub record IsFitPlaced (statements : List NumberedStatement) (p : Placed) : Type 0 where
+  pub transmit : Transmit
+  pub there : transmit_in statements p.statement ≡ Some transmit
+  pub sender : FitsSender transmit.sender
+  pub fit : IsSendable (packet_in statements p.packet) transmit.transmission
+  pub some : 0 < p.length
+
+-- These frames send it.
+pub record IsPlacedLine (own : ℕ) (statements : List NumberedStatement) (p : Placed) (line : Line) : Type 0 where
+  pub transmit : Transmit
+  pub there : transmit_in statements p.statement ≡ Some transmit
+  pub sent : Transmitted
+  pub sends : SendsSaid (colour_of own transmit.sender) (packet_in statements p.packet) transmit.transmission sent
+  pub count : length sent.slots ≡ p.length
+  pub is : line ≡ map (λ slot. (colour_of own transmit.sender, slot)) sent.slots
+
+-- From this frame on the slot sends these transmissions, each where it is placed, with silence in front of it.
+abbrev pub IsLine : ℕ → List NumberedStatement → ℕ → List Placed → Line → Type 0
+IsLine own statements from [] line = line ≡ []
+IsLine own statements from (p ∷ placed) line =
+    (mine : Line) × (rest : Line) × (from ≤ p.start) × IsPlacedLine own statements p mine
+    × IsLine own statements (p.start + p.length) placed rest
+    × (line ≡ replicate (p.start - from) (own, Silent) ++ (mine ++ rest))
+
+-- 3. Frame by frame.
+
+-- what goes out in this frame for what is sent in it
+abbrev pub IsMadeIn : ℕ → Option (List ℕ) → ℕ × SentSlot → Type 0
+IsMadeIn frame made sent = IsMade sent.0 frame sent.1 made
+
+-- those that haven't ended
+abbrev pub left_of : Player → List Placed
+left_of p = drop p.at p.placed.now
+
+-- the first of these hasn't ended before this frame
+abbrev pub EndsBehind : ℕ → List Placed → Type 0
+EndsBehind frame [] = Unit {0}
+EndsBehind frame (p ∷ placed) = frame < p.start + p.length
+
+-- A player stands in front of this frame: its line begins no later, and the first transmission of it hasn't ended.
+pub record IsInFront (p : Player) (frame : ℕ) : Type 0 where
+  pub begins : p.from ≤ frame
+  pub ends : EndsBehind frame (left_of p)

@@ -1,0 +1,103 @@
+//! A slot of a recording, frame by frame.
+ghost use Rattle.std.specs.Prelude.{◌≡◌, ◌<◌, ◌-◌, All, option_copied};
+ghost use Rattle.dmr_making.specs.Playing as spec;
+ghost use Rattle.dmr_making.specs.Playing.{IsFitPlaced, IsInFront, IsLine, IsMadeIn, IsPlacedLine, Line, left_of};
+ghost use Rattle.dmr_making.specs.Standing.{HoldsAt};
+
+use crate::sending::SlotTransmission;
+use dmr_script::{NumberedStatement, PacketTry, Statement, Transmission, Transmit};
+
+/// A transmission in its slot.
+#[derive(Clone, Copy)]
+pub(crate) struct Placed {
+    /// Which statement of the script says it, counted from 0.
+    pub(crate) statement: usize,
+    /// Which statement says the last confirmed packet in front of it.
+    pub(crate) packet: Option<usize>,
+    /// Its first frame.
+    pub(crate) start: u32,
+    /// How many slots it has.
+    pub(crate) length: u32,
+}
+
+/// A slot, as far as it was sent.
+#[derive(Drop)]
+pub(crate) struct Player<'a> {
+    /// The statements of the script.
+    pub(crate) statements: &'a [NumberedStatement],
+    /// The transmissions of the slot, in their order.
+    pub(crate) placed: &'a [Placed],
+    /// The own colour code.
+    pub(crate) own: u8,
+    /// How many of them have ended.
+    pub(crate) at: usize,
+    /// The frame behind the last that ended.
+    pub(crate) from: u32,
+}
+
+/// The transmission that the statement with this number is.
+pub(crate) fn transmit_in(statements: &[NumberedStatement], at: usize) -> Option<&Transmit>
+    ensures value { option_copied result ≡ spec.transmit_in statements.now at }
+{
+    let numbered = statements.get(at)?;
+    match &numbered.statement {
+        Statement::Transmit(transmit) => Some(transmit),
+        _ => None,
+    }
+}
+
+/// The packet that the statement with this number says.
+pub(crate) fn packet_in(statements: &[NumberedStatement], at: Option<usize>) -> Option<&PacketTry>
+    ensures value { option_copied result ≡ spec.packet_in statements.now at }
+{
+    let transmit = transmit_in(statements, at?)?;
+    match &transmit.transmission {
+        Transmission::Packet(packet) => Some(packet),
+        _ => None,
+    }
+}
+
+/// What goes out in a slot of a placed transmission, counted from 0.
+fn placed_slot(
+    statements: &[NumberedStatement],
+    placed: Placed,
+    own: u8,
+    place: usize,
+    frame: u32,
+) -> Option<[u8; 33]>
+    requires own { own < 16 }
+    requires frame { frame < 1048576 }
+    requires fit { IsFitPlaced statements.now placed }
+    ensures slot { (line : Line) → IsPlacedLine own statements.now placed line → HoldsAt (IsMadeIn frame result) line place }
+{
+    let transmit = transmit_in(statements, placed.statement)?;
+    let last = packet_in(statements, placed.packet);
+    SlotTransmission { transmit, last }.slot(own, place, frame)
+}
+
+impl<'a> Player<'a> {
+    ghost use Rattle.std.specs.Prelude.{◌≡◌, ◌<◌, ◌≤◌, ◌+◌, ◌-◌, ◌++◌, All, length};
+    ghost use Rattle.dmr_making.specs.Playing.{IsFitPlaced, IsInFront, IsLine, IsMadeIn, IsPlacedLine, Line, left_of};
+    ghost use Rattle.dmr_making.specs.Standing.{HoldsAt};
+
+    /// What goes out in this frame, which is the next one.
+    pub(crate) fn slot(&mut self, frame: u32) -> Option<[u8; 33]>
+        requires own { self.old.own < 16 }
+        requires frame { frame < 1048576 }
+        requires fit { All (IsFitPlaced self.old.statements.now) self.old.placed.now }
+        requires front { IsInFront self.old frame }
+        ensures made { (line : Line) → IsLine self.old.own self.old.statements.now self.old.from (left_of self.old) line
+            → HoldsAt (IsMadeIn frame result) line (frame - self.old.from) }
+    {
+        let placed = *self.placed.get(self.at)?;
+        if frame < placed.start {
+            return None;
+        }
+        let place = frame - placed.start;
+        if place + 1 >= placed.length {
+            self.at += 1;
+            self.from = frame + 1;
+        }
+        placed_slot(self.statements, placed, self.own, place as usize, frame)
+    }
+}
