@@ -1,12 +1,16 @@
 -- What stands in a place of a slot in which transmissions are placed.
-use Rattle.std.proofs.Common.{◌≡◌, ℕ, ◌+◌, ◌-◌, ◌<◌, ◌≤◌, List, [], ◌∷◌, ◌++◌, length, replicate, map, arith, ap, sym, ◌∙◌, subst}
-use Rattle.std.proofs.lemmas.List.{length-map, length-replicate}
+use Rattle.std.proofs.Common.{◌≡◌, ℕ, zero, suc, ◌+◌, ◌-◌, ◌<◌, ◌≤◌, List, [], ◌∷◌, ◌++◌, length, replicate, map, drop}
+use Rattle.std.proofs.Common.{slice_get, Option, Some, None, append_assoc, arith, ap, refl, sym, ◌∙◌, subst, All}
+use Rattle.std.proofs.lemmas.List.Elements.{All-head, All-tail}
+use Rattle.std.specs.List.{AllByRecursion}
+use Rattle.std.proofs.lemmas.List.{length-map, length-replicate, length-append}
 use Rattle.dmr_hearing.specs.Slots.{SentSlot, Silent}
 use Rattle.dmr_making.proofs.Standing.{at_left, at_right, at_replicate}
-use Rattle.dmr_making.specs.Playing.{IsLine, IsPlacedLine, Line}
+use Rattle.dmr_making.specs.Playing.{EndsBehind, IsFitPlaced, IsInFront, IsLine, IsLineStep, IsMadeIn, IsPlacedLine, Line, left_of}
 use Rattle.dmr_making.specs.Senders.{colour_of}
 use Rattle.dmr_making.specs.Standing.{HoldsAt}
 use Rattle.dmr_making.specs.declared.playing.Placed.{Placed}
+use Rattle.dmr_making.specs.declared.playing.Player.{Player}
 use Rattle.dmr_script.specs.declared.statement.NumberedStatement.{NumberedStatement}
 
 -- nothing is placed
@@ -42,3 +46,129 @@ line_mine P own statements from p placed line frame l begun less here =
     subst (λ (x : Line). HoldsAt P x (frame - from)) (sym l.5)
     (at_right P gap (mine ++ l.1) (frame - p.start) (frame - from) (omega (arith, long, behind, begun))
     (at_left P mine l.1 (frame - p.start) (omega (arith, count, begun, less)) (here mine is)))
+
+-- what is read is the first of what is left
+pub left_is : {X : Type 0} (xs : List X) (k : ℕ) (x : X) → slice_get xs k ≡ Some x → drop k xs ≡ x ∷ drop (suc k) xs
+left_is [] k x e = absurd (cc)
+left_is (y ∷ xs) zero x e = let same : y ≡ x = cc in ap (λ (z : _). z ∷ xs) same
+left_is (y ∷ xs) (suc k) x e = left_is xs k x e
+
+pub none_left : {X : Type 0} (xs : List X) (k : ℕ) → slice_get xs k ≡ None → drop k xs ≡ []
+none_left [] zero e = refl
+none_left [] (suc k) e = refl
+none_left (y ∷ xs) zero e = absurd (cc)
+none_left (y ∷ xs) (suc k) e = none_left xs k e
+
+-- where nothing is left
+pub step_none : (old : Player) (frame : ℕ) (line : Line) → left_of old ≡ [] → IsInFront old frame
+    → IsLine old.own old.statements.now old.from (left_of old) line → IsLineStep old old frame None line
+step_none old frame line e front l = record {
+  holds = line_none (IsMadeIn frame None) old.own old.statements.now old.from line (frame - old.from)
+      (subst (λ (ps : List Placed). IsLine old.own old.statements.now old.from ps line) e l);
+  before = [];
+  rest = line;
+  split = refl;
+  count = omega arith;
+  goes_on = l;
+  front = record {
+    begins = let b = front.begins in omega (arith, b);
+    ends = subst (EndsBehind (frame + 1)) (sym e) tt;
+  };
+}
+
+-- where the first that is left hasn't begun
+pub step_gap : (old : Player) (frame : ℕ) (line : Line) (p : Placed) (ps : List Placed) → left_of old ≡ p ∷ ps → frame < p.start
+    → 0 < p.length → IsInFront old frame
+    → IsLine old.own old.statements.now old.from (left_of old) line → IsLineStep old old frame None line
+step_gap old frame line p ps e less some front l = record {
+  holds =
+      let b = front.begins in
+      line_gap (IsMadeIn frame None) old.own old.statements.now old.from p ps line (frame - old.from)
+      (subst (λ (qs : List Placed). IsLine old.own old.statements.now old.from qs line) e l) (omega (arith, b, less)) refl;
+  before = [];
+  rest = line;
+  split = refl;
+  count = omega arith;
+  goes_on = l;
+  front = record {
+    begins = let b = front.begins in omega (arith, b);
+    ends = subst (EndsBehind (frame + 1)) (sym e) (omega (arith, less, some));
+  };
+}
+
+-- where the first that is left goes on behind the frame
+pub step_in : (old : Player) (frame : ℕ) (made : Option (List ℕ)) (line : Line) (p : Placed) (ps : List Placed)
+    → left_of old ≡ p ∷ ps → p.start ≤ frame → frame + 1 < p.start + p.length → IsInFront old frame
+    → ((mine : Line) → IsPlacedLine old.own old.statements.now p mine → HoldsAt (IsMadeIn frame made) mine (frame - p.start))
+    → IsLine old.own old.statements.now old.from (left_of old) line → IsLineStep old old frame made line
+step_in old frame made line p ps e begun more front here l = record {
+  holds = line_mine (IsMadeIn frame made) old.own old.statements.now old.from p ps line frame
+      (subst (λ (qs : List Placed). IsLine old.own old.statements.now old.from qs line) e l) begun (omega (arith, more)) here;
+  before = [];
+  rest = line;
+  split = refl;
+  count = omega arith;
+  goes_on = l;
+  front = record {
+    begins = let b = front.begins in omega (arith, b);
+    ends = subst (EndsBehind (frame + 1)) (sym e) more;
+  };
+}
+
+-- what is left begins behind this frame
+begins_behind : (own : ℕ) (statements : List NumberedStatement) (from : ℕ) (ps : List Placed) (line : Line)
+    → AllByRecursion (λ (q : Placed). 0 < q.length) ps → IsLine own statements from ps line → EndsBehind from ps
+begins_behind own statements from [] line some l = tt
+begins_behind own statements from (q ∷ ps) line some l = let a = some.0 in let b = l.2 in omega (arith, a, b)
+
+-- where the first that is left ends with the frame
+pub step_over : (old new : Player) (frame : ℕ) (made : Option (List ℕ)) (line : Line) (p : Placed) (ps : List Placed)
+    → left_of old ≡ p ∷ ps → left_of new ≡ ps → new.from ≡ frame + 1 → p.start ≤ frame → frame + 1 ≡ p.start + p.length
+    → AllByRecursion (λ (q : Placed). 0 < q.length) ps
+    → ((mine : Line) → IsPlacedLine old.own old.statements.now p mine → HoldsAt (IsMadeIn frame made) mine (frame - p.start))
+    → IsLine old.own old.statements.now old.from (left_of old) line → IsLineStep old new frame made line
+step_over old new frame made line p ps e left from begun ends some here l =
+    let own : ℕ = old.own in
+    let statements : List NumberedStatement = old.statements.now in
+    let first : IsLine own statements old.from (p ∷ ps) line =
+    subst (λ (qs : List Placed). IsLine own statements old.from qs line) e l in
+    let mine : Line = first.0 in
+    let gap : Line = replicate (p.start - old.from) (own, Silent) in
+    let behind : old.from ≤ p.start = first.2 in
+    let is : IsPlacedLine own statements p mine = first.3 in
+    let long : length gap ≡ p.start - old.from = length-replicate (p.start - old.from) (own, Silent) in
+    let count : length mine ≡ p.length =
+    ap (λ (x : Line). length x) is.is
+    ∙ length-map is.sent.slots (λ (slot : SentSlot). (colour_of own is.transmit.sender, slot)) ∙ is.count in
+    let all = length-append gap mine in
+    let there : new.from ≡ p.start + p.length = from ∙ ends in
+    let rest : IsLine own statements new.from ps first.1 =
+    subst (λ (n : ℕ). IsLine own statements n ps first.1) (sym there) first.4 in
+    record {
+      holds = line_mine (IsMadeIn frame made) own statements old.from p ps line frame first begun (omega (arith, ends)) here;
+      before = gap ++ mine;
+      rest = first.1;
+      split = first.5 ∙ sym (append_assoc gap mine first.1);
+      count = omega (arith, long, count, all, behind, there);
+      goes_on = subst (λ (qs : List Placed). IsLine own statements new.from qs first.1) (sym left) rest;
+      front = record {
+        begins = omega (arith, from);
+        ends = subst (EndsBehind (frame + 1)) (sym left)
+            (subst (λ (n : ℕ). EndsBehind n ps) from (begins_behind own statements new.from ps first.1 some rest));
+      };
+    }
+
+-- each placed transmission that is left has a slot
+pub left_have_slots : (statements : List NumberedStatement) (placed : List Placed) (k : ℕ) → All (IsFitPlaced statements) placed
+    → AllByRecursion (λ (q : Placed). 0 < q.length) (drop k placed)
+left_have_slots statements [] zero all = tt
+left_have_slots statements [] (suc k) all = tt
+left_have_slots statements (p ∷ ps) zero all =
+    let first : IsFitPlaced statements p = All-head (IsFitPlaced statements) p ps all in
+    (first.some, left_have_slots statements ps zero (All-tail (IsFitPlaced statements) p ps all))
+left_have_slots statements (p ∷ ps) (suc k) all = left_have_slots statements ps k (All-tail (IsFitPlaced statements) p ps all)
+
+-- the first that is left ends behind the frame
+pub ends_behind : (old : Player) (frame : ℕ) (p : Placed) (ps : List Placed) → left_of old ≡ p ∷ ps → IsInFront old frame
+    → frame < p.start + p.length
+ends_behind old frame p ps e front = subst (EndsBehind frame) e front.ends

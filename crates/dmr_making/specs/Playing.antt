@@ -88,3 +88,14 @@ EndsBehind frame (p ∷ placed) = frame < p.start + p.length
 pub record IsInFront (p : Player) (frame : ℕ) : Type 0 where
   pub begins : p.from ≤ frame
   pub ends : EndsBehind frame (left_of p)
+
+-- What a player does in a frame, whose slot sends this line from where it stands: what goes out is made of it, and the player goes
+-- on behind a front of the line.
+pub record IsLineStep (old new : Player) (frame : ℕ) (made : Option (List ℕ)) (line : Line) : Type 0 where
+  pub holds : HoldsAt (IsMadeIn frame made) line (frame - old.from)
+  pub before : Line
+  pub rest : Line
+  pub split : line ≡ before ++ rest
+  pub count : old.from + length before ≡ new.from
+  pub goes_on : IsLine old.own old.statements.now new.from (left_of new) rest
+  pub front : IsInFront new (frame + 1)

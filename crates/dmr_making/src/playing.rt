@@ -1,7 +1,7 @@
 //! A slot of a recording, frame by frame.
-ghost use Rattle.std.specs.Prelude.{◌≡◌, ◌<◌, ◌-◌, All, option_copied};
+ghost use Rattle.std.specs.Prelude.{◌≡◌, ◌<◌, slice_get, option_copied, IfSome};
 ghost use Rattle.dmr_making.specs.Playing as spec;
-ghost use Rattle.dmr_making.specs.Playing.{IsFitPlaced, IsInFront, IsLine, IsMadeIn, IsPlacedLine, Line, left_of};
+ghost use Rattle.dmr_making.specs.Playing.{IsFitPlaced, IsMadeIn, IsPlacedLine, Line};
 ghost use Rattle.dmr_making.specs.Standing.{HoldsAt};
 
 use crate::sending::SlotTransmission;
@@ -75,10 +75,17 @@ fn placed_slot(
     SlotTransmission { transmit, last }.slot(own, place, frame)
 }
 
+/// The placed transmission with this number.
+fn placed_at(placed: &[Placed], at: usize) -> Option<Placed>
+    ensures value { result ≡ slice_get placed.now at }
+    ensures room { IfSome result (λ one. at < 18446744073709551615) }
+{
+    placed.get(at).copied()
+}
+
 impl<'a> Player<'a> {
-    ghost use Rattle.std.specs.Prelude.{◌≡◌, ◌<◌, ◌≤◌, ◌+◌, ◌-◌, ◌++◌, All, length};
-    ghost use Rattle.dmr_making.specs.Playing.{IsFitPlaced, IsInFront, IsLine, IsMadeIn, IsPlacedLine, Line, left_of};
-    ghost use Rattle.dmr_making.specs.Standing.{HoldsAt};
+    ghost use Rattle.std.specs.Prelude.{◌≡◌, ◌<◌, All};
+    ghost use Rattle.dmr_making.specs.Playing.{IsFitPlaced, IsInFront, IsLine, IsLineStep, Line, left_of};
 
     /// What goes out in this frame, which is the next one.
     pub(crate) fn slot(&mut self, frame: u32) -> Option<[u8; 33]>
@@ -86,18 +93,24 @@ impl<'a> Player<'a> {
         requires frame { frame < 1048576 }
         requires fit { All (IsFitPlaced self.old.statements.now) self.old.placed.now }
         requires front { IsInFront self.old frame }
-        ensures made { (line : Line) → IsLine self.old.own self.old.statements.now self.old.from (left_of self.old) line
-            → HoldsAt (IsMadeIn frame result) line (frame - self.old.from) }
+        ensures own { self.new.own ≡ self.old.own }
+        ensures statements { self.new.statements.now ≡ self.old.statements.now }
+        ensures placed { self.new.placed.now ≡ self.old.placed.now }
+        ensures step { (line : Line) → IsLine self.old.own self.old.statements.now self.old.from (left_of self.old) line
+            → IsLineStep self.old self.new frame result line }
     {
-        let placed = *self.placed.get(self.at)?;
+        let Some(placed) = placed_at(self.placed, self.at) else {
+            return None;
+        };
         if frame < placed.start {
             return None;
         }
         let place = frame - placed.start;
+        let made = placed_slot(self.statements, placed, self.own, place as usize, frame);
         if place + 1 >= placed.length {
             self.at += 1;
             self.from = frame + 1;
         }
-        placed_slot(self.statements, placed, self.own, place as usize, frame)
+        made
     }
 }
