@@ -6,7 +6,7 @@ use Rattle.std.specs.List.{AllByRecursion}
 use Rattle.std.proofs.lemmas.List.{length-map, length-replicate, length-append}
 use Rattle.dmr_hearing.specs.Slots.{SentSlot, Silent}
 use Rattle.dmr_making.proofs.Standing.{at_left, at_right, at_replicate}
-use Rattle.dmr_making.specs.Playing.{EndsBehind, IsFitPlaced, IsInFront, IsLine, IsLineStep, IsMadeIn, IsPlacedLine, Line, left_of}
+use Rattle.dmr_making.specs.Playing.{EndsBehind, IsFitPlaced, IsInFront, IsOrdered, IsLine, IsLineStep, IsMadeIn, IsPlacedLine, Line, left_of}
 use Rattle.dmr_making.specs.Senders.{colour_of}
 use Rattle.dmr_making.specs.Standing.{HoldsAt}
 use Rattle.dmr_making.specs.declared.playing.Placed.{Placed}
@@ -70,10 +70,6 @@ step_none old frame line e front l = record {
   split = refl;
   count = omega arith;
   goes_on = l;
-  front = record {
-    begins = let b = front.begins in omega (arith, b);
-    ends = subst (EndsBehind (frame + 1)) (sym e) tt;
-  };
 }
 
 -- where the first that is left hasn't begun
@@ -90,10 +86,6 @@ step_gap old frame line p ps e less some front l = record {
   split = refl;
   count = omega arith;
   goes_on = l;
-  front = record {
-    begins = let b = front.begins in omega (arith, b);
-    ends = subst (EndsBehind (frame + 1)) (sym e) (omega (arith, less, some));
-  };
 }
 
 -- where the first that is left goes on behind the frame
@@ -109,17 +101,7 @@ step_in old frame made line p ps e begun more front here l = record {
   split = refl;
   count = omega arith;
   goes_on = l;
-  front = record {
-    begins = let b = front.begins in omega (arith, b);
-    ends = subst (EndsBehind (frame + 1)) (sym e) more;
-  };
 }
-
--- what is left begins behind this frame
-begins_behind : (own : ℕ) (statements : List NumberedStatement) (from : ℕ) (ps : List Placed) (line : Line)
-    → AllByRecursion (λ (q : Placed). 0 < q.length) ps → IsLine own statements from ps line → EndsBehind from ps
-begins_behind own statements from [] line some l = tt
-begins_behind own statements from (q ∷ ps) line some l = let a = some.0 in let b = l.2 in omega (arith, a, b)
 
 -- where the first that is left ends with the frame
 pub step_over : (old new : Player) (frame : ℕ) (made : Option (List ℕ)) (line : Line) (p : Placed) (ps : List Placed)
@@ -151,11 +133,6 @@ step_over old new frame made line p ps e left from begun ends some here l =
       split = first.5 ∙ sym (append_assoc gap mine first.1);
       count = omega (arith, long, count, all, behind, there);
       goes_on = subst (λ (qs : List Placed). IsLine own statements new.from qs first.1) (sym left) rest;
-      front = record {
-        begins = omega (arith, from);
-        ends = subst (EndsBehind (frame + 1)) (sym left)
-            (subst (λ (n : ℕ). EndsBehind n ps) from (begins_behind own statements new.from ps first.1 some rest));
-      };
     }
 
 -- each placed transmission that is left has a slot
@@ -172,3 +149,36 @@ left_have_slots statements (p ∷ ps) (suc k) all = left_have_slots statements p
 pub ends_behind : (old : Player) (frame : ℕ) (p : Placed) (ps : List Placed) → left_of old ≡ p ∷ ps → IsInFront old frame
     → frame < p.start + p.length
 ends_behind old frame p ps e front = subst (EndsBehind frame) e front.ends
+
+-- how players go on where nothing is left,
+pub front_none : (old : Player) (frame : ℕ) → left_of old ≡ [] → IsInFront old frame → IsInFront old (frame + 1)
+front_none old frame e front = record {
+  begins = let b = front.begins in omega (arith, b);
+  ends = subst (EndsBehind (frame + 1)) (sym e) tt;
+}
+
+-- where the first that is left ends behind the next frame,
+pub front_in : (old : Player) (frame : ℕ) (p : Placed) (ps : List Placed) → left_of old ≡ p ∷ ps → frame + 1 < p.start + p.length
+    → IsInFront old frame → IsInFront old (frame + 1)
+front_in old frame p ps e more front = record {
+  begins = let b = front.begins in omega (arith, b);
+  ends = subst (EndsBehind (frame + 1)) (sym e) more;
+}
+
+-- and where it ends with the frame
+ordered_ends : (from : ℕ) (ps : List Placed) → IsOrdered from ps → EndsBehind from ps
+ordered_ends from [] o = tt
+ordered_ends from (p ∷ ps) o = let a = o.0 in let b = o.1 in omega (arith, a, b)
+
+pub ordered_over : (old new : Player) (frame : ℕ) (p : Placed) (ps : List Placed) → left_of old ≡ p ∷ ps → left_of new ≡ ps
+    → new.from ≡ frame + 1 → frame + 1 ≡ p.start + p.length → IsOrdered old.from (left_of old)
+    → IsOrdered new.from (left_of new)
+ordered_over old new frame p ps e left from ends o =
+    let first : IsOrdered old.from (p ∷ ps) = subst (IsOrdered old.from) e o in
+    subst (IsOrdered new.from) (sym left) (subst (λ (n : ℕ). IsOrdered n ps) (sym (from ∙ ends)) first.2)
+
+pub front_over : (new : Player) (frame : ℕ) → new.from ≡ frame + 1 → IsOrdered new.from (left_of new) → IsInFront new (frame + 1)
+front_over new frame from o = record {
+  begins = omega (arith, from);
+  ends = subst (λ (n : ℕ). EndsBehind n (left_of new)) from (ordered_ends new.from (left_of new) o);
+}

@@ -1,9 +1,10 @@
 -- What a slot of a recording sends, frame by frame, of the transmissions that are placed in it.
-use Rattle.std.specs.Prelude.{◌≡◌, ℕ, ◌+◌, ◌-◌, ◌<◌, ◌≤◌, All, List, [], ◌∷◌, ◌++◌, map, drop, length, replicate, slice_get}
+use Rattle.std.specs.Prelude.{◌≡◌, ℕ, suc, ◌+◌, ◌-◌, ◌<◌, ◌≤◌, All, List, [], ◌∷◌, ◌++◌, map, drop, length, replicate, slice_get}
 use Rattle.std.specs.Prelude.{Option, Some, None, option_and_then, IfSome}
 use Rattle.dmr_hearing.specs.Slots.{SentSlot, Silent}
 use Rattle.dmr_making.specs.Made.{IsMade}
 use Rattle.dmr_making.specs.Senders.{colour_of, IsSendable}
+use Rattle.dmr_record.specs.Uplink.{UplinkSlots}
 use Rattle.dmr_making.specs.Sends.{Transmitted, SendsSaid}
 use Rattle.dmr_making.specs.Standing.{HoldsAt}
 use Rattle.dmr_making.specs.declared.playing.Placed.{Placed}
@@ -89,6 +90,11 @@ pub record IsInFront (p : Player) (frame : ℕ) : Type 0 where
   pub begins : p.from ≤ frame
   pub ends : EndsBehind frame (left_of p)
 
+-- The transmissions stand one behind another from this frame on, and each has a slot.
+abbrev pub IsOrdered : ℕ → List Placed → Type 0
+IsOrdered from [] = Unit {0}
+IsOrdered from (p ∷ placed) = (from ≤ p.start) × (0 < p.length) × IsOrdered (p.start + p.length) placed
+
 -- What a player does in a frame, whose slot sends this line from where it stands: what goes out is made of it, and the player goes
 -- on behind a front of the line.
 pub record IsLineStep (old new : Player) (frame : ℕ) (made : Option (List ℕ)) (line : Line) : Type 0 where
@@ -98,4 +104,23 @@ pub record IsLineStep (old new : Player) (frame : ℕ) (made : Option (List ℕ)
   pub split : line ≡ before ++ rest
   pub count : old.from + length before ≡ new.from
   pub goes_on : IsLine old.own old.statements.now new.from (left_of new) rest
-  pub front : IsInFront new (frame + 1)
+
+-- 4. Both slots.
+
+-- This frame has what goes out in it for what both slots send.
+abbrev pub IsFrameMade : ℕ → Line → Line → UplinkSlots → Type 0
+IsFrameMade frame first second slots =
+    (one : Option (List ℕ)) × (two : Option (List ℕ)) × (slots ≡ one ∷ two ∷ [])
+    × HoldsAt (IsMadeIn frame one) first frame × HoldsAt (IsMadeIn frame two) second frame
+
+-- These frames do, from this one on.
+abbrev pub AreFramesMade : ℕ → Line → Line → List UplinkSlots → Type 0
+AreFramesMade frame first second [] = Unit {0}
+AreFramesMade frame first second (slots ∷ frames) =
+    IsFrameMade frame first second slots × AreFramesMade (suc frame) first second frames
+
+-- A player stands in a line: the line from there on is what is left of it.
+abbrev pub StandsIn : Player → Line → Type 0
+StandsIn p line =
+    (before : Line) × (rest : Line) × (line ≡ before ++ rest) × (length before ≡ p.from)
+    × IsLine p.own p.statements.now p.from (left_of p) rest

@@ -84,8 +84,8 @@ fn placed_at(placed: &[Placed], at: usize) -> Option<Placed>
 }
 
 impl<'a> Player<'a> {
-    ghost use Rattle.std.specs.Prelude.{◌≡◌, ◌<◌, All};
-    ghost use Rattle.dmr_making.specs.Playing.{IsFitPlaced, IsInFront, IsLine, IsLineStep, Line, left_of};
+    ghost use Rattle.std.specs.Prelude.{◌≡◌, ◌<◌, ◌+◌, All};
+    ghost use Rattle.dmr_making.specs.Playing.{IsFitPlaced, IsInFront, IsLine, IsLineStep, IsOrdered, Line, left_of};
 
     /// What goes out in this frame, which is the next one.
     pub(crate) fn slot(&mut self, frame: u32) -> Option<[u8; 33]>
@@ -93,9 +93,12 @@ impl<'a> Player<'a> {
         requires frame { frame < 1048576 }
         requires fit { All (IsFitPlaced self.old.statements.now) self.old.placed.now }
         requires front { IsInFront self.old frame }
+        requires ordered { IsOrdered self.old.from (left_of self.old) }
         ensures own { self.new.own ≡ self.old.own }
         ensures statements { self.new.statements.now ≡ self.old.statements.now }
         ensures placed { self.new.placed.now ≡ self.old.placed.now }
+        ensures front { IsInFront self.new (frame + 1) }
+        ensures ordered { IsOrdered self.new.from (left_of self.new) }
         ensures step { (line : Line) → IsLine self.old.own self.old.statements.now self.old.from (left_of self.old) line
             → IsLineStep self.old self.new frame result line }
     {
