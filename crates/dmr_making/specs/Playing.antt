@@ -4,7 +4,8 @@ use Rattle.std.specs.Prelude.{Option, Some, None, option_and_then, IfSome}
 use Rattle.dmr_hearing.specs.Slots.{SentSlot, Silent}
 use Rattle.dmr_making.specs.Made.{IsMade}
 use Rattle.dmr_making.specs.Senders.{colour_of, IsSendable}
-use Rattle.dmr_record.specs.Uplink.{UplinkSlots}
+use Rattle.dmr_record.specs.Uplink.{UplinkSlots, IsFrame, frame_octets}
+use Rattle.std.specs.Io.KnownBytes.{Appends}
 use Rattle.dmr_making.specs.Sends.{Transmitted, SendsSaid}
 use Rattle.dmr_making.specs.Standing.{HoldsAt}
 use Rattle.dmr_making.specs.declared.playing.Placed.{Placed}
@@ -124,3 +125,26 @@ abbrev pub StandsIn : Player → Line → Type 0
 StandsIn p line =
     (before : Line) × (rest : Line) × (line ≡ before ++ rest) × (length before ≡ p.from)
     × IsLine p.own p.statements.now p.from (left_of p) rest
+
+-- A player is ready for a frame: what is left is placed in order, fits, and hasn't ended before it.
+pub record IsReady (p : Player) (frame : ℕ) : Type 0 where
+  pub own : p.own < 16
+  pub fit : All (IsFitPlaced p.statements.now) p.placed.now
+  pub front : IsInFront p frame
+  pub ordered : IsOrdered p.from (left_of p)
+
+-- A player sends the same transmissions as before, and what goes out in a frame is a step of any line that is left of it.
+pub record IsPlayed (old new : Player) (frame : ℕ) (made : Option (List ℕ)) : Type 0 where
+  pub own : new.own ≡ old.own
+  pub statements : new.statements.now ≡ old.statements.now
+  pub placed : new.placed.now ≡ old.placed.now
+  pub step : (line : Line) → IsLine old.own old.statements.now old.from (left_of old) line → IsLineStep old new frame made line
+
+-- Both players play a frame, and it is written.
+pub record PlaysFrame (first first_new second second_new : Player) (frame : ℕ) (old new : Option (List ℕ)) : Type 0 where
+  pub one : Option (List ℕ)
+  pub two : Option (List ℕ)
+  pub first_is : IsPlayed first first_new frame one
+  pub second_is : IsPlayed second second_new frame two
+  pub is : IsFrame (one ∷ two ∷ [])
+  pub written : Appends old new (frame_octets (one ∷ two ∷ []))

@@ -17,6 +17,7 @@ mod controls;
 pub mod laws;
 mod packets;
 mod playing;
+mod recording;
 mod sending;
 mod tries;
 
