@@ -1,6 +1,7 @@
 pub mod Bodies
 pub mod CallSlots
 pub mod Flags
+pub mod Frames
 pub mod Lines
 pub mod OtherTries
 pub mod SameBursts

@@ -4,7 +4,8 @@ use Rattle.std.specs.Prelude.{Option, Some, None, option_and_then, IfSome}
 use Rattle.dmr_hearing.specs.Slots.{SentSlot, Silent}
 use Rattle.dmr_making.specs.Made.{IsMade}
 use Rattle.dmr_making.specs.Senders.{colour_of, IsSendable}
-use Rattle.dmr_record.specs.Uplink.{UplinkSlots, IsFrame, frame_octets}
+use Rattle.dmr_record.specs.Uplink.{UplinkSlots, IsFrame, frame_octets, frames_octets, uplink_file}
+use Rattle.std.specs.List.{AllByRecursion}
 use Rattle.std.specs.Io.KnownBytes.{Appends}
 use Rattle.dmr_making.specs.Sends.{Transmitted, SendsSaid}
 use Rattle.dmr_making.specs.Standing.{HoldsAt}
@@ -148,3 +149,24 @@ pub record PlaysFrame (first first_new second second_new : Player) (frame : ℕ)
   pub second_is : IsPlayed second second_new frame two
   pub is : IsFrame (one ∷ two ∷ [])
   pub written : Appends old new (frame_octets (one ∷ two ∷ []))
+
+-- What was written of both slots, from the first frame on up to so many: frames with what goes out for what these lines send.
+pub record WritesFrames (first first_now second second_now : Player) (count : ℕ) (old new : Option (List ℕ)) : Type 0 where
+  pub frames : List UplinkSlots
+  pub many : length frames ≡ count
+  pub each : AllByRecursion IsFrame frames
+  pub made : (one two : Line) → IsLine first.own first.statements.now first.from (left_of first) one
+      → IsLine second.own second.statements.now second.from (left_of second) two
+      → AreFramesMade 0 one two frames × StandsIn first_now one × StandsIn second_now two
+  pub written : Appends old new (frames_octets frames)
+
+-- The uplink file of a recording was written: so many frames, each with what goes out for what both slots send, whatever lines
+-- that is.
+pub record WritesRecording (own : ℕ) (statements : List NumberedStatement) (first second : List Placed) (count : ℕ)
+    (old new : Option (List ℕ)) : Type 0 where
+  pub frames : List UplinkSlots
+  pub many : length frames ≡ count
+  pub each : AllByRecursion IsFrame frames
+  pub made : (one two : Line) → IsLine own statements 0 first one → IsLine own statements 0 second two
+      → AreFramesMade 0 one two frames
+  pub written : Appends old new (uplink_file frames)

@@ -85,7 +85,31 @@ fn placed_at(placed: &[Placed], at: usize) -> Option<Placed>
 
 impl<'a> Player<'a> {
     ghost use Rattle.std.specs.Prelude.{◌≡◌, ◌<◌, ◌+◌, All};
-    ghost use Rattle.dmr_making.specs.Playing.{IsFitPlaced, IsInFront, IsLine, IsLineStep, IsOrdered, Line, left_of};
+    ghost use Rattle.dmr_making.specs.Playing.{IsFitPlaced, IsInFront, IsLine, IsLineStep, IsOrdered, IsReady, Line, left_of};
+
+    /// A player of these transmissions, in front of the first frame.
+    pub(crate) fn new(
+        statements: &'a [NumberedStatement],
+        own: u8,
+        placed: &'a [Placed],
+    ) -> Player<'a>
+        requires own { own < 16 }
+        requires fit { All (IsFitPlaced statements.now) placed.now }
+        requires ordered { IsOrdered 0 placed.now }
+        ensures own { result.own ≡ own }
+        ensures statements { result.statements.now ≡ statements.entry.now }
+        ensures left { left_of result ≡ placed.entry.now }
+        ensures from { result.from ≡ 0 }
+        ensures ready { IsReady result 0 }
+    {
+        Player {
+            statements,
+            placed,
+            own,
+            at: 0,
+            from: 0,
+        }
+    }
 
     /// What goes out in this frame, which is the next one.
     pub(crate) fn slot(&mut self, frame: u32) -> Option<[u8; 33]>

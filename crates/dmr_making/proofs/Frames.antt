@@ -1,0 +1,103 @@
+-- What is written of both slots, frame by frame.
+use Rattle.std.proofs.Common.{◌≡◌, ℕ, suc, ◌+◌, ◌-◌, ◌≤◌, List, [], ◌∷◌, ◌++◌, length, Option, append_assoc, arith, ap, refl, sym}
+use Rattle.std.proofs.Common.{◌∙◌, subst}
+use Rattle.std.proofs.KnownBytes.{Appends-trans}
+use Rattle.std.proofs.lemmas.Grind.{flat_map-append}
+use Rattle.std.proofs.lemmas.List.{append-nil, length-append}
+use Rattle.std.specs.Io.KnownBytes.{Appends}
+use Rattle.std.specs.List.{AllByRecursion}
+use Rattle.dmr_making.proofs.Seen.{all_append}
+use Rattle.dmr_making.proofs.Standing.{at_right}
+use Rattle.dmr_making.specs.Playing.{AreFramesMade, IsFrameMade, IsLine, IsLineStep, IsMadeIn, IsPlayed, IsReady, Line, PlaysFrame}
+use Rattle.dmr_making.specs.Playing.{StandsIn, WritesFrames, WritesRecording, left_of}
+use Rattle.dmr_making.specs.Standing.{HoldsAt}
+use Rattle.dmr_making.specs.declared.playing.Placed.{Placed}
+use Rattle.dmr_making.specs.declared.playing.Player.{Player}
+use Rattle.dmr_script.specs.declared.statement.NumberedStatement.{NumberedStatement}
+use Rattle.dmr_record.specs.Head.{head_octets, uplink_magic}
+use Rattle.dmr_record.specs.Uplink.{IsFrame, UplinkSlots, frame_octets, frames_octets}
+
+-- one frame more
+made_more : (from : ℕ) (one two : Line) (frames : List UplinkSlots) (slots : UplinkSlots) (at : ℕ) → at ≡ from + length frames
+    → AreFramesMade from one two frames → IsFrameMade at one two slots → AreFramesMade from one two (frames ++ slots ∷ [])
+made_more from one two [] slots at e p q =
+    let same : at ≡ from = omega arith in (subst (λ (n : ℕ). IsFrameMade n one two slots) same q, tt)
+made_more from one two (f ∷ frames) slots at e p q = (p.0, made_more (suc from) one two frames slots at (omega arith) p.1 q)
+
+-- a player that has played a frame
+stands_more : (now next : Player) (frame : ℕ) (made : Option (List ℕ)) (line : Line) → now.from ≤ frame
+    → IsPlayed now next frame made → StandsIn now line → HoldsAt (IsMadeIn frame made) line frame × StandsIn next line
+stands_more now next frame made line le played s =
+    let before : Line = s.0 in
+    let rest : Line = s.1 in
+    let split : line ≡ before ++ rest = s.2 in
+    let long : length before ≡ now.from = s.3 in
+    let step : IsLineStep now next frame made rest = played.step rest s.4 in
+    let holds : HoldsAt (IsMadeIn frame made) (before ++ rest) frame =
+    at_right (IsMadeIn frame made) before rest (frame - now.from) frame (omega (arith, long, le)) step.holds in
+    let all = length-append before step.before in
+    let count = step.count in
+    let on : IsLine next.own next.statements.now next.from (left_of next) step.rest =
+    subst (λ (n : ℕ). IsLine n next.statements.now next.from (left_of next) step.rest) (sym played.own)
+    (subst (λ st. IsLine now.own st next.from (left_of next) step.rest) (sym played.statements) step.goes_on) in (
+      subst (λ (l : Line). HoldsAt (IsMadeIn frame made) l frame) (sym split) holds,
+      (
+        before ++ step.before,
+        step.rest,
+        split ∙ ap (λ (l : Line). before ++ l) step.split ∙ sym (append_assoc before step.before step.rest),
+        omega (arith, all, long, count),
+        on,
+      ),
+    )
+
+-- nothing is written yet
+pub writes_none : (first second : Player) (held : Option (List ℕ)) → first.from ≡ 0 → second.from ≡ 0 → Appends held held []
+    → WritesFrames first first second second 0 held held
+writes_none first second held e f none = record {
+  frames = [];
+  many = refl;
+  each = tt;
+  made = λ one two p q. (tt, ([], one, refl, sym e, p), ([], two, refl, sym f, q));
+  written = none;
+}
+
+-- one frame more is written
+pub writes_more : (first first_now first_next second second_now second_next : Player) (count : ℕ)
+    → (old mid new : Option (List ℕ)) → IsReady first_now count → IsReady second_now count
+    → WritesFrames first first_now second second_now count old mid
+    → PlaysFrame first_now first_next second_now second_next count mid new
+    → WritesFrames first first_next second second_next (count + 1) old new
+writes_more first first_now first_next second second_now second_next count old mid new ready other w p =
+    let slots : UplinkSlots = p.one ∷ p.two ∷ [] in
+    let many = w.many in
+    let all = length-append w.frames (slots ∷ []) in
+    let octets : frames_octets w.frames ++ frame_octets slots ≡ frames_octets (w.frames ++ slots ∷ []) =
+    ap (λ (l : List ℕ). frames_octets w.frames ++ l) (sym (append-nil (frame_octets slots)))
+    ∙ sym (flat_map-append frame_octets w.frames (slots ∷ [])) in
+    record {
+      frames = w.frames ++ slots ∷ [];
+      many = omega (arith, many, all);
+      each = all_append IsFrame w.frames (slots ∷ []) w.each (p.is, tt);
+      made = λ one two u v.
+          let so_far = w.made one two u v in
+          let a = stands_more first_now first_next count p.one one ready.front.begins p.first_is so_far.1 in
+          let b = stands_more second_now second_next count p.two two other.front.begins p.second_is so_far.2 in
+          (made_more 0 one two w.frames slots count (omega (arith, many)) so_far.0 (p.one, p.two, refl, a.0, b.0), a.1, b.1);
+      written = subst (Appends old new) octets
+          (Appends-trans old mid new (frames_octets w.frames) (frame_octets slots) w.written p.written);
+    }
+
+-- the file of these frames is its head, and then they
+pub writes_file : (own : ℕ) (statements : List NumberedStatement) (first second : List Placed) (count : ℕ)
+    → (one one_now two two_now : Player) (old mid new : Option (List ℕ))
+    → ((line : Line) → IsLine own statements 0 first line → IsLine one.own one.statements.now one.from (left_of one) line)
+    → ((line : Line) → IsLine own statements 0 second line → IsLine two.own two.statements.now two.from (left_of two) line)
+    → Appends old mid (head_octets uplink_magic) → WritesFrames one one_now two two_now count mid new
+    → WritesRecording own statements first second count old new
+writes_file own statements first second count one one_now two two_now old mid new p q head w = record {
+  frames = w.frames;
+  many = w.many;
+  each = w.each;
+  made = λ a b u v. (w.made a b (p a u) (q b v)).0;
+  written = Appends-trans old mid new (head_octets uplink_magic) (frames_octets w.frames) head w.written;
+}
