@@ -7,17 +7,17 @@ ghost use Rattle.dmr_making.specs.Standing.{HoldsAt};
 use crate::sending::SlotTransmission;
 use dmr_script::{NumberedStatement, PacketTry, Statement, Transmission, Transmit};
 
-/// A transmission in its slot.
+/// A transmission of a script that is placed in a slot.
 #[derive(Clone, Copy)]
-pub(crate) struct Placed {
+pub struct Placed {
     /// Which statement of the script says it, counted from 0.
-    pub(crate) statement: usize,
-    /// Which statement says the last confirmed packet in front of it.
-    pub(crate) packet: Option<usize>,
-    /// Its first frame.
-    pub(crate) start: u32,
+    pub statement: usize,
+    /// Which statement says the last confirmed packet in front of it, counted from 0.
+    pub packet: Option<usize>,
+    /// Its first frame, counted from 0.
+    pub start: u32,
     /// How many slots it has.
-    pub(crate) length: u32,
+    pub length: u32,
 }
 
 /// A slot, as far as it was sent.

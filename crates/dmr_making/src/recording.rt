@@ -73,8 +73,10 @@ fn write_frames<K: Sink>(
     Ok(())
 }
 
-/// Writes the uplink file of a recording of so many frames, in which the transmissions of both slots are sent.
-pub(crate) fn write_recording<K: Sink>(
+/// Writes the uplink file of a recording of so many frames, at most 1,048,576, with this own colour code. In both slots these
+/// transmissions of a script are sent, each from its frame on, with silence between them. They stand one behind another, and fit.
+/// At an `Err` the sink failed. The format is this project's own.
+pub fn write_recording<K: Sink>(
     statements: &[NumberedStatement],
     own: u8,
     first: &[Placed],

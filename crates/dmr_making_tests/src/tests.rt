@@ -1,14 +1,23 @@
 //! The bursts of transmissions, against octets that were worked out from the standard's tables.
 use dmr_csbk::Csbk;
 use dmr_link::FullLc;
-use dmr_making::SlotTransmission;
-use dmr_script::{Call, CallShape, CallStart, Headers, Sender, Transmission, Transmit};
+use dmr_making::{Placed, SlotTransmission, write_recording};
+use dmr_record::ToWrite;
+use dmr_script::{
+    Call, CallShape, CallStart, Headers, NumberedStatement, Sender, Statement, Transmission,
+    Transmit,
+};
 use std::alloc::{AllocError, Global};
 use std::process::Abort;
 use std::test::Fail;
 
 /// What goes out in a slot of a transmission with colour code 1 in this frame, in hexadecimal, and nothing where nothing does.
-fn printed(alloc: Global, transmit: &Transmit, place: usize, frame: u32) -> Result<String, AllocError> {
+fn printed(
+    alloc: Global,
+    transmit: &Transmit,
+    place: usize,
+    frame: u32,
+) -> Result<String, AllocError> {
     let sending = SlotTransmission {
         transmit,
         last: None,
@@ -66,10 +75,8 @@ fn call_with_an_absent_place(rt: HostRuntime) -> Result<(), Fail> {
 }
 
 /// A control signalling block of zeros.
-#[test]
-fn control_block(rt: HostRuntime) -> Result<(), Fail> {
-    let alloc = rt.alloc();
-    let transmit = Transmit {
+fn zeros() -> Transmit {
+    Transmit {
         sender: Sender::Own,
         transmission: Transmission::Control(Csbk {
             last: false,
@@ -78,8 +85,42 @@ fn control_block(rt: HostRuntime) -> Result<(), Fail> {
             fid: 0,
             body: [0; 8],
         }),
-    };
-    let burst = printed(alloc, &transmit, 0, 0)?;
-    assert_eq!(&rt; burst.as_str(), "0062008201900100042004e004cd5d7f77fd757ac81800280250028000c0120022");
+    }
+}
+
+/// The burst of a control signalling block of zeros.
+#[test]
+fn control_block(rt: HostRuntime) -> Result<(), Fail> {
+    let alloc = rt.alloc();
+    let burst = printed(alloc, &zeros(), 0, 0)?;
+    assert_eq!(&rt;
+        burst.as_str(),
+        "0062008201900100042004e004cd5d7f77fd757ac81800280250028000c0120022"
+    );
+    Ok(())
+}
+
+/// A recording of a control signalling block of zeros in slot 1 of its one frame.
+#[test]
+fn recording_of_a_control_block(rt: HostRuntime) -> Result<(), Fail> {
+    let alloc = rt.alloc();
+    let mut statements = Vec::new(alloc);
+    statements.push(NumberedStatement {
+        line: 2,
+        statement: Statement::Transmit(zeros()),
+    })?;
+    let placed = [Placed {
+        statement: 0,
+        packet: None,
+        start: 0,
+        length: 1,
+    }];
+    let mut sink = ToWrite::new(Vec::new(alloc));
+    let written = write_recording(&statements, 1, &placed, &[], 1, &mut sink);
+    assert!(&rt; written.is_ok());
+    let octets = hex::encode(alloc, sink.into_inner().as_slice())?;
+    let wanted =
+        "444d525501000000010062008201900100042004e004cd5d7f77fd757ac81800280250028000c012002200";
+    assert_eq!(&rt; octets.as_str(), wanted);
     Ok(())
 }
