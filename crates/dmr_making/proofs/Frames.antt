@@ -8,28 +8,29 @@ use Rattle.std.specs.Io.KnownBytes.{Appends}
 use Rattle.std.specs.List.{AllByRecursion}
 use Rattle.dmr_making.proofs.Seen.{all_append}
 use Rattle.dmr_making.proofs.Standing.{at_right}
-use Rattle.dmr_making.specs.Playing.{AreFramesMade, IsFrameMade, IsLine, IsLineStep, IsMadeIn, IsPlayed, IsReady, Line, PlaysFrame}
-use Rattle.dmr_making.specs.Playing.{StandsIn, WritesFrames, WritesRecording, left_of}
+use Rattle.dmr_making.specs.Playing.{AreFramesMade, IsFrameMade, IsLineOfSlot, IsLineStep, IsMadeIn, IsPlayed, IsReady, SlotFrames}
+use Rattle.dmr_making.specs.Playing.{PlaysFrame}
+use Rattle.dmr_making.specs.Playing.{StandsInLine, WritesFrames, WritesRecording, still_placed}
 use Rattle.dmr_making.specs.Standing.{HoldsAt}
-use Rattle.dmr_making.specs.declared.playing.Placed.{Placed}
+use Rattle.dmr_making.specs.declared.playing.PlacedTransmission.{PlacedTransmission}
 use Rattle.dmr_making.specs.declared.playing.Player.{Player}
 use Rattle.dmr_script.specs.declared.statement.NumberedStatement.{NumberedStatement}
 use Rattle.dmr_record.specs.Head.{head_octets, uplink_magic}
 use Rattle.dmr_record.specs.Uplink.{IsFrame, UplinkSlots, frame_octets, frames_octets}
 
 -- one frame more
-made_more : (from : ℕ) (one two : Line) (frames : List UplinkSlots) (slots : UplinkSlots) (at : ℕ) → at ≡ from + length frames
+made_more : (from : ℕ) (one two : SlotFrames) (frames : List UplinkSlots) (slots : UplinkSlots) (at : ℕ) → at ≡ from + length frames
     → AreFramesMade from one two frames → IsFrameMade at one two slots → AreFramesMade from one two (frames ++ slots ∷ [])
 made_more from one two [] slots at e p q =
     let same : at ≡ from = omega arith in (subst (λ (n : ℕ). IsFrameMade n one two slots) same q, tt)
 made_more from one two (f ∷ frames) slots at e p q = (p.0, made_more (suc from) one two frames slots at (omega arith) p.1 q)
 
 -- a player that has played a frame
-stands_more : (now next : Player) (frame : ℕ) (made : Option (List ℕ)) (line : Line) → now.from ≤ frame
-    → IsPlayed now next frame made → StandsIn now line → HoldsAt (IsMadeIn frame made) line frame × StandsIn next line
+stands_more : (now next : Player) (frame : ℕ) (made : Option (List ℕ)) (line : SlotFrames) → now.from ≤ frame
+    → IsPlayed now next frame made → StandsInLine now line → HoldsAt (IsMadeIn frame made) line frame × StandsInLine next line
 stands_more now next frame made line le played s =
-    let before : Line = s.0 in
-    let rest : Line = s.1 in
+    let before : SlotFrames = s.0 in
+    let rest : SlotFrames = s.1 in
     let split : line ≡ before ++ rest = s.2 in
     let long : length before ≡ now.from = s.3 in
     let step : IsLineStep now next frame made rest = played.step rest s.4 in
@@ -37,14 +38,14 @@ stands_more now next frame made line le played s =
     at_right (IsMadeIn frame made) before rest (frame - now.from) frame (omega (arith, long, le)) step.holds in
     let all = length-append before step.before in
     let count = step.count in
-    let on : IsLine next.own next.statements.now next.from (left_of next) step.rest =
-    subst (λ (n : ℕ). IsLine n next.statements.now next.from (left_of next) step.rest) (sym played.own)
-    (subst (λ st. IsLine now.own st next.from (left_of next) step.rest) (sym played.statements) step.goes_on) in (
-      subst (λ (l : Line). HoldsAt (IsMadeIn frame made) l frame) (sym split) holds,
+    let on : IsLineOfSlot next.own next.statements.now next.from (still_placed next) step.rest =
+    subst (λ (n : ℕ). IsLineOfSlot n next.statements.now next.from (still_placed next) step.rest) (sym played.own)
+    (subst (λ st. IsLineOfSlot now.own st next.from (still_placed next) step.rest) (sym played.statements) step.goes_on) in (
+      subst (λ (l : SlotFrames). HoldsAt (IsMadeIn frame made) l frame) (sym split) holds,
       (
         before ++ step.before,
         step.rest,
-        split ∙ ap (λ (l : Line). before ++ l) step.split ∙ sym (append_assoc before step.before step.rest),
+        split ∙ ap (λ (l : SlotFrames). before ++ l) step.split ∙ sym (append_assoc before step.before step.rest),
         omega (arith, all, long, count),
         on,
       ),
@@ -88,10 +89,12 @@ writes_more first first_now first_next second second_now second_next count old m
     }
 
 -- the file of these frames is its head, and then they
-pub writes_file : (own : ℕ) (statements : List NumberedStatement) (first second : List Placed) (count : ℕ)
+pub writes_file : (own : ℕ) (statements : List NumberedStatement) (first second : List PlacedTransmission) (count : ℕ)
     → (one one_now two two_now : Player) (old mid new : Option (List ℕ))
-    → ((line : Line) → IsLine own statements 0 first line → IsLine one.own one.statements.now one.from (left_of one) line)
-    → ((line : Line) → IsLine own statements 0 second line → IsLine two.own two.statements.now two.from (left_of two) line)
+    → ((line : SlotFrames) → IsLineOfSlot own statements 0 first line
+    → IsLineOfSlot one.own one.statements.now one.from (still_placed one) line)
+    → ((line : SlotFrames) → IsLineOfSlot own statements 0 second line
+    → IsLineOfSlot two.own two.statements.now two.from (still_placed two) line)
     → Appends old mid (head_octets uplink_magic) → WritesFrames one one_now two two_now count mid new
     → WritesRecording own statements first second count old new
 writes_file own statements first second count one one_now two two_now old mid new p q head w = record {

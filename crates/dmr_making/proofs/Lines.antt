@@ -6,44 +6,48 @@ use Rattle.std.specs.List.{AllByRecursion}
 use Rattle.std.proofs.lemmas.List.{length-map, length-replicate, length-append}
 use Rattle.dmr_hearing.specs.Slots.{SentSlot, Silent}
 use Rattle.dmr_making.proofs.Standing.{at_left, at_right, at_replicate}
-use Rattle.dmr_making.specs.Playing.{EndsBehind, IsFitPlaced, IsInFront, IsOrdered, IsLine, IsLineStep, IsMadeIn, IsPlacedLine, Line, left_of}
+use Rattle.dmr_making.specs.Playing.{EndsLater, IsFitPlaced, IsInFront, IsOrdered, IsLineOfSlot, IsLineStep, IsMadeIn, IsPlacedLine}
+use Rattle.dmr_making.specs.Playing.{SlotFrames, still_placed}
 use Rattle.dmr_making.specs.Senders.{colour_of}
 use Rattle.dmr_making.specs.Standing.{HoldsAt}
-use Rattle.dmr_making.specs.declared.playing.Placed.{Placed}
+use Rattle.dmr_making.specs.declared.playing.PlacedTransmission.{PlacedTransmission}
 use Rattle.dmr_making.specs.declared.playing.Player.{Player}
 use Rattle.dmr_script.specs.declared.statement.NumberedStatement.{NumberedStatement}
 
 -- nothing is placed
-pub line_none : (P : ℕ × SentSlot → Type 0) (own : ℕ) (statements : List NumberedStatement) (from : ℕ) (line : Line) (place : ℕ)
-    → IsLine own statements from [] line → HoldsAt P line place
-line_none P own statements from line place e = subst (λ (l : Line). HoldsAt P l place) (sym e) tt
+pub line_none : (P : ℕ × SentSlot
+    → Type 0) (own : ℕ) (statements : List NumberedStatement) (from : ℕ) (line : SlotFrames) (place : ℕ)
+    → IsLineOfSlot own statements from [] line → HoldsAt P line place
+line_none P own statements from line place e = subst (λ (l : SlotFrames). HoldsAt P l place) (sym e) tt
 
 -- in front of the first transmission
-pub line_gap : (P : ℕ × SentSlot → Type 0) (own : ℕ) (statements : List NumberedStatement) (from : ℕ) (p : Placed)
-    → (placed : List Placed) (line : Line) (place : ℕ) → IsLine own statements from (p ∷ placed) line → place < p.start - from
+pub line_gap : (P : ℕ × SentSlot → Type 0) (own : ℕ) (statements : List NumberedStatement) (from : ℕ) (p : PlacedTransmission)
+    → (placed : List PlacedTransmission) (line : SlotFrames) (place : ℕ) → IsLineOfSlot own statements from (p ∷ placed) line
+    → place < p.start - from
     → P (own, Silent) → HoldsAt P line place
 line_gap P own statements from p placed line place l lt silent =
-    let gap : Line = replicate (p.start - from) (own, Silent) in
+    let gap : SlotFrames = replicate (p.start - from) (own, Silent) in
     let long : length gap ≡ p.start - from = length-replicate (p.start - from) (own, Silent) in
-    subst (λ (x : Line). HoldsAt P x place) (sym l.5)
+    subst (λ (x : SlotFrames). HoldsAt P x place) (sym l.5)
     (at_left P gap (l.0 ++ l.1) place (omega (arith, long, lt)) (at_replicate P (p.start - from) (own, Silent) place silent))
 
 -- in the first transmission
-pub line_mine : (P : ℕ × SentSlot → Type 0) (own : ℕ) (statements : List NumberedStatement) (from : ℕ) (p : Placed)
-    → (placed : List Placed) (line : Line) (frame : ℕ) → IsLine own statements from (p ∷ placed) line → p.start ≤ frame
+pub line_mine : (P : ℕ × SentSlot → Type 0) (own : ℕ) (statements : List NumberedStatement) (from : ℕ) (p : PlacedTransmission)
+    → (placed : List PlacedTransmission) (line : SlotFrames) (frame : ℕ) → IsLineOfSlot own statements from (p ∷ placed) line
+    → p.start ≤ frame
     → frame < p.start + p.length
-    → ((mine : Line) → IsPlacedLine own statements p mine → HoldsAt P mine (frame - p.start))
+    → ((mine : SlotFrames) → IsPlacedLine own statements p mine → HoldsAt P mine (frame - p.start))
     → HoldsAt P line (frame - from)
 line_mine P own statements from p placed line frame l begun less here =
-    let mine : Line = l.0 in
-    let gap : Line = replicate (p.start - from) (own, Silent) in
+    let mine : SlotFrames = l.0 in
+    let gap : SlotFrames = replicate (p.start - from) (own, Silent) in
     let long : length gap ≡ p.start - from = length-replicate (p.start - from) (own, Silent) in
     let behind : from ≤ p.start = l.2 in
     let is : IsPlacedLine own statements p mine = l.3 in
     let count : length mine ≡ p.length =
-    ap (λ (x : Line). length x) is.is
+    ap (λ (x : SlotFrames). length x) is.is
     ∙ length-map is.sent.slots (λ (slot : SentSlot). (colour_of own is.transmit.sender, slot)) ∙ is.count in
-    subst (λ (x : Line). HoldsAt P x (frame - from)) (sym l.5)
+    subst (λ (x : SlotFrames). HoldsAt P x (frame - from)) (sym l.5)
     (at_right P gap (mine ++ l.1) (frame - p.start) (frame - from) (omega (arith, long, behind, begun))
     (at_left P mine l.1 (frame - p.start) (omega (arith, count, begun, less)) (here mine is)))
 
@@ -60,11 +64,11 @@ none_left (y ∷ xs) zero e = absurd (cc)
 none_left (y ∷ xs) (suc k) e = none_left xs k e
 
 -- where nothing is left
-pub step_none : (old : Player) (frame : ℕ) (line : Line) → left_of old ≡ [] → IsInFront old frame
-    → IsLine old.own old.statements.now old.from (left_of old) line → IsLineStep old old frame None line
+pub step_none : (old : Player) (frame : ℕ) (line : SlotFrames) → still_placed old ≡ [] → IsInFront old frame
+    → IsLineOfSlot old.own old.statements.now old.from (still_placed old) line → IsLineStep old old frame None line
 step_none old frame line e front l = record {
   holds = line_none (IsMadeIn frame None) old.own old.statements.now old.from line (frame - old.from)
-      (subst (λ (ps : List Placed). IsLine old.own old.statements.now old.from ps line) e l);
+      (subst (λ (ps : List PlacedTransmission). IsLineOfSlot old.own old.statements.now old.from ps line) e l);
   before = [];
   rest = line;
   split = refl;
@@ -73,14 +77,19 @@ step_none old frame line e front l = record {
 }
 
 -- where the first that is left hasn't begun
-pub step_gap : (old : Player) (frame : ℕ) (line : Line) (p : Placed) (ps : List Placed) → left_of old ≡ p ∷ ps → frame < p.start
+pub step_gap : (old : Player) (frame : ℕ) (line : SlotFrames) (p : PlacedTransmission) (ps : List PlacedTransmission)
+    → still_placed old ≡ p ∷ ps → frame < p.start
     → 0 < p.length → IsInFront old frame
-    → IsLine old.own old.statements.now old.from (left_of old) line → IsLineStep old old frame None line
+    → IsLineOfSlot old.own old.statements.now old.from (still_placed old) line → IsLineStep old old frame None line
 step_gap old frame line p ps e less some front l = record {
   holds =
       let b = front.begins in
       line_gap (IsMadeIn frame None) old.own old.statements.now old.from p ps line (frame - old.from)
-      (subst (λ (qs : List Placed). IsLine old.own old.statements.now old.from qs line) e l) (omega (arith, b, less)) refl;
+      (subst (λ (qs : List PlacedTransmission). IsLineOfSlot old.own old.statements.now old.from qs line) e l) (omega (
+        arith,
+        b,
+        less,
+      )) refl;
   before = [];
   rest = line;
   split = refl;
@@ -89,13 +98,17 @@ step_gap old frame line p ps e less some front l = record {
 }
 
 -- where the first that is left goes on behind the frame
-pub step_in : (old : Player) (frame : ℕ) (made : Option (List ℕ)) (line : Line) (p : Placed) (ps : List Placed)
-    → left_of old ≡ p ∷ ps → p.start ≤ frame → frame + 1 < p.start + p.length → IsInFront old frame
-    → ((mine : Line) → IsPlacedLine old.own old.statements.now p mine → HoldsAt (IsMadeIn frame made) mine (frame - p.start))
-    → IsLine old.own old.statements.now old.from (left_of old) line → IsLineStep old old frame made line
+pub step_in : (old : Player) (frame : ℕ) (made : Option (List ℕ)) (line : SlotFrames) (p : PlacedTransmission) (ps : List
+    PlacedTransmission)
+    → still_placed old ≡ p ∷ ps → p.start ≤ frame → frame + 1 < p.start + p.length → IsInFront old frame
+    → ((mine : SlotFrames) → IsPlacedLine old.own old.statements.now p mine → HoldsAt (IsMadeIn frame made) mine (frame - p.start))
+    → IsLineOfSlot old.own old.statements.now old.from (still_placed old) line → IsLineStep old old frame made line
 step_in old frame made line p ps e begun more front here l = record {
   holds = line_mine (IsMadeIn frame made) old.own old.statements.now old.from p ps line frame
-      (subst (λ (qs : List Placed). IsLine old.own old.statements.now old.from qs line) e l) begun (omega (arith, more)) here;
+      (subst (λ (qs : List PlacedTransmission). IsLineOfSlot old.own old.statements.now old.from qs line) e l) begun (omega (
+        arith,
+        more,
+      )) here;
   before = [];
   rest = line;
   split = refl;
@@ -104,40 +117,42 @@ step_in old frame made line p ps e begun more front here l = record {
 }
 
 -- where the first that is left ends with the frame
-pub step_over : (old new : Player) (frame : ℕ) (made : Option (List ℕ)) (line : Line) (p : Placed) (ps : List Placed)
-    → left_of old ≡ p ∷ ps → left_of new ≡ ps → new.from ≡ frame + 1 → p.start ≤ frame → frame + 1 ≡ p.start + p.length
-    → AllByRecursion (λ (q : Placed). 0 < q.length) ps
-    → ((mine : Line) → IsPlacedLine old.own old.statements.now p mine → HoldsAt (IsMadeIn frame made) mine (frame - p.start))
-    → IsLine old.own old.statements.now old.from (left_of old) line → IsLineStep old new frame made line
+pub step_over : (old new : Player) (frame : ℕ) (made : Option (List ℕ)) (line : SlotFrames) (p : PlacedTransmission) (ps : List
+    PlacedTransmission)
+    → still_placed old ≡ p ∷ ps → still_placed new ≡ ps → new.from ≡ frame + 1 → p.start ≤ frame → frame + 1 ≡ p.start + p.length
+    → AllByRecursion (λ (q : PlacedTransmission). 0 < q.length) ps
+    → ((mine : SlotFrames) → IsPlacedLine old.own old.statements.now p mine → HoldsAt (IsMadeIn frame made) mine (frame - p.start))
+    → IsLineOfSlot old.own old.statements.now old.from (still_placed old) line → IsLineStep old new frame made line
 step_over old new frame made line p ps e left from begun ends some here l =
     let own : ℕ = old.own in
     let statements : List NumberedStatement = old.statements.now in
-    let first : IsLine own statements old.from (p ∷ ps) line =
-    subst (λ (qs : List Placed). IsLine own statements old.from qs line) e l in
-    let mine : Line = first.0 in
-    let gap : Line = replicate (p.start - old.from) (own, Silent) in
+    let first : IsLineOfSlot own statements old.from (p ∷ ps) line =
+    subst (λ (qs : List PlacedTransmission). IsLineOfSlot own statements old.from qs line) e l in
+    let mine : SlotFrames = first.0 in
+    let gap : SlotFrames = replicate (p.start - old.from) (own, Silent) in
     let behind : old.from ≤ p.start = first.2 in
     let is : IsPlacedLine own statements p mine = first.3 in
     let long : length gap ≡ p.start - old.from = length-replicate (p.start - old.from) (own, Silent) in
     let count : length mine ≡ p.length =
-    ap (λ (x : Line). length x) is.is
+    ap (λ (x : SlotFrames). length x) is.is
     ∙ length-map is.sent.slots (λ (slot : SentSlot). (colour_of own is.transmit.sender, slot)) ∙ is.count in
     let all = length-append gap mine in
     let there : new.from ≡ p.start + p.length = from ∙ ends in
-    let rest : IsLine own statements new.from ps first.1 =
-    subst (λ (n : ℕ). IsLine own statements n ps first.1) (sym there) first.4 in
+    let rest : IsLineOfSlot own statements new.from ps first.1 =
+    subst (λ (n : ℕ). IsLineOfSlot own statements n ps first.1) (sym there) first.4 in
     record {
       holds = line_mine (IsMadeIn frame made) own statements old.from p ps line frame first begun (omega (arith, ends)) here;
       before = gap ++ mine;
       rest = first.1;
       split = first.5 ∙ sym (append_assoc gap mine first.1);
       count = omega (arith, long, count, all, behind, there);
-      goes_on = subst (λ (qs : List Placed). IsLine own statements new.from qs first.1) (sym left) rest;
+      goes_on = subst (λ (qs : List PlacedTransmission). IsLineOfSlot own statements new.from qs first.1) (sym left) rest;
     }
 
 -- each placed transmission that is left has a slot
-pub left_have_slots : (statements : List NumberedStatement) (placed : List Placed) (k : ℕ) → All (IsFitPlaced statements) placed
-    → AllByRecursion (λ (q : Placed). 0 < q.length) (drop k placed)
+pub left_have_slots : (statements : List NumberedStatement) (placed : List PlacedTransmission) (k : ℕ)
+    → All (IsFitPlaced statements) placed
+    → AllByRecursion (λ (q : PlacedTransmission). 0 < q.length) (drop k placed)
 left_have_slots statements [] zero all = tt
 left_have_slots statements [] (suc k) all = tt
 left_have_slots statements (p ∷ ps) zero all =
@@ -146,39 +161,43 @@ left_have_slots statements (p ∷ ps) zero all =
 left_have_slots statements (p ∷ ps) (suc k) all = left_have_slots statements ps k (All-tail (IsFitPlaced statements) p ps all)
 
 -- the first that is left ends behind the frame
-pub ends_behind : (old : Player) (frame : ℕ) (p : Placed) (ps : List Placed) → left_of old ≡ p ∷ ps → IsInFront old frame
+pub ends_behind : (old : Player) (frame : ℕ) (p : PlacedTransmission) (ps : List PlacedTransmission) → still_placed old ≡ p ∷ ps
+    → IsInFront old frame
     → frame < p.start + p.length
-ends_behind old frame p ps e front = subst (EndsBehind frame) e front.ends
+ends_behind old frame p ps e front = subst (EndsLater frame) e front.ends
 
 -- how players go on where nothing is left,
-pub front_none : (old : Player) (frame : ℕ) → left_of old ≡ [] → IsInFront old frame → IsInFront old (frame + 1)
+pub front_none : (old : Player) (frame : ℕ) → still_placed old ≡ [] → IsInFront old frame → IsInFront old (frame + 1)
 front_none old frame e front = record {
   begins = let b = front.begins in omega (arith, b);
-  ends = subst (EndsBehind (frame + 1)) (sym e) tt;
+  ends = subst (EndsLater (frame + 1)) (sym e) tt;
 }
 
 -- where the first that is left ends behind the next frame,
-pub front_in : (old : Player) (frame : ℕ) (p : Placed) (ps : List Placed) → left_of old ≡ p ∷ ps → frame + 1 < p.start + p.length
+pub front_in : (old : Player) (frame : ℕ) (p : PlacedTransmission) (ps : List PlacedTransmission) → still_placed old ≡ p ∷ ps
+    → frame + 1 < p.start + p.length
     → IsInFront old frame → IsInFront old (frame + 1)
 front_in old frame p ps e more front = record {
   begins = let b = front.begins in omega (arith, b);
-  ends = subst (EndsBehind (frame + 1)) (sym e) more;
+  ends = subst (EndsLater (frame + 1)) (sym e) more;
 }
 
 -- and where it ends with the frame
-ordered_ends : (from : ℕ) (ps : List Placed) → IsOrdered from ps → EndsBehind from ps
+ordered_ends : (from : ℕ) (ps : List PlacedTransmission) → IsOrdered from ps → EndsLater from ps
 ordered_ends from [] o = tt
 ordered_ends from (p ∷ ps) o = let a = o.0 in let b = o.1 in omega (arith, a, b)
 
-pub ordered_over : (old new : Player) (frame : ℕ) (p : Placed) (ps : List Placed) → left_of old ≡ p ∷ ps → left_of new ≡ ps
-    → new.from ≡ frame + 1 → frame + 1 ≡ p.start + p.length → IsOrdered old.from (left_of old)
-    → IsOrdered new.from (left_of new)
+pub ordered_over : (old new : Player) (frame : ℕ) (p : PlacedTransmission) (ps : List PlacedTransmission)
+    → still_placed old ≡ p ∷ ps → still_placed new ≡ ps
+    → new.from ≡ frame + 1 → frame + 1 ≡ p.start + p.length → IsOrdered old.from (still_placed old)
+    → IsOrdered new.from (still_placed new)
 ordered_over old new frame p ps e left from ends o =
     let first : IsOrdered old.from (p ∷ ps) = subst (IsOrdered old.from) e o in
     subst (IsOrdered new.from) (sym left) (subst (λ (n : ℕ). IsOrdered n ps) (sym (from ∙ ends)) first.2)
 
-pub front_over : (new : Player) (frame : ℕ) → new.from ≡ frame + 1 → IsOrdered new.from (left_of new) → IsInFront new (frame + 1)
+pub front_over : (new : Player) (frame : ℕ) → new.from ≡ frame + 1 → IsOrdered new.from (still_placed new)
+    → IsInFront new (frame + 1)
 front_over new frame from o = record {
   begins = omega (arith, from);
-  ends = subst (λ (n : ℕ). EndsBehind n (left_of new)) from (ordered_ends new.from (left_of new) o);
+  ends = subst (λ (n : ℕ). EndsLater n (still_placed new)) from (ordered_ends new.from (still_placed new) o);
 }

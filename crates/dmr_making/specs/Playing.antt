@@ -9,7 +9,7 @@ use Rattle.std.specs.List.{AllByRecursion}
 use Rattle.std.specs.Io.KnownBytes.{Appends}
 use Rattle.dmr_making.specs.Sends.{Transmitted, SendsSaid}
 use Rattle.dmr_making.specs.Standing.{HoldsAt}
-use Rattle.dmr_making.specs.declared.playing.Placed.{Placed}
+use Rattle.dmr_making.specs.declared.playing.PlacedTransmission.{PlacedTransmission}
 use Rattle.dmr_making.specs.declared.playing.Player.{Player}
 use Rattle.dmr_script.specs.Fits.{FitsSender}
 use Rattle.dmr_script.specs.declared.packet.PacketTry.{PacketTry}
@@ -32,23 +32,23 @@ abbrev pub transmit_in : List NumberedStatement → ℕ → Option Transmit
 transmit_in statements at = option_and_then (λ (s : NumberedStatement). transmit_of s.statement) (slice_get statements at)
 
 -- the packet of a full try
-abbrev pub packet_of : Transmission → Option PacketTry
-packet_of (said.Packet p) = Some p
-packet_of other = None
+abbrev pub packet_said : Transmission → Option PacketTry
+packet_said (said.Packet p) = Some p
+packet_said other = None
 
 -- the packet that the statement with this number says, where there is one
 abbrev pub packet_in : List NumberedStatement → Option ℕ → Option PacketTry
 packet_in statements None = None
-packet_in statements (Some at) = option_and_then (λ (t : Transmit). packet_of t.transmission) (transmit_in statements at)
+packet_in statements (Some at) = option_and_then (λ (t : Transmit). packet_said t.transmission) (transmit_in statements at)
 
 -- 2. A slot.
 
 -- Frames of a slot, each with what is sent in it and the colour code that it is sent with.
-abbrev pub Line : Type 0
-Line = List (ℕ × SentSlot)
+abbrev pub SlotFrames : Type 0
+SlotFrames = List (ℕ × SentSlot)
 
 -- A transmission that is placed is one of the statements, and fits.
-pub record IsFitPlaced (statements : List NumberedStatement) (p : Placed) : Type 0 where
+pub record IsFitPlaced (statements : List NumberedStatement) (p : PlacedTransmission) : Type 0 where
   pub transmit : Transmit
   pub there : transmit_in statements p.statement ≡ Some transmit
   pub sender : FitsSender transmit.sender
@@ -56,7 +56,7 @@ pub record IsFitPlaced (statements : List NumberedStatement) (p : Placed) : Type
   pub some : 0 < p.length
 
 -- These frames send it.
-pub record IsPlacedLine (own : ℕ) (statements : List NumberedStatement) (p : Placed) (line : Line) : Type 0 where
+pub record IsPlacedLine (own : ℕ) (statements : List NumberedStatement) (p : PlacedTransmission) (line : SlotFrames) : Type 0 where
   pub transmit : Transmit
   pub there : transmit_in statements p.statement ≡ Some transmit
   pub sent : Transmitted
@@ -65,11 +65,11 @@ pub record IsPlacedLine (own : ℕ) (statements : List NumberedStatement) (p : P
   pub is : line ≡ map (λ slot. (colour_of own transmit.sender, slot)) sent.slots
 
 -- From this frame on the slot sends these transmissions, each where it is placed, with silence in front of it.
-abbrev pub IsLine : ℕ → List NumberedStatement → ℕ → List Placed → Line → Type 0
-IsLine own statements from [] line = line ≡ []
-IsLine own statements from (p ∷ placed) line =
-    (mine : Line) × (rest : Line) × (from ≤ p.start) × IsPlacedLine own statements p mine
-    × IsLine own statements (p.start + p.length) placed rest
+abbrev pub IsLineOfSlot : ℕ → List NumberedStatement → ℕ → List PlacedTransmission → SlotFrames → Type 0
+IsLineOfSlot own statements from [] line = line ≡ []
+IsLineOfSlot own statements from (p ∷ placed) line =
+    (mine : SlotFrames) × (rest : SlotFrames) × (from ≤ p.start) × IsPlacedLine own statements p mine
+    × IsLineOfSlot own statements (p.start + p.length) placed rest
     × (line ≡ replicate (p.start - from) (own, Silent) ++ (mine ++ rest))
 
 -- 3. Frame by frame.
@@ -79,67 +79,68 @@ abbrev pub IsMadeIn : ℕ → Option (List ℕ) → ℕ × SentSlot → Type 0
 IsMadeIn frame made sent = IsMade sent.0 frame sent.1 made
 
 -- those that haven't ended
-abbrev pub left_of : Player → List Placed
-left_of p = drop p.at p.placed.now
+abbrev pub still_placed : Player → List PlacedTransmission
+still_placed p = drop p.at p.placed.now
 
 -- the first of these hasn't ended before this frame
-abbrev pub EndsBehind : ℕ → List Placed → Type 0
-EndsBehind frame [] = Unit {0}
-EndsBehind frame (p ∷ placed) = frame < p.start + p.length
+abbrev pub EndsLater : ℕ → List PlacedTransmission → Type 0
+EndsLater frame [] = Unit {0}
+EndsLater frame (p ∷ placed) = frame < p.start + p.length
 
 -- A player stands in front of this frame: its line begins no later, and the first transmission of it hasn't ended.
 pub record IsInFront (p : Player) (frame : ℕ) : Type 0 where
   pub begins : p.from ≤ frame
-  pub ends : EndsBehind frame (left_of p)
+  pub ends : EndsLater frame (still_placed p)
 
 -- The transmissions stand one behind another from this frame on, and each has a slot.
-abbrev pub IsOrdered : ℕ → List Placed → Type 0
+abbrev pub IsOrdered : ℕ → List PlacedTransmission → Type 0
 IsOrdered from [] = Unit {0}
 IsOrdered from (p ∷ placed) = (from ≤ p.start) × (0 < p.length) × IsOrdered (p.start + p.length) placed
 
 -- What a player does in a frame, whose slot sends this line from where it stands: what goes out is made of it, and the player goes
 -- on behind a front of the line.
-pub record IsLineStep (old new : Player) (frame : ℕ) (made : Option (List ℕ)) (line : Line) : Type 0 where
+pub record IsLineStep (old new : Player) (frame : ℕ) (made : Option (List ℕ)) (line : SlotFrames) : Type 0 where
   pub holds : HoldsAt (IsMadeIn frame made) line (frame - old.from)
-  pub before : Line
-  pub rest : Line
+  pub before : SlotFrames
+  pub rest : SlotFrames
   pub split : line ≡ before ++ rest
   pub count : old.from + length before ≡ new.from
-  pub goes_on : IsLine old.own old.statements.now new.from (left_of new) rest
+  pub goes_on : IsLineOfSlot old.own old.statements.now new.from (still_placed new) rest
 
 -- 4. Both slots.
 
 -- This frame has what goes out in it for what both slots send.
-abbrev pub IsFrameMade : ℕ → Line → Line → UplinkSlots → Type 0
+abbrev pub IsFrameMade : ℕ → SlotFrames → SlotFrames → UplinkSlots → Type 0
 IsFrameMade frame first second slots =
     (one : Option (List ℕ)) × (two : Option (List ℕ)) × (slots ≡ one ∷ two ∷ [])
     × HoldsAt (IsMadeIn frame one) first frame × HoldsAt (IsMadeIn frame two) second frame
 
 -- These frames do, from this one on.
-abbrev pub AreFramesMade : ℕ → Line → Line → List UplinkSlots → Type 0
+abbrev pub AreFramesMade : ℕ → SlotFrames → SlotFrames → List UplinkSlots → Type 0
 AreFramesMade frame first second [] = Unit {0}
 AreFramesMade frame first second (slots ∷ frames) =
     IsFrameMade frame first second slots × AreFramesMade (suc frame) first second frames
 
 -- A player stands in a line: the line from there on is what is left of it.
-abbrev pub StandsIn : Player → Line → Type 0
-StandsIn p line =
-    (before : Line) × (rest : Line) × (line ≡ before ++ rest) × (length before ≡ p.from)
-    × IsLine p.own p.statements.now p.from (left_of p) rest
+abbrev pub StandsInLine : Player → SlotFrames → Type 0
+StandsInLine p line =
+    (before : SlotFrames) × (rest : SlotFrames) × (line ≡ before ++ rest) × (length before ≡ p.from)
+    × IsLineOfSlot p.own p.statements.now p.from (still_placed p) rest
 
 -- A player is ready for a frame: what is left is placed in order, fits, and hasn't ended before it.
 pub record IsReady (p : Player) (frame : ℕ) : Type 0 where
   pub own : p.own < 16
   pub fit : All (IsFitPlaced p.statements.now) p.placed.now
   pub front : IsInFront p frame
-  pub ordered : IsOrdered p.from (left_of p)
+  pub ordered : IsOrdered p.from (still_placed p)
 
 -- A player sends the same transmissions as before, and what goes out in a frame is a step of any line that is left of it.
 pub record IsPlayed (old new : Player) (frame : ℕ) (made : Option (List ℕ)) : Type 0 where
   pub own : new.own ≡ old.own
   pub statements : new.statements.now ≡ old.statements.now
   pub placed : new.placed.now ≡ old.placed.now
-  pub step : (line : Line) → IsLine old.own old.statements.now old.from (left_of old) line → IsLineStep old new frame made line
+  pub step : (line : SlotFrames) → IsLineOfSlot old.own old.statements.now old.from (still_placed old) line
+      → IsLineStep old new frame made line
 
 -- Both players play a frame, and it is written.
 pub record PlaysFrame (first first_new second second_new : Player) (frame : ℕ) (old new : Option (List ℕ)) : Type 0 where
@@ -155,18 +156,18 @@ pub record WritesFrames (first first_now second second_now : Player) (count : �
   pub frames : List UplinkSlots
   pub many : length frames ≡ count
   pub each : AllByRecursion IsFrame frames
-  pub made : (one two : Line) → IsLine first.own first.statements.now first.from (left_of first) one
-      → IsLine second.own second.statements.now second.from (left_of second) two
-      → AreFramesMade 0 one two frames × StandsIn first_now one × StandsIn second_now two
+  pub made : (one two : SlotFrames) → IsLineOfSlot first.own first.statements.now first.from (still_placed first) one
+      → IsLineOfSlot second.own second.statements.now second.from (still_placed second) two
+      → AreFramesMade 0 one two frames × StandsInLine first_now one × StandsInLine second_now two
   pub written : Appends old new (frames_octets frames)
 
 -- The uplink file of a recording was written: so many frames, each with what goes out for what both slots send, whatever lines
 -- that is.
-pub record WritesRecording (own : ℕ) (statements : List NumberedStatement) (first second : List Placed) (count : ℕ)
+pub record WritesRecording (own : ℕ) (statements : List NumberedStatement) (first second : List PlacedTransmission) (count : ℕ)
     (old new : Option (List ℕ)) : Type 0 where
   pub frames : List UplinkSlots
   pub many : length frames ≡ count
   pub each : AllByRecursion IsFrame frames
-  pub made : (one two : Line) → IsLine own statements 0 first one → IsLine own statements 0 second two
+  pub made : (one two : SlotFrames) → IsLineOfSlot own statements 0 first one → IsLineOfSlot own statements 0 second two
       → AreFramesMade 0 one two frames
   pub written : Appends old new (uplink_file frames)

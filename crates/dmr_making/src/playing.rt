@@ -1,7 +1,7 @@
 //! A slot of a recording, frame by frame.
 ghost use Rattle.std.specs.Prelude.{◌≡◌, ◌<◌, slice_get, option_copied, IfSome};
 ghost use Rattle.dmr_making.specs.Playing as spec;
-ghost use Rattle.dmr_making.specs.Playing.{IsFitPlaced, IsMadeIn, IsPlacedLine, Line};
+ghost use Rattle.dmr_making.specs.Playing.{IsFitPlaced, IsMadeIn, IsPlacedLine, SlotFrames};
 ghost use Rattle.dmr_making.specs.Standing.{HoldsAt};
 
 use crate::sending::SlotTransmission;
@@ -9,7 +9,7 @@ use dmr_script::{NumberedStatement, PacketTry, Statement, Transmission, Transmit
 
 /// A transmission of a script that is placed in a slot.
 #[derive(Clone, Copy)]
-pub struct Placed {
+pub struct PlacedTransmission {
     /// Which statement of the script says it, counted from 0.
     pub statement: usize,
     /// Which statement says the last confirmed packet in front of it, counted from 0.
@@ -26,7 +26,7 @@ pub(crate) struct Player<'a> {
     /// The statements of the script.
     pub(crate) statements: &'a [NumberedStatement],
     /// The transmissions of the slot, in their order.
-    pub(crate) placed: &'a [Placed],
+    pub(crate) placed: &'a [PlacedTransmission],
     /// The own colour code.
     pub(crate) own: u8,
     /// How many of them have ended.
@@ -60,7 +60,7 @@ pub(crate) fn packet_in(statements: &[NumberedStatement], at: Option<usize>) -> 
 /// What goes out in a slot of a placed transmission, counted from 0.
 fn placed_slot(
     statements: &[NumberedStatement],
-    placed: Placed,
+    placed: PlacedTransmission,
     own: u8,
     place: usize,
     frame: u32,
@@ -68,7 +68,7 @@ fn placed_slot(
     requires own { own < 16 }
     requires frame { frame < 1048576 }
     requires fit { IsFitPlaced statements.now placed }
-    ensures slot { (line : Line) → IsPlacedLine own statements.now placed line → HoldsAt (IsMadeIn frame result) line place }
+    ensures slot { (line : SlotFrames) → IsPlacedLine own statements.now placed line → HoldsAt (IsMadeIn frame result) line place }
 {
     let transmit = transmit_in(statements, placed.statement)?;
     let last = packet_in(statements, placed.packet);
@@ -76,7 +76,7 @@ fn placed_slot(
 }
 
 /// The placed transmission with this number.
-fn placed_at(placed: &[Placed], at: usize) -> Option<Placed>
+fn placed_at(placed: &[PlacedTransmission], at: usize) -> Option<PlacedTransmission>
     ensures value { result ≡ slice_get placed.now at }
     ensures room { IfSome result (λ one. at < 18446744073709551615) }
 {
@@ -85,20 +85,21 @@ fn placed_at(placed: &[Placed], at: usize) -> Option<Placed>
 
 impl<'a> Player<'a> {
     ghost use Rattle.std.specs.Prelude.{◌≡◌, ◌<◌, ◌+◌, All};
-    ghost use Rattle.dmr_making.specs.Playing.{IsFitPlaced, IsInFront, IsLine, IsLineStep, IsOrdered, IsReady, Line, left_of};
+    ghost use Rattle.dmr_making.specs.Playing.{IsFitPlaced, IsInFront, IsLineOfSlot, IsLineStep, IsOrdered, IsReady, SlotFrames};
+    ghost use Rattle.dmr_making.specs.Playing.{still_placed};
 
     /// A player of these transmissions, in front of the first frame.
     pub(crate) fn new(
         statements: &'a [NumberedStatement],
         own: u8,
-        placed: &'a [Placed],
+        placed: &'a [PlacedTransmission],
     ) -> Player<'a>
         requires own { own < 16 }
         requires fit { All (IsFitPlaced statements.now) placed.now }
         requires ordered { IsOrdered 0 placed.now }
         ensures own { result.own ≡ own }
         ensures statements { result.statements.now ≡ statements.entry.now }
-        ensures left { left_of result ≡ placed.entry.now }
+        ensures left { still_placed result ≡ placed.entry.now }
         ensures from { result.from ≡ 0 }
         ensures ready { IsReady result 0 }
     {
@@ -117,13 +118,14 @@ impl<'a> Player<'a> {
         requires frame { frame < 1048576 }
         requires fit { All (IsFitPlaced self.old.statements.now) self.old.placed.now }
         requires front { IsInFront self.old frame }
-        requires ordered { IsOrdered self.old.from (left_of self.old) }
+        requires ordered { IsOrdered self.old.from (still_placed self.old) }
         ensures own { self.new.own ≡ self.old.own }
         ensures statements { self.new.statements.now ≡ self.old.statements.now }
         ensures placed { self.new.placed.now ≡ self.old.placed.now }
         ensures front { IsInFront self.new (frame + 1) }
-        ensures ordered { IsOrdered self.new.from (left_of self.new) }
-        ensures step { (line : Line) → IsLine self.old.own self.old.statements.now self.old.from (left_of self.old) line
+        ensures ordered { IsOrdered self.new.from (still_placed self.new) }
+        ensures step { (line : SlotFrames)
+            → IsLineOfSlot self.old.own self.old.statements.now self.old.from (still_placed self.old) line
             → IsLineStep self.old self.new frame result line }
     {
         let Some(placed) = placed_at(self.placed, self.at) else {

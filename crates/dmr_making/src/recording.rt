@@ -4,7 +4,7 @@ ghost use Rattle.std.specs.Io.KnownBytes.{Appends};
 ghost use Rattle.dmr_making.specs.Playing.{IsFitPlaced, IsOrdered, IsReady, PlaysFrame, WritesFrames, WritesRecording};
 ghost use Rattle.dmr_record.specs.Uplink.{frame_octets};
 
-use crate::playing::{Placed, Player};
+use crate::playing::{PlacedTransmission, Player};
 use dmr_record::{RecordFault, Sink, UPLINK_MAGIC, write_head, write_uplink_slot};
 use dmr_script::NumberedStatement;
 
@@ -79,8 +79,8 @@ fn write_frames<K: Sink>(
 pub fn write_recording<K: Sink>(
     statements: &[NumberedStatement],
     own: u8,
-    first: &[Placed],
-    second: &[Placed],
+    first: &[PlacedTransmission],
+    second: &[PlacedTransmission],
     frames: u32,
     sink: &mut K,
 ) -> Result<(), RecordFault>

@@ -1,7 +1,7 @@
 //! The bursts of transmissions, against octets that were worked out from the standard's tables.
 use dmr_csbk::Csbk;
 use dmr_link::FullLc;
-use dmr_making::{Placed, SlotTransmission, write_recording};
+use dmr_making::{PlacedTransmission, SlotTransmission, write_recording};
 use dmr_record::ToWrite;
 use dmr_script::{
     Call, CallShape, CallStart, Headers, NumberedStatement, Sender, Statement, Transmission,
@@ -109,7 +109,7 @@ fn recording_of_a_control_block(rt: HostRuntime) -> Result<(), Fail> {
         line: 2,
         statement: Statement::Transmit(zeros()),
     })?;
-    let placed = [Placed {
+    let placed = [PlacedTransmission {
         statement: 0,
         packet: None,
         start: 0,

@@ -4,7 +4,7 @@ use Rattle.dmr_hearing.specs.Slots.{SentSlot}
 use Rattle.dmr_making.proofs.Standing.{at_map}
 use Rattle.dmr_making.proofs.TrySlots.{copied}
 use Rattle.dmr_making.specs.Made.{IsMade}
-use Rattle.dmr_making.specs.Playing.{IsMadeIn, Line, packet_in, transmit_in}
+use Rattle.dmr_making.specs.Playing.{IsMadeIn, SlotFrames, packet_in, transmit_in}
 use Rattle.dmr_making.specs.Senders.{colour_of}
 use Rattle.dmr_making.specs.Sends.{SendsSaid}
 use Rattle.dmr_making.specs.Standing.{HoldsAt}
@@ -27,7 +27,7 @@ returns c = record {
       let here : Q p.transmit (packet_in c.args.statements.now c.args.placed.packet) =
       subst (λ (last : Option PacketTry). Q p.transmit last) c.packet_in-last.ensures.value
       (subst (λ (t : Transmit). Q t (option_copied c.packet_in-last.result)) same (c.slot.ensures.slot p.sent)) in
-      subst (λ (l : Line). HoldsAt (IsMadeIn frame made) l c.args.place) (sym p.is)
+      subst (λ (l : SlotFrames). HoldsAt (IsMadeIn frame made) l c.args.place) (sym p.is)
       (at_map (IsMadeIn frame made) (λ (slot : SentSlot). (colour_of own p.transmit.sender, slot)) p.sent.slots c.args.place
       (here p.sends));
 }

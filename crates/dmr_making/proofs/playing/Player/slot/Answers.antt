@@ -1,8 +1,9 @@
 use Rattle.std.proofs.Common.{◌≡◌, ℕ, suc, ◌+◌, ◌<◌, List, ◌∷◌, drop, slice_get, Some, None, arith, ap, sym, ◌∙◌}
-use Rattle.dmr_making.proofs.Lines.{ends_behind, left_have_slots, left_is, none_left, step_gap, step_in, step_none, step_over, front_none, front_in, front_over, ordered_over}
+use Rattle.dmr_making.proofs.Lines.{ends_behind, left_have_slots, left_is, none_left, step_gap, step_in, step_none, step_over}
+use Rattle.dmr_making.proofs.Lines.{front_none, front_in, front_over, ordered_over}
 use Rattle.dmr_making.proofs.TrySlots.{fit_at}
-use Rattle.dmr_making.specs.Playing.{IsFitPlaced, left_of}
-use Rattle.dmr_making.specs.declared.playing.Placed.{Placed}
+use Rattle.dmr_making.specs.Playing.{IsFitPlaced, still_placed}
+use Rattle.dmr_making.specs.declared.playing.PlacedTransmission.{PlacedTransmission}
 use Rattle.dmr_making.specs.declared.playing.Player.{Player}
 use Rattle.dmr_making.proofs.playing.Player.slot.Goals as goal
 
@@ -15,7 +16,7 @@ returns-in_default-clause-step c = λ line l.
 pub returns-then-frame-placed-clause-step : goal.returns-then-frame-placed-clause-step
 returns-then-frame-placed-clause-step c = λ line l.
     let old : Player = c.args.self.now in
-    let p : Placed = c.in-Some.placed in
+    let p : PlacedTransmission = c.in-Some.placed in
     let there : slice_get old.placed.now old.at ≡ Some p = sym c.placed_at.ensures.value ∙ c.in-Some.is in
     let fit : IsFitPlaced old.statements.now p =
     fit_at (IsFitPlaced old.statements.now) old.placed.now old.at p c.requires.fit there in
@@ -35,10 +36,10 @@ pub returns-then-place-placed-clause-step : goal.returns-then-place-placed-claus
 returns-then-place-placed-clause-step c = λ line l.
     let old : Player = c.args.self.now in
     let new : Player = record old { at = old.at + 1; from = c.args.frame + 1 } in
-    let p : Placed = c.in-Some.placed in
-    let ps : List Placed = drop (suc old.at) old.placed.now in
+    let p : PlacedTransmission = c.in-Some.placed in
+    let ps : List PlacedTransmission = drop (suc old.at) old.placed.now in
     let there : slice_get old.placed.now old.at ≡ Some p = sym c.placed_at.ensures.value ∙ c.in-Some.is in
-    let left : left_of old ≡ p ∷ ps = left_is old.placed.now old.at p there in
+    let left : still_placed old ≡ p ∷ ps = left_is old.placed.now old.at p there in
     let one : old.at + 1 ≡ suc old.at = omega arith in
     let less : c.args.frame < p.start + p.length = ends_behind old c.args.frame p ps left c.requires.front in
     let begun = c.if-frame-placed.false in
@@ -50,8 +51,8 @@ returns-then-place-placed-clause-step c = λ line l.
 pub returns-else-place-placed-clause-step : goal.returns-else-place-placed-clause-step
 returns-else-place-placed-clause-step c = λ line l.
     let old : Player = c.args.self.now in
-    let p : Placed = c.in-Some.placed in
-    let ps : List Placed = drop (suc old.at) old.placed.now in
+    let p : PlacedTransmission = c.in-Some.placed in
+    let ps : List PlacedTransmission = drop (suc old.at) old.placed.now in
     let there : slice_get old.placed.now old.at ≡ Some p = sym c.placed_at.ensures.value ∙ c.in-Some.is in
     let begun = c.if-frame-placed.false in
     let more = c.if-place-placed.false in
@@ -66,7 +67,7 @@ returns-in_default-clause-front c =
 pub returns-then-frame-placed-clause-front : goal.returns-then-frame-placed-clause-front
 returns-then-frame-placed-clause-front c =
     let old : Player = c.args.self.now in
-    let p : Placed = c.in-Some.placed in
+    let p : PlacedTransmission = c.in-Some.placed in
     let there : slice_get old.placed.now old.at ≡ Some p = sym c.placed_at.ensures.value ∙ c.in-Some.is in
     let fit : IsFitPlaced old.statements.now p =
     fit_at (IsFitPlaced old.statements.now) old.placed.now old.at p c.requires.fit there in
@@ -78,7 +79,7 @@ returns-then-frame-placed-clause-front c =
 pub returns-else-place-placed-clause-front : goal.returns-else-place-placed-clause-front
 returns-else-place-placed-clause-front c =
     let old : Player = c.args.self.now in
-    let p : Placed = c.in-Some.placed in
+    let p : PlacedTransmission = c.in-Some.placed in
     let there : slice_get old.placed.now old.at ≡ Some p = sym c.placed_at.ensures.value ∙ c.in-Some.is in
     let begun = c.if-frame-placed.false in
     let more = c.if-place-placed.false in
@@ -89,10 +90,10 @@ pub returns-then-place-placed-clause-ordered : goal.returns-then-place-placed-cl
 returns-then-place-placed-clause-ordered c =
     let old : Player = c.args.self.now in
     let new : Player = record old { at = old.at + 1; from = c.args.frame + 1 } in
-    let p : Placed = c.in-Some.placed in
-    let ps : List Placed = drop (suc old.at) old.placed.now in
+    let p : PlacedTransmission = c.in-Some.placed in
+    let ps : List PlacedTransmission = drop (suc old.at) old.placed.now in
     let there : slice_get old.placed.now old.at ≡ Some p = sym c.placed_at.ensures.value ∙ c.in-Some.is in
-    let left : left_of old ≡ p ∷ ps = left_is old.placed.now old.at p there in
+    let left : still_placed old ≡ p ∷ ps = left_is old.placed.now old.at p there in
     let one : old.at + 1 ≡ suc old.at = omega arith in
     let less : c.args.frame < p.start + p.length = ends_behind old c.args.frame p ps left c.requires.front in
     let begun = c.if-frame-placed.false in
