@@ -1,4 +1,10 @@
 //! The bursts of transmissions, against octets that were worked out from the standard's tables.
+ghost use Rattle.std.specs.Prelude.{◌≡◌, ◌<◌, None, false, replicate};
+ghost use Rattle.dmr_script.specs.declared.statement.Sender.TheVariants as sender;
+ghost use Rattle.dmr_script.specs.declared.statement.Transmission.TheVariants as said;
+ghost use Rattle.dmr_making.specs.Senders.{IsSendable};
+ghost use Rattle.dmr_script.specs.Fits.{FitsSender};
+
 use dmr_csbk::Csbk;
 use dmr_link::FullLc;
 use dmr_making::{PlacedTransmission, SlotTransmission, write_recording};
@@ -17,7 +23,11 @@ fn printed(
     transmit: &Transmit,
     place: usize,
     frame: u32,
-) -> Result<String, AllocError> {
+) -> Result<String, AllocError>
+    requires frame { frame < 1048576 }
+    requires sender { FitsSender transmit.now.sender }
+    requires fit { IsSendable None transmit.now.transmission }
+{
     let sending = SlotTransmission {
         transmit,
         last: None,
@@ -75,7 +85,13 @@ fn call_with_an_absent_place(rt: HostRuntime) -> Result<(), Fail> {
 }
 
 /// A control signalling block of zeros.
-fn zeros() -> Transmit {
+fn zeros() -> Transmit
+    ensures value { result ≡ record {
+      sender = sender.Own;
+      transmission = said.Control
+          (record { last = false; protect = false; code = 0; fid = 0; body = replicate 8 0 });
+    } }
+{
     Transmit {
         sender: Sender::Own,
         transmission: Transmission::Control(Csbk {
