@@ -5,7 +5,6 @@ use Rattle.std.proofs.KnownBytes.{Appends-trans}
 use Rattle.std.proofs.lemmas.Grind.{flat_map-append}
 use Rattle.std.proofs.lemmas.List.{append-nil, length-append}
 use Rattle.std.specs.Io.KnownBytes.{Appends}
-use Rattle.std.specs.List.{AllByRecursion}
 use Rattle.dmr_making.proofs.Seen.{all_append}
 use Rattle.dmr_making.proofs.Standing.{at_right}
 use Rattle.dmr_making.specs.Playing.{AreFramesMade, IsFrameMade, IsLineOfSlot, IsLineStep, IsMadeIn, IsPlayed, IsReady, SlotFrames}

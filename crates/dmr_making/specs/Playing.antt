@@ -1,6 +1,6 @@
 -- What a slot of a recording sends, frame by frame, of the transmissions that are placed in it.
 use Rattle.std.specs.Prelude.{◌≡◌, ℕ, suc, ◌+◌, ◌-◌, ◌<◌, ◌≤◌, All, List, [], ◌∷◌, ◌++◌, map, drop, length, replicate, slice_get}
-use Rattle.std.specs.Prelude.{Option, Some, None, option_and_then, IfSome}
+use Rattle.std.specs.Prelude.{Option, Some, None, option_and_then}
 use Rattle.dmr_hearing.specs.Slots.{SentSlot, Silent}
 use Rattle.dmr_making.specs.Made.{IsMade}
 use Rattle.dmr_making.specs.Senders.{colour_of, IsSendable}

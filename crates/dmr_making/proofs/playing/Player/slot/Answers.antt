@@ -1,4 +1,4 @@
-use Rattle.std.proofs.Common.{◌≡◌, ℕ, suc, ◌+◌, ◌<◌, List, ◌∷◌, drop, slice_get, Some, None, arith, ap, sym, ◌∙◌}
+use Rattle.std.proofs.Common.{◌≡◌, ℕ, suc, ◌+◌, ◌<◌, List, ◌∷◌, drop, slice_get, Some, arith, ap, sym, ◌∙◌}
 use Rattle.dmr_making.proofs.Lines.{ends_behind, left_have_slots, left_is, none_left, step_gap, step_in, step_none, step_over}
 use Rattle.dmr_making.proofs.Lines.{front_none, front_in, front_over, ordered_over}
 use Rattle.dmr_making.proofs.TrySlots.{fit_at}
