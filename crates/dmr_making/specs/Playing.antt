@@ -7,6 +7,7 @@ use Rattle.dmr_making.specs.Senders.{colour_of, IsSendable}
 use Rattle.dmr_record.specs.Uplink.{UplinkSlots, IsFrame, frame_octets, frames_octets, uplink_file}
 use Rattle.std.specs.List.{AllByRecursion}
 use Rattle.std.specs.Io.KnownBytes.{Appends}
+use Rattle.dmr_record.specs.Devices.{Tears}
 use Rattle.dmr_making.specs.Sends.{Transmitted, SendsSaid}
 use Rattle.dmr_making.specs.Standing.{HoldsAt}
 use Rattle.dmr_making.specs.declared.playing.PlacedTransmission.{PlacedTransmission}
@@ -171,3 +172,22 @@ pub record WritesRecording (own : ℕ) (statements : List NumberedStatement) (fi
   pub made : (one two : SlotFrames) → IsLineOfSlot own statements 0 first one → IsLineOfSlot own statements 0 second two
       → AreFramesMade 0 one two frames
   pub written : Appends old new (uplink_file frames)
+
+-- Both players play a frame, and the sink fails within it.
+pub record TearsFrame (first first_new second second_new : Player) (frame : ℕ) (old new : Option (List ℕ)) : Type 0 where
+  pub one : Option (List ℕ)
+  pub two : Option (List ℕ)
+  pub first_is : IsPlayed first first_new frame one
+  pub second_is : IsPlayed second second_new frame two
+  pub torn : Tears old new (frame_octets (one ∷ two ∷ []))
+
+-- So many frames of both slots were written, and the sink failed within the next one.
+pub record TearsFrames (first second : Player) (old new : Option (List ℕ)) : Type 0 where
+  pub count : ℕ
+  pub first_now : Player
+  pub first_next : Player
+  pub second_now : Player
+  pub second_next : Player
+  pub middle : Option (List ℕ)
+  pub whole : WritesFrames first first_now second second_now count old middle
+  pub part : TearsFrame first_now first_next second_now second_next count middle new

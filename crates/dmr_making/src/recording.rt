@@ -1,7 +1,8 @@
 //! The uplink file of a recording.
 ghost use Rattle.std.specs.Prelude.{◌≡◌, ◌<◌, ◌≤◌, ◌+◌, [], ◌∷◌, All, false, true, IfErr, OnOk, OnErr};
 ghost use Rattle.std.specs.Io.KnownBytes.{Appends};
-ghost use Rattle.dmr_making.specs.Playing.{IsFitPlaced, IsOrdered, IsReady, PlaysFrame, WritesFrames, WritesRecording};
+ghost use Rattle.dmr_making.specs.Playing.{IsFitPlaced, IsOrdered, IsReady, PlaysFrame, TearsFrame, TearsFrames, WritesFrames, WritesRecording};
+ghost use Rattle.dmr_record.specs.Devices.{Tears};
 ghost use Rattle.dmr_record.specs.Uplink.{frame_octets};
 
 use crate::playing::{PlacedTransmission, Player};
@@ -20,6 +21,7 @@ fn write_frame<K: Sink>(
     ensures well { OnOk result (K.has_failed sink.new ≡ false) }
     ensures fault { IfErr result (λ e. e ≡ RecordFault.Write) }
     ensures failed { OnErr result (K.has_failed sink.new ≡ true) }
+    ensures torn { OnErr result (Tears (K.held sink.old) (K.held sink.new) (frame_octets (one ∷ two ∷ []))) }
 {
     write_uplink_slot(sink, one)?;
     write_uplink_slot(sink, two)
@@ -42,6 +44,7 @@ fn play_frame<K: Sink>(
     ensures well { OnOk result (K.has_failed sink.new ≡ false) }
     ensures fault { IfErr result (λ e. e ≡ RecordFault.Write) }
     ensures failed { OnErr result (K.has_failed sink.new ≡ true) }
+    ensures torn { OnErr result (TearsFrame first.old first.new second.old second.new frame (K.held sink.old) (K.held sink.new)) }
 {
     let one = first.slot(frame);
     let two = second.slot(frame);
@@ -66,6 +69,7 @@ fn write_frames<K: Sink>(
     ensures well { OnOk result (K.has_failed sink.new ≡ false) }
     ensures fault { IfErr result (λ e. e ≡ RecordFault.Write) }
     ensures failed { OnErr result (K.has_failed sink.new ≡ true) }
+    ensures torn { OnErr result (TearsFrames first.old second.old (K.held sink.old) (K.held sink.new)) }
 {
     for frame in 0..frames {
         play_frame(first, second, frame, sink)?;
