@@ -1,6 +1,7 @@
 -- What is written of both slots, frame by frame.
 use Rattle.std.proofs.Common.{◌≡◌, ℕ, suc, ◌+◌, ◌-◌, ◌≤◌, List, [], ◌∷◌, ◌++◌, length, Option, append_assoc, arith, ap, refl, sym}
-use Rattle.std.proofs.Common.{◌∙◌, subst}
+use Rattle.std.proofs.Common.{◌∙◌, subst, Result, Ok, Err}
+use Rattle.std.specs.Result.{OnErr}
 use Rattle.std.proofs.KnownBytes.{Appends-trans}
 use Rattle.std.proofs.lemmas.Grind.{flat_map-append}
 use Rattle.std.proofs.lemmas.List.{append-nil, length-append}
@@ -9,11 +10,13 @@ use Rattle.dmr_making.proofs.Seen.{all_append}
 use Rattle.dmr_making.proofs.Standing.{at_right}
 use Rattle.dmr_making.specs.Playing.{AreFramesMade, IsFrameMade, IsLineOfSlot, IsLineStep, IsMadeIn, IsPlayed, IsReady, SlotFrames}
 use Rattle.dmr_making.specs.Playing.{PlaysFrame}
-use Rattle.dmr_making.specs.Playing.{StandsInLine, WritesFrames, WritesRecording, still_placed}
+use Rattle.dmr_making.specs.Playing.{StandsInLine, WritesFrames, TearsFrames, TearsRecording, WritesRecording, still_placed}
 use Rattle.dmr_making.specs.Standing.{HoldsAt}
 use Rattle.dmr_making.specs.declared.playing.PlacedTransmission.{PlacedTransmission}
 use Rattle.dmr_making.specs.declared.playing.Player.{Player}
 use Rattle.dmr_script.specs.declared.statement.NumberedStatement.{NumberedStatement}
+use Rattle.dmr_record.proofs.Torn.{Tears_after, Tears_more}
+use Rattle.dmr_record.specs.Devices.{Tears}
 use Rattle.dmr_record.specs.Head.{head_octets, uplink_magic}
 use Rattle.dmr_record.specs.Uplink.{IsFrame, UplinkSlots, frame_octets, frames_octets}
 
@@ -103,3 +106,59 @@ writes_file own statements first second count one one_now two two_now old mid ne
   made = λ a b u v. (w.made a b (p a u) (q b v)).0;
   written = Appends-trans old mid new (head_octets uplink_magic) (frames_octets w.frames) head w.written;
 }
+
+-- the head is torn
+pub tears_head : (own : ℕ) (statements : List NumberedStatement) (first second : List PlacedTransmission) (old new : Option (List ℕ))
+    → Tears old new (head_octets uplink_magic) → TearsRecording own statements first second old new
+tears_head own statements first second old new torn = record {
+  frames = [];
+  each = tt;
+  made = λ a b u v. tt;
+  torn = Tears_more old new (head_octets uplink_magic) [] torn;
+}
+
+-- a frame behind it is torn
+pub tears_file : (own : ℕ) (statements : List NumberedStatement) (first second : List PlacedTransmission) (one two : Player)
+    → (old mid new : Option (List ℕ))
+    → ((line : SlotFrames) → IsLineOfSlot own statements 0 first line
+    → IsLineOfSlot one.own one.statements.now one.from (still_placed one) line)
+    → ((line : SlotFrames) → IsLineOfSlot own statements 0 second line
+    → IsLineOfSlot two.own two.statements.now two.from (still_placed two) line)
+    → Appends old mid (head_octets uplink_magic) → TearsFrames one two mid new → TearsRecording own statements first second old new
+tears_file own statements first second one two old mid new p q head t =
+    let w = t.whole in
+    let slots : UplinkSlots = t.part.one ∷ t.part.two ∷ [] in
+    let magic : List ℕ = head_octets uplink_magic in
+    let many = w.many in
+    let octets : (magic ++ frames_octets w.frames) ++ frame_octets slots ≡ magic ++ frames_octets (w.frames ++ slots ∷ []) =
+    append_assoc magic (frames_octets w.frames) (frame_octets slots)
+    ∙ ap (λ (l : List ℕ). magic ++ l) (ap (λ (l : List ℕ). frames_octets w.frames ++ l) (sym (append-nil (frame_octets slots)))
+    ∙ sym (flat_map-append frame_octets w.frames (slots ∷ []))) in
+    record {
+      frames = w.frames ++ slots ∷ [];
+      each = all_append IsFrame w.frames (slots ∷ []) w.each (t.part.is, tt);
+      made = λ a b u v.
+          let so_far = w.made a b (p a u) (q b v) in
+          let x = stands_more t.first_now t.first_next t.count t.part.one a t.first_ready.front.begins t.part.first_is so_far.1 in
+          let y = stands_more t.second_now t.second_next t.count t.part.two b t.second_ready.front.begins t.part.second_is
+          so_far.2 in
+          made_more 0 a b w.frames slots t.count (omega (arith, many)) so_far.0 (t.part.one, t.part.two, refl, x.0, y.0);
+      torn = subst (Tears old new) octets
+          (Tears_after old t.middle new (magic ++ frames_octets w.frames) (frame_octets slots)
+          (Appends-trans old mid t.middle magic (frames_octets w.frames) head w.written) t.part.torn);
+    }
+
+-- where there is an error, this holds
+pub at_error : {T E : Type 0} (r : Result T E) (P : Type 0) → P → OnErr r P
+at_error (Ok x) P p = tt
+at_error (Err e) P p = p
+
+-- a player in front of the first frame has the line of all that is placed
+pub as_placed : (p : Player) (own : ℕ) (statements : List NumberedStatement) (placed : List PlacedTransmission) → p.own ≡ own
+    → p.statements.now ≡ statements → still_placed p ≡ placed → p.from ≡ 0 → (line : SlotFrames)
+    → IsLineOfSlot own statements 0 placed line → IsLineOfSlot p.own p.statements.now p.from (still_placed p) line
+as_placed p own statements placed a b c d line l =
+    subst (λ (x : ℕ). IsLineOfSlot x p.statements.now p.from (still_placed p) line) (sym a)
+    (subst (λ (x : List NumberedStatement). IsLineOfSlot own x p.from (still_placed p) line) (sym b)
+    (subst (λ (x : ℕ). IsLineOfSlot own statements x (still_placed p) line) (sym d)
+    (subst (λ (x : List PlacedTransmission). IsLineOfSlot own statements 0 x line) (sym c) l)))

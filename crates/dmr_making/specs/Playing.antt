@@ -179,6 +179,7 @@ pub record TearsFrame (first first_new second second_new : Player) (frame : ℕ)
   pub two : Option (List ℕ)
   pub first_is : IsPlayed first first_new frame one
   pub second_is : IsPlayed second second_new frame two
+  pub is : IsFrame (one ∷ two ∷ [])
   pub torn : Tears old new (frame_octets (one ∷ two ∷ []))
 
 -- So many frames of both slots were written, and the sink failed within the next one.
@@ -189,5 +190,16 @@ pub record TearsFrames (first second : Player) (old new : Option (List ℕ)) : T
   pub second_now : Player
   pub second_next : Player
   pub middle : Option (List ℕ)
+  pub first_ready : IsReady first_now count
+  pub second_ready : IsReady second_now count
   pub whole : WritesFrames first first_now second second_now count old middle
   pub part : TearsFrame first_now first_next second_now second_next count middle new
+
+-- The sink failed: a front of the uplink file of some frames was written, each with what goes out for what both slots send.
+pub record TearsRecording (own : ℕ) (statements : List NumberedStatement) (first second : List PlacedTransmission)
+    (old new : Option (List ℕ)) : Type 0 where
+  pub frames : List UplinkSlots
+  pub each : AllByRecursion IsFrame frames
+  pub made : (one two : SlotFrames) → IsLineOfSlot own statements 0 first one → IsLineOfSlot own statements 0 second two
+      → AreFramesMade 0 one two frames
+  pub torn : Tears old new (uplink_file frames)

@@ -1,7 +1,8 @@
 //! The uplink file of a recording.
 ghost use Rattle.std.specs.Prelude.{◌≡◌, ◌<◌, ◌≤◌, ◌+◌, [], ◌∷◌, All, false, true, IfErr, OnOk, OnErr};
 ghost use Rattle.std.specs.Io.KnownBytes.{Appends};
-ghost use Rattle.dmr_making.specs.Playing.{IsFitPlaced, IsOrdered, IsReady, PlaysFrame, TearsFrame, TearsFrames, WritesFrames, WritesRecording};
+ghost use Rattle.dmr_making.specs.Playing.{IsFitPlaced, IsOrdered, IsReady, PlaysFrame, TearsFrame, TearsFrames, TearsRecording, WritesFrames};
+ghost use Rattle.dmr_making.specs.Playing.{WritesRecording};
 ghost use Rattle.dmr_record.specs.Devices.{Tears};
 ghost use Rattle.dmr_record.specs.Uplink.{frame_octets};
 
@@ -100,6 +101,8 @@ pub fn write_recording<K: Sink>(
     ensures well { OnOk result (K.has_failed sink.new ≡ false) }
     ensures fault { IfErr result (λ e. e ≡ RecordFault.Write) }
     ensures failed { OnErr result (K.has_failed sink.new ≡ true) }
+    ensures torn { OnErr result
+        (TearsRecording own statements.now first.now second.now (K.held sink.old) (K.held sink.new)) }
 {
     write_head(sink, UPLINK_MAGIC)?;
     let mut one = Player::new(statements, own, first);
