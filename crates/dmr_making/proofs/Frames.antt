@@ -108,7 +108,8 @@ writes_file own statements first second count one one_now two two_now old mid ne
 }
 
 -- the head is torn
-pub tears_head : (own : ℕ) (statements : List NumberedStatement) (first second : List PlacedTransmission) (old new : Option (List ℕ))
+pub tears_head : (own : ℕ) (statements : List NumberedStatement) (first second : List PlacedTransmission)
+    → (old new : Option (List ℕ))
     → Tears old new (head_octets uplink_magic) → TearsRecording own statements first second old new
 tears_head own statements first second old new torn = record {
   frames = [];

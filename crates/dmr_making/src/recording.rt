@@ -1,7 +1,8 @@
 //! The uplink file of a recording.
 ghost use Rattle.std.specs.Prelude.{◌≡◌, ◌<◌, ◌≤◌, ◌+◌, [], ◌∷◌, All, false, true, IfErr, OnOk, OnErr};
 ghost use Rattle.std.specs.Io.KnownBytes.{Appends};
-ghost use Rattle.dmr_making.specs.Playing.{IsFitPlaced, IsOrdered, IsReady, PlaysFrame, TearsFrame, TearsFrames, TearsRecording, WritesFrames};
+ghost use Rattle.dmr_making.specs.Playing.{IsFitPlaced, IsOrdered, IsReady, PlaysFrame};
+ghost use Rattle.dmr_making.specs.Playing.{TearsFrame, TearsFrames, TearsRecording, WritesFrames};
 ghost use Rattle.dmr_making.specs.Playing.{WritesRecording};
 ghost use Rattle.dmr_record.specs.Devices.{Tears};
 ghost use Rattle.dmr_record.specs.Uplink.{frame_octets};
