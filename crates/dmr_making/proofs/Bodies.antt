@@ -13,7 +13,7 @@ use Rattle.dmr_data.specs.declared.packet.Packet.{Packet}
 use Rattle.dmr_ip.specs.Contents.{datagram_between}
 use Rattle.dmr_ip.specs.Spelling.{written_form, identifier_of, port_octets as spelled_port}
 use Rattle.dmr_making.specs.Packets.{contents_of, datagram_in, body_with, packet_octets, IsPacketIn}
-use Rattle.dmr_script.specs.Fits.{port_octets, body_octets, FitsPacket}
+use Rattle.dmr_script.specs.Fits.{compressed_port_octets, body_octets, FitsPacket}
 use Rattle.dmr_script.specs.declared.packet.Body.{Body}
 use Rattle.dmr_script.specs.declared.packet.Body.TheVariants as body
 use Rattle.dmr_script.specs.declared.packet.PacketTry.{PacketTry}
@@ -26,12 +26,12 @@ port_by_tests true b port = refl
 port_by_tests false true port = refl
 port_by_tests false false port = refl
 
-port_length : (port : ℕ) → length (spelled_port (identifier_of port) port) ≡ port_octets port
+port_length : (port : ℕ) → length (spelled_port (identifier_of port) port) ≡ compressed_port_octets port
 port_length port = port_by_tests (port == 5016) (port == 5017) port
 
 -- a compressed form
 form_length : (group : Bool) (m : UdpMessage) → length (written_form group (contents_of m))
-    ≡ 5 + port_octets m.source_port + port_octets m.destination_port + length m.data.items
+    ≡ 5 + compressed_port_octets m.source_port + compressed_port_octets m.destination_port + length m.data.items
 form_length group m =
     let a = length-append (spelled_port (identifier_of m.source_port) m.source_port)
     (spelled_port (identifier_of m.destination_port) m.destination_port ++ m.data.items) in
@@ -51,11 +51,13 @@ body_length_by : (p : PacketTry) (b : Body) (compressed : Bool) → (p.sap == 3)
 body_length_by p (body.Octets octets) compressed e = refl
 body_length_by p (body.Udp m) true e =
     ap (λ (b : Bool). length (if b then written_form p.group (contents_of m) else datagram_in p m)) e ∙ form_length p.group m
-    ∙ ap (λ (b : Bool). if b then 5 + port_octets m.source_port + port_octets m.destination_port + length m.data.items
+    ∙ ap (λ (b : Bool). if b
+    then 5 + compressed_port_octets m.source_port + compressed_port_octets m.destination_port + length m.data.items
     else 28 + length m.data.items) (sym e)
 body_length_by p (body.Udp m) false e =
     ap (λ (b : Bool). length (if b then written_form p.group (contents_of m) else datagram_in p m)) e ∙ datagram_length p m
-    ∙ ap (λ (b : Bool). if b then 5 + port_octets m.source_port + port_octets m.destination_port + length m.data.items
+    ∙ ap (λ (b : Bool). if b
+    then 5 + compressed_port_octets m.source_port + compressed_port_octets m.destination_port + length m.data.items
     else 28 + length m.data.items) (sym e)
 
 pub body_length : (p : PacketTry) → length (packet_octets p) ≡ body_octets p.sap p.body

@@ -19,7 +19,7 @@ use Rattle.dmr_making.specs.Packets.{try_of_answer}
 use Rattle.dmr_making.specs.Packets.{short_try}
 use Rattle.dmr_making.specs.Tries.{IsFitTry}
 use Rattle.dmr_making.specs.declared.tries.SentTry.{SentTry}
-use Rattle.dmr_script.specs.Fits.{FitsShortData, FitsStatus, FitsAnswer, flag_blocks}
+use Rattle.dmr_script.specs.Fits.{FitsShortData, FitsStatus, FitsAnswer, answer_flag_blocks}
 use Rattle.dmr_script.specs.declared.packet.Answer.{Answer}
 use Rattle.dmr_script.specs.declared.packet.AnswerKind.{AnswerKind}
 use Rattle.dmr_script.specs.declared.packet.AnswerKind.TheVariants as kind
@@ -137,14 +137,14 @@ flag_count_by w packet false e f =
 
 -- an answer with these blocks fits
 with_fits : (a : Answer) (k : AnswerKind) (class type : ℕ) (blocks : List Block) → a.kind ≡ k → FitsAnswer a → class < 4 → type < 8
-    → length blocks ≡ flag_blocks k → length blocks < 128 → All (λ block. FitsBlock Half block.serial block.octets) blocks
+    → length blocks ≡ answer_flag_blocks k → length blocks < 128 → All (λ block. FitsBlock Half block.serial block.octets) blocks
     → IsFitTry (try_of_answer a (header_of_answer a class type (length blocks)) blocks) a.shape.preambles a.shape.blocks.items
 with_fits a k class type blocks e fit small few count less each = record {
   source = fit.source;
   destination = fit.destination;
   header = (omega arith, (fit.sap, (fit.destination, (fit.source, (less, (small, (few, (fit.number, tt))))))));
   blocks = each;
-  count = count ∙ sym (fit.shape.count ∙ ap flag_blocks e);
+  count = count ∙ sym (fit.shape.count ∙ ap answer_flag_blocks e);
   room = fit.shape.counted;
 }
 
@@ -159,8 +159,8 @@ answer_by a kind.Failed t e fit p =
     (with_fits a kind.Failed 1 1 [] e fit (omega arith) (omega arith) refl (omega arith) (λ k d lt. absurd (omega arith)))
 answer_by a (kind.SelectiveRepeat w) t e fit p =
     let packet : Packet = p.0 in
-    let count : length packet.blocks ≡ flag_blocks (kind.SelectiveRepeat w) = flag_count_by w packet (nat_lt 64 w.blocks) refl p.1
-    in
+    let count : length packet.blocks ≡ answer_flag_blocks (kind.SelectiveRepeat w) =
+    flag_count_by w packet (nat_lt 64 w.blocks) refl p.1 in
     let most : length packet.blocks ≤ 127 = p.1.written.most in
     subst (λ (x : SentTry). IsFitTry x a.shape.preambles a.shape.blocks.items) (sym p.2)
     (with_fits a (kind.SelectiveRepeat w) 2 0 packet.blocks e fit (omega arith) (omega arith) count (omega (arith, most))

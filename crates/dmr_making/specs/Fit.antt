@@ -1,18 +1,11 @@
 -- What a script's values have to fit, so that there are bursts for them.
 use Rattle.std.specs.Prelude.{◌≡◌, ◌<◌, ◌≤◌, All, length}
+use Rattle.dmr_script.specs.Fits.{FitsCarried}
 use Rattle.dmr_script.specs.declared.call.Call.{Call}
-use Rattle.dmr_script.specs.declared.call.Carried.{Carried}
-use Rattle.dmr_script.specs.declared.call.Carried.TheVariants.{Own, Nothing, LinkControl}
 use Rattle.dmr_script.specs.declared.control.LoneBurst.{LoneBurst}
 use Rattle.dmr_script.specs.declared.control.LoneBurst.TheVariants as lone
 use Rattle.dmr_script.specs.declared.shape.CallStart.{CallStart}
 use Rattle.dmr_script.specs.declared.shape.CallStart.TheVariants as start
-
--- the opcode of a link control that a superframe carries fits six bits
-abbrev pub IsFitCarried : Carried → Type 0
-IsFitCarried Own = Unit {0}
-IsFitCarried Nothing = Unit {0}
-IsFitCarried (LinkControl lc) = lc.flco < 64
 
 -- at most five places stand in front of the first A
 abbrev pub IsFitStart : CallStart → Type 0
@@ -22,7 +15,7 @@ IsFitStart (start.Late tail) = length tail.items ≤ 5
 -- The opcodes of the link controls of a call fit six bits, and at most five places stand in front of its first A.
 pub record IsFitCall (call : Call) : Type 0 where
   pub link_control : call.link_control.flco < 64
-  pub carried : All IsFitCarried call.carried.items
+  pub carried : All FitsCarried call.carried.items
   pub start : IsFitStart call.shape.start
 
 -- the opcode of the link control of a terminator fits six bits

@@ -3,7 +3,7 @@ use Rattle.std.specs.Prelude.{◌≡◌, ℕ, suc, ◌+◌, ◌-◌, ◌<◌, �
 use Rattle.std.specs.Prelude.{Option, Some, None, option_and_then}
 use Rattle.dmr_hearing.specs.Slots.{SentSlot, Silent}
 use Rattle.dmr_making.specs.Made.{IsMade}
-use Rattle.dmr_making.specs.Senders.{colour_of, IsSendable}
+use Rattle.dmr_making.specs.Senders.{colour_of, IsSenderColour, IsSendable}
 use Rattle.dmr_record.specs.Uplink.{UplinkSlots, IsFrame, frame_octets, frames_octets, uplink_file}
 use Rattle.std.specs.List.{AllByRecursion}
 use Rattle.std.specs.Io.KnownBytes.{Appends}
@@ -12,7 +12,6 @@ use Rattle.dmr_making.specs.Sends.{Transmitted, SendsSaid}
 use Rattle.dmr_making.specs.Standing.{HoldsAt}
 use Rattle.dmr_making.specs.declared.playing.PlacedTransmission.{PlacedTransmission}
 use Rattle.dmr_making.specs.declared.playing.Player.{Player}
-use Rattle.dmr_script.specs.Fits.{FitsSender}
 use Rattle.dmr_script.specs.declared.packet.PacketTry.{PacketTry}
 use Rattle.dmr_script.specs.declared.statement.NumberedStatement.{NumberedStatement}
 use Rattle.dmr_script.specs.declared.statement.Statement.{Statement}
@@ -52,7 +51,7 @@ SlotFrames = List (ℕ × SentSlot)
 pub record IsFitPlaced (statements : List NumberedStatement) (p : PlacedTransmission) : Type 0 where
   pub transmit : Transmit
   pub there : transmit_in statements p.statement ≡ Some transmit
-  pub sender : FitsSender transmit.sender
+  pub sender : IsSenderColour transmit.sender
   pub fit : IsSendable (packet_in statements p.packet) transmit.transmission
   pub some : 0 < p.length
 
@@ -174,7 +173,7 @@ pub record WritesRecording (own : ℕ) (statements : List NumberedStatement) (fi
   pub written : Appends old new (uplink_file frames)
 
 -- Both players play a frame, and the sink fails within it.
-pub record TearsFrame (first first_new second second_new : Player) (frame : ℕ) (old new : Option (List ℕ)) : Type 0 where
+pub record TearsMadeFrame (first first_new second second_new : Player) (frame : ℕ) (old new : Option (List ℕ)) : Type 0 where
   pub one : Option (List ℕ)
   pub two : Option (List ℕ)
   pub first_is : IsPlayed first first_new frame one
@@ -193,7 +192,7 @@ pub record TearsFrames (first second : Player) (old new : Option (List ℕ)) : T
   pub first_ready : IsReady first_now count
   pub second_ready : IsReady second_now count
   pub whole : WritesFrames first first_now second second_now count old middle
-  pub part : TearsFrame first_now first_next second_now second_next count middle new
+  pub part : TearsMadeFrame first_now first_next second_now second_next count middle new
 
 -- The sink failed: a front of the uplink file of some frames was written, each with what goes out for what both slots send.
 pub record TearsRecording (own : ℕ) (statements : List NumberedStatement) (first second : List PlacedTransmission)

@@ -15,6 +15,11 @@ abbrev pub colour_of : ℕ → Sender → ℕ
 colour_of own sender.Own = own
 colour_of own (sender.Foreign colour) = colour
 
+-- another colour code is one
+abbrev pub IsSenderColour : Sender → Type 0
+IsSenderColour sender.Own = Unit {0}
+IsSenderColour (sender.Foreign colour) = colour < 16
+
 -- A further try fits the packet: a shape of all of it has as many blocks, and the blocks of a part are among them.
 abbrev pub IsFitAgain : PacketTry → Again → Type 0
 IsFitAgain p (again.Full None) = Unit {0}

@@ -2,7 +2,7 @@
 ghost use Rattle.std.specs.Prelude.{◌≡◌, ◌<◌, ◌≤◌, ◌+◌, [], ◌∷◌, All, false, true, IfErr, OnOk, OnErr};
 ghost use Rattle.std.specs.Io.KnownBytes.{Appends};
 ghost use Rattle.dmr_making.specs.Playing.{IsFitPlaced, IsOrdered, IsReady, PlaysFrame};
-ghost use Rattle.dmr_making.specs.Playing.{TearsFrame, TearsFrames, TearsRecording, WritesFrames};
+ghost use Rattle.dmr_making.specs.Playing.{TearsMadeFrame, TearsFrames, TearsRecording, WritesFrames};
 ghost use Rattle.dmr_making.specs.Playing.{WritesRecording};
 ghost use Rattle.dmr_record.specs.Devices.{Tears};
 ghost use Rattle.dmr_record.specs.Uplink.{frame_octets};
@@ -46,7 +46,7 @@ fn play_frame<K: Sink>(
     ensures well { OnOk result (K.has_failed sink.new ≡ false) }
     ensures fault { IfErr result (λ e. e ≡ RecordFault.Write) }
     ensures failed { OnErr result (K.has_failed sink.new ≡ true) }
-    ensures torn { OnErr result (TearsFrame first.old first.new second.old second.new frame (K.held sink.old) (K.held sink.new)) }
+    ensures torn { OnErr result (TearsMadeFrame first.old first.new second.old second.new frame (K.held sink.old) (K.held sink.new)) }
 {
     let one = first.slot(frame);
     let two = second.slot(frame);

@@ -239,17 +239,16 @@ impl<'a> SlotTransmission<'a> {
     ghost use Rattle.std.specs.Prelude.{◌<◌, option_copied};
     ghost use Rattle.dmr_making.specs.Made.{IsMade};
     ghost use Rattle.dmr_making.specs.Senders as spec;
-    ghost use Rattle.dmr_making.specs.Senders.{IsSendable};
+    ghost use Rattle.dmr_making.specs.Senders.{IsSenderColour, IsSendable};
     ghost use Rattle.dmr_making.specs.Sends.{Transmitted, SendsSaid};
     ghost use Rattle.dmr_making.specs.Standing.{HoldsAt};
-    ghost use Rattle.dmr_script.specs.Fits.{FitsSender};
 
     /// What goes out in one of its slots, counted from 0, in this frame of a recording of this colour code: the 33 octets of a
     /// burst of a mobile station, or nothing. Past its last slot it says nothing.
     pub fn slot(self, own: u8, place: usize, frame: u32) -> Option<[u8; 33]>
         requires own { own < 16 }
         requires frame { frame < 1048576 }
-        requires sender { FitsSender self.transmit.now.sender }
+        requires sender { IsSenderColour self.transmit.now.sender }
         requires fit { IsSendable (option_copied self.last) self.transmit.now.transmission }
         ensures slot { (sent : Transmitted)
             → SendsSaid (spec.colour_of own self.entry.transmit.now.sender) (option_copied self.entry.last)

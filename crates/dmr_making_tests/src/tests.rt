@@ -2,8 +2,7 @@
 ghost use Rattle.std.specs.Prelude.{◌≡◌, ◌<◌, None, false, replicate};
 ghost use Rattle.dmr_script.specs.declared.statement.Sender.TheVariants as sender;
 ghost use Rattle.dmr_script.specs.declared.statement.Transmission.TheVariants as said;
-ghost use Rattle.dmr_making.specs.Senders.{IsSendable};
-ghost use Rattle.dmr_script.specs.Fits.{FitsSender};
+ghost use Rattle.dmr_making.specs.Senders.{IsSenderColour, IsSendable};
 
 use dmr_csbk::Csbk;
 use dmr_link::FullLc;
@@ -25,7 +24,7 @@ fn printed(
     frame: u32,
 ) -> Result<String, AllocError>
     requires frame { frame < 1048576 }
-    requires sender { FitsSender transmit.now.sender }
+    requires sender { IsSenderColour transmit.now.sender }
     requires fit { IsSendable None transmit.now.transmission }
 {
     let sending = SlotTransmission {
