@@ -46,7 +46,8 @@ fn play_frame<K: Sink>(
     ensures well { OnOk result (K.has_failed sink.new ≡ false) }
     ensures fault { IfErr result (λ e. e ≡ RecordFault.Write) }
     ensures failed { OnErr result (K.has_failed sink.new ≡ true) }
-    ensures torn { OnErr result (TearsMadeFrame first.old first.new second.old second.new frame (K.held sink.old) (K.held sink.new)) }
+    ensures torn { OnErr result
+        (TearsMadeFrame first.old first.new second.old second.new frame (K.held sink.old) (K.held sink.new)) }
 {
     let one = first.slot(frame);
     let two = second.slot(frame);
