@@ -1,0 +1,14 @@
+pub mod Bodies
+pub mod CallSlots
+pub mod Flags
+pub mod Frames
+pub mod Lines
+pub mod OtherTries
+pub mod SameBursts
+pub mod Recorded
+pub mod Seen
+pub mod SeenTries
+pub mod Standing
+pub mod Superframes
+pub mod TryFits
+pub mod TrySlots

@@ -1,0 +1,13 @@
+pub mod Calls
+pub mod Controls
+pub mod Fit
+pub mod Information
+pub mod Made
+pub mod Packets
+pub mod Places
+pub mod Playing
+pub mod Seen
+pub mod Senders
+pub mod Sends
+pub mod Standing
+pub mod Tries
