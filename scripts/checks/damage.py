@@ -135,7 +135,7 @@ def check_clean(report):
     """A run's downlink is clean whatever it was given."""
     octets = (report.top / "samples/mixed_clean/uplink.dmru").read_bytes()
     with Room(report, damaged(report, octets, "--errors", 500)) as room:
-        ran = room.run()
+        ran = room.run(outgoing=None)
         told = report.call("show", room.downlink)
         report.expect("the downlink is clean", (ran.status, told.status, b"[wrong" in told.out) == (0, 0, False), told)
 
