@@ -1,5 +1,6 @@
 mod Apart
 mod Digits
+mod DigitLines
 mod Hexes
 mod Imported
 mod Numbers

@@ -21,8 +21,8 @@ pub(crate) enum LineKind {
     Record,
 }
 
-/// What a line is.
-pub(crate) fn line_kind(line: &[u8]) -> LineKind
+/// What a line is, by its first word.
+fn kind_by_word(line: &[u8]) -> LineKind
     ensures kind { IsLineOfKind result (line_words line.now) }
 {
     let mut words = Words::new(line);
@@ -30,6 +30,16 @@ pub(crate) fn line_kind(line: &[u8]) -> LineKind
         Some(word) if word == b"frames".as_slice() => LineKind::Frames,
         Some(word) if word == b"records".as_slice() => LineKind::Records,
         _ => LineKind::Record,
+    }
+}
+
+/// What a line is. Most lines are records, which a digit at the front tells at once.
+pub(crate) fn line_kind(line: &[u8]) -> LineKind
+    ensures kind { IsLineOfKind result (line_words line.now) }
+{
+    match line.first() {
+        Some(first) if first.is_ascii_digit() => LineKind::Record,
+        _ => kind_by_word(line),
     }
 }
 

@@ -67,6 +67,13 @@ words_first xs h =
     ∙ ap (λ (w : List ℕ). w ∷ []) (sym (take_all n xs l)) ∙ ap (λ (w : List ℕ). take n xs ∷ line_words w) (sym (drop_all n xs l)))
     (cases_lt n (length xs))
 
+-- a line that begins with no blank has a word
+pub words_there : (x : ℕ) (xs : List ℕ) → is_blank x ≡ false → has_any (line_words (x ∷ xs)) ≡ true
+words_there x xs e =
+    let one : position_or_len is_blank (x ∷ xs) ≡ 1 + position_or_len is_blank xs =
+        ap (λ (b : Bool). cond (not b) (1 + position_or_len is_blank xs) 0) e in
+    ap has_any (words_first (x ∷ xs) (omega (arith, one)))
+
 no_blank : (xs : List ℕ) → position_or_len is_blank xs ≡ length xs → All (λ x. is_blank x ≡ false) xs
 no_blank xs h k d l = fails_before_first is_blank xs k d (omega (arith, h, l))
 

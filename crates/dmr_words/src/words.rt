@@ -2,7 +2,7 @@
 ghost use Rattle.std.specs.Prelude.{◌≡◌, ◌≤◌, length};
 ghost use Rattle.std.specs.Iterator.{YieldsFirstRef, item_count};
 ghost use Rattle.std.specs.List.{prefix_len, position_or_len};
-ghost use Rattle.dmr_words.specs.Words.{is_blank, line_words, is_remark, is_worded};
+ghost use Rattle.dmr_words.specs.Words.{is_blank, line_words, is_worded};
 
 use memchr::memchr2;
 use std::marker::Model;
@@ -77,16 +77,13 @@ impl<'a> Iterator for Words<'a> {
     }
 }
 
-/// Whether a line is a remark: it begins with `#`.
-fn is_remark(line: &[u8]) -> bool
-    ensures value { result ≡ is_remark line.now }
-{
-    line.first() == Some(&b'#')
-}
-
-/// Whether a line counts: it has a word, and is no remark.
+/// Whether a line counts: it has a word, and is no remark, which begins with `#`.
+#[tactic(auto, using(crate::proofs::Parts::words_there))]
 pub fn is_worded(line: &[u8]) -> bool
     ensures value { result ≡ is_worded line.now }
 {
-    !is_remark(line) && Words::new(line).next().is_some()
+    match line.first() {
+        Some(first) if !is_blank(*first) => *first != b'#',
+        _ => Words::new(line).next().is_some(),
+    }
 }
