@@ -587,7 +587,7 @@ def check_examples(report):
 
 
 def check_readme(report):
-    """Its commands run, and do what it says; each option that it names is one."""
+    """Its commands run, and those that the guide shows with what they print; they do what is said of them."""
     text = (report.top / "README.md").read_text()
     command = re.search(r"^    (\./dmrgate run .*)$", text, re.MULTILINE)[1]
     line = re.search(r"It prints `(frames .*?)`", text)[1]
@@ -609,17 +609,19 @@ def check_readme(report):
         report.expect("the README's pipe", is_so and strip.stdout, ran)
         live = re.search(r"^    (socat .*)$", text, re.MULTILINE)[1]
         expect_live(report, "the README's run between the ports of a modem", room, sample, live)
-        script = re.search(r"^    (awk '.*?import text - mine\.dmru)$", text, re.MULTILINE | re.DOTALL)[1]
+        guide = (report.top / "docs/guide.md").read_text()
+        script = re.search(r"^    (awk '.*?import text - mine\.dmru)$", guide, re.MULTILINE | re.DOTALL)[1]
         later = recordings.UPLINK_HEAD + bytes(2) + recordings.ONE_CSBK[8:]
         for slots, octets in (("{}\n\n", recordings.ONE_CSBK), ("\n\n{}", later)):
             (room.path / "slots.txt").write_text(slots.format(recordings.CSBK.hex().upper()))
             ran = shell(script, room.path)
-            report.expect("the README's recording of one's own", (room.path / "mine.dmru").read_bytes() == octets, ran)
+            report.expect("the guide's recording of one's own", (room.path / "mine.dmru").read_bytes() == octets, ran)
         carried = re.search(r"^    (\./dmrgate export text (\S+) .* (\S+))$", text, re.MULTILINE)
         ran, there = shell(carried[1], room.path), room.path / carried[3]
         is_so = ran.returncode == 0 and there.read_bytes() == (report.top / carried[2]).read_bytes()
         report.expect("the README's text and back", is_so, ran)
-        blocks = re.findall(r"^    \$ (\./dmrgate (?:show|log|damage|run|compare) .*)\n((?:    .*\n)+)", text, re.MULTILINE)
+        shown_in = text + re.sub(r"^      ", "    ", guide, flags=re.MULTILINE)
+        blocks = re.findall(r"^    \$ (\./dmrgate (?:show|log|damage|run|compare) .*)\n((?:    .*\n)+)", shown_in, re.MULTILINE)
         is_shown = any(command.startswith("./dmrgate show downlink.dmrd") for command, _ in blocks)
         report.expect("the README shows the downlink of its run", is_shown)
         for command, shown in blocks:
@@ -627,7 +629,7 @@ def check_readme(report):
                 continue
             ran = shell(command, room.path)
             lines = re.sub(r"^    ", "", shown, flags=re.MULTILINE)
-            report.expect(f"the README's {command}", (ran.returncode, ran.stdout) == (0, lines), ran)
+            report.expect(f"what is shown: {command}", (ran.returncode, ran.stdout) == (0, lines), ran)
         (room.path / "hosts.pcap").write_bytes(captures.CAPTURED)
         ran = shell(re.search(r"^    (\./dmrgate import datagrams .*)$", text, re.MULTILINE)[1], room.path)
         records = recordings.outgoing_record(0) + recordings.outgoing_record(16)

@@ -5,7 +5,7 @@ use std::fmt;
 
 /// The last line of a log for people.
 #[derive(Clone, Copy, Drop)]
-pub struct EndLine {
+pub(crate) struct EndLine {
     /// What the log counted.
     pub summary: LogSummary,
     /// Whether a gateway listened.
@@ -34,7 +34,7 @@ impl fmt::Display for EndLine {
 
 /// The last object of a log as JSON.
 #[derive(Clone, Copy, Drop)]
-pub struct EndObject {
+pub(crate) struct EndObject {
     /// What the log counted.
     pub summary: LogSummary,
     /// Whether a gateway listened.

@@ -16,7 +16,7 @@ use std::fmt::Write;
 
 /// The line of an entry: when it begins and how long it takes, its first frame and its slot, in columns, and what it is.
 #[derive(Clone, Copy, Drop)]
-pub struct EntryLine<'a> {
+pub(crate) struct EntryLine<'a> {
     /// When the recording began, if that is known.
     pub start: Option<StartTime>,
     /// What has the line.

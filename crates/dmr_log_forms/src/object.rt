@@ -12,7 +12,7 @@ use std::fmt::Write;
 
 /// The object of an entry: the same columns as those of a table. All its texts are fixed or digits, so nothing has to be escaped.
 #[derive(Clone, Copy, Drop)]
-pub struct EntryObject<'a> {
+pub(crate) struct EntryObject<'a> {
     /// When the recording began, if that is known.
     pub start: Option<StartTime>,
     /// What has the object.
