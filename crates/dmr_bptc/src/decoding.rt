@@ -7,6 +7,7 @@ ghost use Rattle.dmr_bptc.specs.ProductWord.{cell, row};
 ghost use Rattle.dmr_bptc.specs.ProductWord.{IsProductWord, information};
 ghost use Rattle.dmr_bptc.specs.Decoding.{IsCorrected, IsDecoded, IsDamaged};
 
+use crate::encoding::bptc_encode;
 use crate::table::{Table, are_columns_words, correct_columns, correct_row, first_cells, table_of};
 use dmr_bits::Bits;
 
@@ -19,6 +20,11 @@ pub fn bptc_decode(bits: &Bits<196>) -> Option<Bits<96>>
         → result ≡ Some (information word) }
 {
     let mut table = table_of(bits);
+    // Most were received as they were written: what they hold has these bits for its written form.
+    let held = information_of(&table);
+    if bptc_encode(&held).distance(bits) == 0 {
+        return Some(held);
+    }
     let columns = correct_columns(&mut table);
     let rows = correct_rows(&mut table);
     // Where no row was changed, the columns are the words that they were.
