@@ -80,17 +80,17 @@ returns-else-are_columns_words-clause-undone c word is damaged =
     is damaged
 
 -- bits that are the written form of what they hold
-clean : (c : goal.Then-distance-eq0) → IsWritten c.information_of-held.result c.args.bits.now
+clean : (c : goal.Then-distance-eq0) → IsWritten c.held_by-held.result c.args.bits.now
 clean c =
-    subst (IsWritten c.information_of-held.result)
+    subst (IsWritten c.held_by-held.result)
     (distance_zero c.bptc_encode.result c.args.bits.now (c.distance.ensures.length ∙ sym c.distance.ensures.other_length)
     (sym c.distance.ensures.value ∙ c.if-distance-eq0.true))
     c.bptc_encode.ensures.written
 
 pub returns-then-distance-eq0-clause-decoded : goal.returns-then-distance-eq0-clause-decoded
-returns-then-distance-eq0-clause-decoded c = clean_decoded c.information_of-held.result c.args.bits.now (clean c)
+returns-then-distance-eq0-clause-decoded c = clean_decoded c.held_by-held.result c.args.bits.now (clean c)
 
 pub returns-then-distance-eq0-clause-undone : goal.returns-then-distance-eq0-clause-undone
 returns-then-distance-eq0-clause-undone c word is damaged =
-    undone c.args.bits.now word (Some c.information_of-held.result)
-    (clean_decoded c.information_of-held.result c.args.bits.now (clean c)) is damaged
+    undone c.args.bits.now word (Some c.held_by-held.result)
+    (clean_decoded c.held_by-held.result c.args.bits.now (clean c)) is damaged
