@@ -1,9 +1,9 @@
 -- The checks of all columns at once, by sums of rows.
 use Rattle.std.proofs.Common.{◌≡◌, ℕ, zero, suc, ◌+◌, ◌-◌, ◌/◌, ◌%◌, ◌^◌, ◌==◌, ◌<◌, Bool, true, false, List, [], ◌∷◌, length, map}
-use Rattle.std.proofs.Common.{drop, refl, sym, ◌∙◌, ap, arith, cond, get_or, set, replicate}
+use Rattle.std.proofs.Common.{drop, refl, sym, ◌∙◌, ap, arith, cond, get_or, replicate}
 use Rattle.std.specs.Prelude.{bit_xor}
 use Rattle.std.proofs.lemmas.Bool.{eqb-true, eqb-false}
-use Rattle.std.proofs.lemmas.List.{get_or-replicate, get_or-set_same, get_or-set_other, length-set, drop_more, length-map}
+use Rattle.std.proofs.lemmas.List.{get_or-replicate, drop_more, length-map}
 use Rattle.std.proofs.lemmas.List.{get_or-map}
 use Rattle.dmr_bits.specs.Bits.{bits_of, xor}
 use Rattle.dmr_bits.proofs.Lists.{get_or-xor_bits, length-bits_of}
@@ -109,28 +109,6 @@ column_tells rows j c e h =
     column_from (laid rows) (map (bit_of c) rows) c (length-map rows (bit_of c) ∙ e)
     (λ r k. get_or-map (bit_of c) rows r 0 false (omega (arith, e)) ∙ sym (cell_laid rows r c k h)) in
     sum_tells j c hamming13_columns rows (sym e) h ∙ ap {B = ℕ} (λ l. ones_over j hamming13_columns l % 2) is
-
--- the lower rows, as the sums are written there
-pub written_sum : (rows : List ℕ) (a b d e j : ℕ) → length rows ≡ 13 → a ≡ sum_rows 3 hamming13_columns rows
-    → b ≡ sum_rows 2 hamming13_columns rows → d ≡ sum_rows 1 hamming13_columns rows → e ≡ sum_rows 0 hamming13_columns rows → j < 4
-    → get_or (set (set (set (set rows 9 a) 10 b) 11 d) 12 e) (12 - j) 0 ≡ sum_rows j hamming13_columns rows
-written_sum rows a b d e zero long p q r s h =
-    get_or-set_same (set (set (set rows 9 a) 10 b) 11 d) 12 e 0
-    (omega (arith, long, length-set (set (set rows 9 a) 10 b) 11 d, length-set (set rows 9 a) 10 b, length-set rows 9 a)) ∙ s
-written_sum rows a b d e (suc zero) long p q r s h =
-    get_or-set_other (set (set (set rows 9 a) 10 b) 11 d) 12 11 e 0 (λ z. absurd (omega (arith, z)))
-    ∙ get_or-set_same (set (set rows 9 a) 10 b) 11 d 0 (omega (arith, long, length-set (set rows 9 a) 10 b, length-set rows 9 a))
-    ∙ r
-written_sum rows a b d e (suc (suc zero)) long p q r s h =
-    get_or-set_other (set (set (set rows 9 a) 10 b) 11 d) 12 10 e 0 (λ z. absurd (omega (arith, z)))
-    ∙ get_or-set_other (set (set rows 9 a) 10 b) 11 10 d 0 (λ z. absurd (omega (arith, z)))
-    ∙ get_or-set_same (set rows 9 a) 10 b 0 (omega (arith, long, length-set rows 9 a)) ∙ q
-written_sum rows a b d e (suc (suc (suc zero))) long p q r s h =
-    get_or-set_other (set (set (set rows 9 a) 10 b) 11 d) 12 9 e 0 (λ z. absurd (omega (arith, z)))
-    ∙ get_or-set_other (set (set rows 9 a) 10 b) 11 9 d 0 (λ z. absurd (omega (arith, z)))
-    ∙ get_or-set_other (set rows 9 a) 10 9 b 0 (λ z. absurd (omega (arith, z)))
-    ∙ get_or-set_same rows 9 a 0 (omega (arith, long)) ∙ p
-written_sum rows a b d e (suc (suc (suc (suc j)))) long p q r s h = absurd (omega arith)
 
 -- the sums of all checks
 pub four_sums : (rows : List ℕ) (a b d e : ℕ) → a ≡ sum_rows 0 hamming13_columns rows → b ≡ sum_rows 1 hamming13_columns rows

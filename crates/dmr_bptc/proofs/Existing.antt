@@ -113,8 +113,8 @@ decoded_somehow bits =
       | inr none ↦ (None, record { middle = middle; last = last; columns = columns; rows = rows; outcome = none })
     ]
 
--- What is decoded is 96 bits.
-length-information : (bits : List Bool) → length (information bits) ≡ 96
+-- what is decoded is 96 bits
+pub length-information : (bits : List Bool) → length (information bits) ≡ 96
 unfolding information
 length-information bits = length-map-range_with_len (λ k. cell bits ((k + 3) / 11) ((k + 3) % 11)) 0 96
 

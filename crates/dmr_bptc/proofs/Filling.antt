@@ -1,10 +1,8 @@
 -- Filling the table row by row, and then column by column.
 use Rattle.std.proofs.Common.{◌≡◌, ℕ, ◌+◌, ◌-◌, ◌*◌, ◌/◌, ◌%◌, ◌<◌, ◌≢◌, Bool, false, List, refl, sym, ◌∙◌, ap, subst, arith, cond}
-use Rattle.std.proofs.Common.{get_or, inl, inr, zero, suc, ◌++◌, length, take, drop, replicate}
+use Rattle.std.proofs.Common.{get_or, inl, inr}
 use Rattle.std.specs.Prelude.{nat_lt}
-use Rattle.std.proofs.lemmas.Bool.{cases_eq, cases_lt, lt-ltb, le-ltb}
-use Rattle.std.proofs.lemmas.List.{length-append, get_or_append_left, get_or-append_right, get_or-take}
-use Rattle.dmr_bits.specs.Bits.{part, put_at}
+use Rattle.std.proofs.lemmas.Bool.{cases_eq, lt-ltb, le-ltb}
 use Rattle.dmr_codes.specs.Seven.{IsHamming13, IsHamming15, hamming13_columns, hamming15_columns, hamming13_shaped}
 use Rattle.dmr_codes.proofs.Tables.{all_rows as rows_from}
 use Rattle.dmr_bptc.specs.ProductWord.{cell, row, column}
@@ -67,32 +65,3 @@ reserved_cell bits c h =
     let whole : 11 * 0 + c ≡ c = omega arith in
     ap (λ n. cond (nat_lt n 3) false (get_or bits (n - 3) false)) whole
     ∙ ap (λ b. cond b false (get_or bits (c - 3) false)) (lt-ltb c 3 h)
-
--- the first row: three reserved cells, and eight of the information
-pub first_row : (bits new : List Bool) → length (part bits 0 8) ≡ 8 → new ≡ put_at (replicate 11 false) 3 (part bits 0 8) → (c : ℕ)
-    → c < 11 → get_or new c false ≡ information_cell bits 0 c
-first_row bits new long is c h =
-    let F : List Bool = take 3 (replicate 11 false) in
-    let P : List Bool = take 8 bits in
-    let R : List Bool = drop (3 + length P) (replicate 11 false) in
-    let wide : length (F ++ P) ≡ 11 = length-append F P ∙ ap (λ n. 3 + n) long in
-    let front : get_or new c false ≡ get_or (F ++ P) c false = ap (λ l. get_or l c false) is
-    ∙ get_or_append_left (F ++ P) R false c (omega arith) in
-    front
-    ∙ elim (cases_lt c 3) [
-      | inl low ↦
-          (let three : c < length F = low in
-          get_or_append_left F P false c three ∙ clear c low ∙ sym (reserved_cell bits c low))
-      | inr high ↦
-          (let e : (c - 3 + 3) / 11 ≡ 0 = omega arith in
-          let f : (c - 3 + 3) % 11 ≡ c = omega arith in
-          get_or-append_right F P 3 c false refl high ∙ get_or-take 8 bits (c - 3) false (omega arith)
-          ∙ sym (information_cell_at bits (c - 3)) ∙ ap (λ r. information_cell bits r ((c - 3 + 3) % 11)) e
-          ∙ ap (information_cell bits 0) f)
-    ]
-  where
-    clear : (i : ℕ) → i < 3 → get_or (take 3 (replicate 11 false)) i false ≡ false
-    clear zero h = refl
-    clear (suc zero) h = refl
-    clear (suc (suc zero)) h = refl
-    clear (suc (suc (suc i))) h = absurd (omega arith)

@@ -4,9 +4,7 @@ use Rattle.std.proofs.Common.{arith}
 use Rattle.dmr_bits.specs.Bits.{bits_of}
 use Rattle.dmr_bptc.specs.Spread.{four}
 use Rattle.dmr_bptc.specs.ProductWord.{cell}
-use Rattle.dmr_bptc.specs.Rows.{laid}
 use Rattle.dmr_bptc.proofs.Numbered.{joined_more}
-use Rattle.dmr_bptc.proofs.RowNumbers.{numbered_at}
 use Rattle.dmr_bptc.proofs.Spelled.{spelled, spelled_more, spelled_at, spelled_below, four_at}
 
 -- the first places of the line that takes cell i of each column
@@ -16,104 +14,6 @@ line cells i m = spelled (λ b. get_or cells (13 * b + i) false) m
 -- four lines, the highest cell first
 abbrev pub lines : List Bool → ℕ → ℕ → ℕ
 lines cells i m = four 15 (line cells (i + 3) m) (line cells (i + 2) m) (line cells (i + 1) m) (line cells i m)
-
--- four lines are doubled and the next bit of each is added, which gives the lines with one place more
-pub lines_more : (cells : List Bool) (i m v n s : ℕ) → n ≡ lines cells i m → s ≡ four 15 (v % 2) (v / 2 % 2) (v / 4 % 2) (v / 8 % 2)
-    → v % 2 ≡ cond (get_or cells (13 * m + (i + 3)) false) 1 0 → v / 2 % 2 ≡ cond (get_or cells (13 * m + (i + 2)) false) 1 0
-    → v / 4 % 2 ≡ cond (get_or cells (13 * m + (i + 1)) false) 1 0 → v / 8 % 2 ≡ cond (get_or cells (13 * m + i) false) 1 0
-    → 2 * n + s ≡ lines cells i (m + 1)
-lines_more cells i m v n s is new p q r t =
-    let f : ℕ → ℕ → Bool = λ j b. get_or cells (13 * b + j) false in
-    omega (arith, spelled_more (f (i + 3)) m, spelled_more (f (i + 2)) m, spelled_more (f (i + 1)) m, spelled_more (f i) m)
-
-pub lines_fit : (cells : List Bool) (i m : ℕ) → m ≤ 15 → lines cells i m < 2 ^ 60
-lines_fit cells i m h =
-    let f : ℕ → ℕ → Bool = λ j b. get_or cells (13 * b + j) false in
-    omega (
-      arith,
-      spelled_below (f (i + 3)) m 15 h,
-      spelled_below (f (i + 2)) m 15 h,
-      spelled_below (f (i + 1)) m 15 h,
-      spelled_below (f i) m 15 h,
-    )
-
--- the lines of so many columns
-pub record AreLines (cells : List Bool) (m a b c d : ℕ) : Type 0 where
-  pub first : a ≡ lines cells 9 m
-  pub second : b ≡ lines cells 5 m
-  pub third : c ≡ lines cells 1 m
-  pub last : d ≡ line cells 0 m
-  pub first_fits : a < 2 ^ 60
-  pub second_fits : b < 2 ^ 60
-  pub third_fits : c < 2 ^ 60
-  pub last_fits : d < 2 ^ 15
-
--- one column more
-pub column_more : (cells : List Bool) (m next n a b c d p q r : ℕ) → next ≡ m + 1 → next ≤ 15 → n < 2 ^ 13
-    → ((i : ℕ) → i < 13 → n / 2 ^ (12 - i) % 2 ≡ cond (get_or cells (13 * m + i) false) 1 0) → AreLines cells m a b c d
-    → p ≡ four 15 (n % 16 % 2) (n % 16 / 2 % 2) (n % 16 / 4 % 2) (n % 16 / 8 % 2)
-    → q ≡ four 15 (n / 16 % 16 % 2) (n / 16 % 16 / 2 % 2) (n / 16 % 16 / 4 % 2) (n / 16 % 16 / 8 % 2)
-    → r ≡ four 15 (n / 256 % 16 % 2) (n / 256 % 16 / 2 % 2) (n / 256 % 16 / 4 % 2) (n / 256 % 16 / 8 % 2)
-    → AreLines cells next (2 * a + p) (2 * b + q) (2 * c + r) (2 * d + n / 4096)
-column_more cells m next n a b c d p q r step few small bit are one two three_ =
-    let first : 2 * a + p ≡ lines cells 9 next = lines_more cells 9 m (n % 16) a p are.first one
-    (omega (arith, bit 12 (omega arith))) (omega (arith, bit 11 (omega arith))) (omega (arith, bit 10 (omega arith)))
-    (omega (arith, bit 9 (omega arith))) ∙ ap (lines cells 9) (sym step) in
-    let second : 2 * b + q ≡ lines cells 5 next = lines_more cells 5 m (n / 16 % 16) b q are.second two
-    (omega (arith, bit 8 (omega arith))) (omega (arith, bit 7 (omega arith))) (omega (arith, bit 6 (omega arith)))
-    (omega (arith, bit 5 (omega arith))) ∙ ap (lines cells 5) (sym step) in
-    let third : 2 * c + r ≡ lines cells 1 next = lines_more cells 1 m (n / 256 % 16) c r are.third three_
-    (omega (arith, bit 4 (omega arith))) (omega (arith, bit 3 (omega arith))) (omega (arith, bit 2 (omega arith)))
-    (omega (arith, bit 1 (omega arith))) ∙ ap (lines cells 1) (sym step) in
-    let f : ℕ → Bool = λ b. get_or cells (13 * b + 0) false in
-    let last : 2 * d + n / 4096 ≡ line cells 0 next =
-    (let now : 2 * d + n / 4096 ≡ line cells 0 (m + 1) = omega (arith, are.last, spelled_more f m, bit 0 (omega arith), small) in
-    now ∙ ap (line cells 0) (sym step)) in
-    record {
-      first = first;
-      second = second;
-      third = third;
-      last = last;
-      first_fits = omega (arith, first, lines_fit cells 9 next few);
-      second_fits = omega (arith, second, lines_fit cells 5 next few);
-      third_fits = omega (arith, third, lines_fit cells 1 next few);
-      last_fits = omega (arith, last, spelled_below f next 15 few);
-    }
-
--- the place of a cell
-pub sent_cell : (rows : List ℕ) (cells : List Bool)
-    → ((k : ℕ) → k < 195 → get_or cells k false ≡ cell (laid rows) (k / 15) (k % 15)) → (p i : ℕ) → p < 196 → 13 * p % 196 ≡ i + 1
-    → get_or cells i false ≡ get_or (laid rows) p false
-sent_cell rows cells is p i h e =
-    let back : i + 1 - 1 ≡ i = omega arith in
-    is i (omega (arith, e)) ∙ ap (λ k. cell (laid rows) (k / 15) (k % 15)) (sym back)
-    ∙ numbered_at rows p (i + 1) h (sym e) (omega arith)
-
--- a whole line has the fifteen bits that are sent at its places
-pub line_at : (rows : List ℕ) (cells : List Bool)
-    → ((k : ℕ) → k < 195 → get_or cells k false ≡ cell (laid rows) (k / 15) (k % 15)) → (a i m : ℕ) → a + i ≡ 12 → m ≡ 15 → (b : ℕ)
-    → b < 15 → get_or (bits_of 15 (line cells i m)) b false ≡ get_or (laid rows) (1 + 15 * a + b) false
-line_at rows cells is a i m e end b h =
-    spelled_at (λ b. get_or cells (13 * b + i) false) m 15 b end h
-    ∙ sent_cell rows cells is (1 + 15 * a + b) (13 * b + i) (omega arith) (omega (arith, e))
-
--- the places of four lines
-pub lines_at : (rows : List ℕ) (cells : List Bool)
-    → ((k : ℕ) → k < 195 → get_or cells k false ≡ cell (laid rows) (k / 15) (k % 15)) → (a i m : ℕ) → a + i ≡ 9 → m ≡ 15 → (k : ℕ)
-    → k < 60 → get_or (bits_of 60 (lines cells i m)) k false ≡ get_or (laid rows) (1 + 15 * a + k) false
-lines_at rows cells is a i m e end =
-    let F : ℕ → Bool = λ p. get_or (laid rows) p false in
-    let f : ℕ → ℕ → Bool = λ j b. get_or cells (13 * b + j) false in
-    let low : m ≤ 15 = omega arith in
-    four_at (λ k. F (1 + 15 * a + k)) 15 (line cells (i + 3) m) (line cells (i + 2) m) (line cells (i + 1) m) (line cells i m)
-    (spelled_below (f (i + 2)) m 15 low) (spelled_below (f (i + 1)) m 15 low) (spelled_below (f i) m 15 low)
-    (line_at rows cells is a (i + 3) m (omega arith) end)
-    (λ b h. let p : 1 + 15 * (a + 1) + b ≡ 1 + 15 * a + (15 + b) = omega arith in
-    line_at rows cells is (a + 1) (i + 2) m (omega arith) end b h ∙ ap F p)
-    (λ b h. let p : 1 + 15 * (a + 2) + b ≡ 1 + 15 * a + (30 + b) = omega arith in
-    line_at rows cells is (a + 2) (i + 1) m (omega arith) end b h ∙ ap F p)
-    (λ b h. let p : 1 + 15 * (a + 3) + b ≡ 1 + 15 * a + (45 + b) = omega arith in
-    line_at rows cells is (a + 3) i m (omega arith) end b h ∙ ap F p)
 
 -- the first cells of a column, from the last line up
 abbrev pub column : List Bool → ℕ → ℕ → ℕ

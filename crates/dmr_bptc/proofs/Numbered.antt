@@ -1,14 +1,14 @@
 -- Cells that are read into a number, one after the other.
-use Rattle.std.proofs.Common.{◌≡◌, ℕ, ◌+◌, ◌-◌, ◌*◌, ◌^◌, ◌<◌, ◌≤◌, Bool, true, false, cond, zero, suc, List, [], ◌∷◌, ◌++◌, length}
+use Rattle.std.proofs.Common.{◌≡◌, ℕ, ◌+◌, ◌-◌, ◌*◌, ◌^◌, ◌<◌, ◌≤◌, Bool, true, false, cond, List, [], ◌∷◌, ◌++◌, length}
 use Rattle.std.proofs.Common.{take, drop, get_or, refl, sym, ap, ◌∙◌, arith, inl, inr}
 use Rattle.std.proofs.lemmas.Bool.{cases_eq, cases_lt}
-use Rattle.std.proofs.lemmas.List.{get_or_append_left, get_or-append_right, get_or_at, append-nil, length-append, length-take-le}
+use Rattle.std.proofs.lemmas.List.{get_or_append_left, get_or-append_right, get_or_at, length-append, length-take-le}
 use Rattle.std.proofs.lemmas.List.{get_or-take}
 use Rattle.std.proofs.lemmas.Nat.{mul-add-lt, pow-add}
 use Rattle.std.proofs.Math.Nat.{mul_comm}
 use mir.Val.{bool_byte}
 use Rattle.dmr_bits.specs.Bits.{bits_of}
-use Rattle.dmr_bits.proofs.Lists.{length-bits_of, bits_of_push, pow_suc}
+use Rattle.dmr_bits.proofs.Lists.{length-bits_of, bits_of_push}
 use Rattle.dmr_bits.proofs.Widths.{bits_of-join}
 
 -- a bit as a byte is one where it is set, and else zero
@@ -20,13 +20,6 @@ byte_is false = refl
 pub byte_small : (b : Bool) → cond b 1 0 < 2
 byte_small true = omega arith
 byte_small false = omega arith
-
--- one cell more fits
-pub fits_more : (k n byte : ℕ) (bit : Bool) → n < 2 ^ k → byte ≡ bool_byte bit → 2 * n + byte < 2 ^ (k + 1)
-fits_more k n byte bit h e =
-    let next : k + 1 ≡ suc k = omega arith in
-    let double : 2 ^ (k + 1) ≡ 2 * 2 ^ k = ap (λ m. 2 ^ m) next ∙ pow_suc k in
-    omega (arith, byte_is bit, byte_small bit)
 
 -- and is read behind the others
 pub cells_more : (f : ℕ → Bool) (k n byte : ℕ) (bit : Bool) → n < 2 ^ k → byte ≡ bool_byte bit → bit ≡ f k
@@ -42,17 +35,6 @@ cells_more f k n byte bit h e is before i below =
           ∙ ap f (sym same)
       | inr apart ↦ get_or_append_left (bits_of k n) (bit ∷ []) false i (omega arith) ∙ before i (omega arith)
     ]
-
--- a number written over all bits
-pub written_whole : (width n : ℕ) (zeros : List Bool) → length zeros ≡ width
-    → take 0 zeros ++ bits_of width n ++ drop width zeros ≡ bits_of width n
-written_whole width n zeros e = ap (λ l. bits_of width n ++ l) (nothing width zeros e) ∙ append-nil (bits_of width n)
-  where
-    nothing : (k : ℕ) (xs : List Bool) → length xs ≡ k → drop k xs ≡ []
-    nothing zero [] h = refl
-    nothing zero (x ∷ xs) h = absurd (omega arith)
-    nothing (suc k) [] h = refl
-    nothing (suc k) (x ∷ xs) h = nothing k xs (omega arith)
 
 -- the first field is written
 pub field_first : (f : ℕ → Bool) (bits : List Bool) (width n : ℕ) → ((k : ℕ) → k < width → get_or (bits_of width n) k false ≡ f k)

@@ -1,29 +1,20 @@
 -- Tables whose rows are numbers: their cells, and what a new row leaves.
-use Rattle.std.proofs.Common.{◌≡◌, ℕ, ◌+◌, ◌-◌, ◌*◌, ◌/◌, ◌%◌, ◌^◌, ◌<◌, ◌≢◌, Bool, false, suc, List, length, take, drop, refl, sym}
-use Rattle.std.proofs.Common.{◌∙◌, ap, arith, get_or, set, replicate, inl, inr}
+use Rattle.std.proofs.Common.{◌≡◌, ℕ, ◌+◌, ◌*◌, ◌/◌, ◌%◌, ◌^◌, ◌<◌, ◌≢◌, Bool, false, suc, List, length, take, drop, sym}
+use Rattle.std.proofs.Common.{◌∙◌, ap, arith, get_or, set, inl, inr}
 use Rattle.std.specs.List.{All}
 use Rattle.std.proofs.lemmas.Bool.{cases_eq}
-use Rattle.std.proofs.lemmas.List.{get_or-set_same, get_or-set_other, length-take-le, get_or-take, length-set, get_or-replicate}
-use Rattle.std.proofs.lemmas.List.FromFn.{length-map-range_with_len, get_or-map-range_with_len}
+use Rattle.std.proofs.lemmas.List.{get_or-set_same, get_or-set_other, length-take-le, get_or-take, length-set}
+use Rattle.std.proofs.lemmas.List.FromFn.{get_or-map-range_with_len}
 use Rattle.dmr_bits.specs.Bits.{bits_of, number_of}
 use Rattle.dmr_bits.proofs.Lists.{length-bits_of, bits_of_spelled}
 use Rattle.dmr_bptc.specs.ProductWord.{place, cell, row}
 use Rattle.dmr_bptc.specs.Rows.{row_bit, numbered_bit, laid}
 use Rattle.dmr_bptc.proofs.Cells.{unplace, place_below, row_from}
 
--- there are 196 bits to send
-pub length-laid : (rows : List ℕ) → length (laid rows) ≡ 196
-unfolding laid
-length-laid rows = length-map-range_with_len (λ p. numbered_bit rows (13 * p % 196)) 0 196
-
 -- what is sent at a place is the bit of the cell whose number is 13 times the place, modulo 196
 pub sent_at : (rows : List ℕ) (p : ℕ) → p < 196 → get_or (laid rows) p false ≡ numbered_bit rows (13 * p % 196)
 unfolding laid
 sent_at rows p h = get_or-map-range_with_len (λ p. numbered_bit rows (13 * p % 196)) 0 196 p p false h (omega arith)
-
--- the first bit that is sent is zero
-pub first_laid : (rows : List ℕ) → get_or (laid rows) 0 false ≡ false
-first_laid rows = sent_at rows 0 (omega arith)
 
 numbered_cell : (rows : List ℕ) (r c : ℕ) → c < 15 → numbered_bit rows (suc (15 * r + c)) ≡ row_bit rows r c
 numbered_cell rows r c h =
@@ -39,27 +30,10 @@ cell_laid rows r c h k =
     ∙ ap (numbered_bit rows) (unplace (1 + 15 * r + c) (omega arith) ∙ next)
     ∙ numbered_cell rows r c k
 
--- the bit that is sent at a place whose cell has a number
-pub numbered_at : (rows : List ℕ) (p n : ℕ) → p < 196 → n ≡ 13 * p % 196 → 0 < n
-    → cell (laid rows) ((n - 1) / 15) ((n - 1) % 15) ≡ get_or (laid rows) p false
-numbered_at rows p n h e positive =
-    let below : n < 196 = omega arith in
-    let next : suc (15 * ((n - 1) / 15) + (n - 1) % 15) ≡ n = omega arith in
-    cell_laid rows ((n - 1) / 15) ((n - 1) % 15) (omega arith) (omega arith)
-    ∙ sym (numbered_cell rows ((n - 1) / 15) ((n - 1) % 15) (omega arith))
-    ∙ ap (numbered_bit rows) (next ∙ e)
-    ∙ sym (sent_at rows p h)
-
 -- the row of a number
 pub row_laid : (rows : List ℕ) (r : ℕ) → r < 13 → bits_of 15 (get_or rows r 0) ≡ row (laid rows) r
 row_laid rows r h = row_from (laid rows) (bits_of 15 (get_or rows r 0)) r (length-bits_of 15 (get_or rows r 0))
     (λ c k. sym (cell_laid rows r c h k))
-
--- what a new row leaves
-pub cell_new : (rows : List ℕ) (r c n : ℕ) → length rows ≡ 13 → r < 13 → c < 15
-    → cell (laid (set rows r n)) r c ≡ get_or (bits_of 15 n) c false
-cell_new rows r c n e h k = cell_laid (set rows r n) r c h k
-    ∙ ap (λ m. get_or (bits_of 15 m) c false) (get_or-set_same rows r n 0 (omega arith))
 
 -- setting one row leaves the cells of all other rows as they were
 pub cell_kept : (rows : List ℕ) (i r c n : ℕ) → r < 13 → c < 15 → r ≢ i → cell (laid (set rows i n)) r c ≡ cell (laid rows) r c
@@ -100,12 +74,3 @@ small_more rows i n fits small k d h =
           rw (same, get_or-set_same rows i n d below) fits
       | inr apart ↦ rw (get_or-set_other rows i k n d apart) (small k d inside)
     ]
-
--- the cells of no row are clear
-pub clear_cells : (r c : ℕ) → r < 13 → c < 15 → cell (laid (replicate 13 0)) r c ≡ false
-clear_cells r c h k =
-    let none : bits_of 15 0 ≡ replicate 15 false = refl in
-    cell_laid (replicate 13 0) r c h k
-    ∙ ap (λ n. get_or (bits_of 15 n) c false) (get_or-replicate 13 r 0 0 h)
-    ∙ ap (λ l. get_or l c false) none
-    ∙ get_or-replicate 15 c false false k

@@ -4,17 +4,19 @@ ghost use Rattle.dmr_bits.specs.Register.{shift_in};
 ghost use Rattle.dmr_rs.specs.Field.{octet_field};
 ghost use Rattle.dmr_rs.specs.Word.{generator_low, IsRsWord, value_at, octet_distance};
 
+use crate::generator::generator_times;
 use crate::octet::Octet;
 
 /// What three octets of a division's register become after one octet more.
+#[inline(always)]
 fn next_register(register: [Octet; 3], octet: Octet) -> [Octet; 3]
     ensures value { result ≡ shift_in octet_field generator_low register octet }
 {
-    let factor = register[0] + octet;
+    let [first, second, third] = generator_times(register[0] + octet);
     [
-        factor * Octet::from(0x0E) + register[1],
-        factor * Octet::from(0x38) + register[2],
-        factor * Octet::from(0x40) + Octet::from(0),
+        first + register[1],
+        second + register[2],
+        third + Octet::from(0),
     ]
 }
 

@@ -6,6 +6,7 @@
 #![tactic(auto)]
 
 mod code;
+mod generator;
 pub mod laws;
 mod octet;
 

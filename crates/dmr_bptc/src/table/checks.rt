@@ -20,23 +20,6 @@ const CHECKS_OF_NO_ROW: [u64; 2] = [0x9, 0xd];
 /// All columns, as the bits of a number, the first the highest of fifteen.
 const ALL_COLUMNS: u64 = 0x7fff;
 
-/// Writes the checks of all columns.
-pub(crate) fn fill_checks(bits: &mut Table)
-    requires clear { (r c : ℕ) → 9 ≤ r → r < 13 → c < 15 → cell bits.old r c ≡ false }
-    ensures words { (c : ℕ) → c < 15 → IsHamming13 (column bits.new c) }
-    ensures upper { (r c : ℕ) → r < 9 → c < 15 → cell bits.new r c ≡ cell bits.old r c }
-    ensures first { slice_index_or bits.new 0 false ≡ false }
-{
-    let first = sum_of(&bits.rows, 3);
-    let second = sum_of(&bits.rows, 2);
-    let third = sum_of(&bits.rows, 1);
-    let fourth = sum_of(&bits.rows, 0);
-    bits.rows[9] = first;
-    bits.rows[10] = second;
-    bits.rows[11] = third;
-    bits.rows[12] = fourth;
-}
-
 /// Corrects each column, and answers whether all are words then.
 pub(crate) fn correct_columns(table: &mut Table) -> bool
     ensures words { result ≡ true → (c : ℕ) → c < 15 → IsHamming13 (column table.new c) }

@@ -31,26 +31,6 @@ const IN_COLUMNS: [u64; 16] = [
     0x8004002001,
 ];
 
-/// For four cells of a column their bits, each in a line of its own of fifteen places, the last cell in the highest.
-const IN_LINES: [u64; 16] = [
-    0x0,
-    0x200000000000,
-    0x40000000,
-    0x200040000000,
-    0x8000,
-    0x200000008000,
-    0x40008000,
-    0x200040008000,
-    0x1,
-    0x200000000001,
-    0x40000001,
-    0x200040000001,
-    0x8001,
-    0x200000008001,
-    0x40008001,
-    0x200040008001,
-];
-
 /// The table that 196 bits hold, the first of them left out.
 pub(crate) fn table_of(bits: &Bits<196>) -> Table
     ensures cells { (r c : ℕ) → r < 13 → c < 15 → cell result r c ≡ cell bits.now r c }
@@ -130,69 +110,4 @@ fn in_columns(places: u64) -> u64
     ensures fits { result < 2 ^ 40 }
 {
     IN_COLUMNS[places as usize]
-}
-
-/// The 196 bits that a table is sent as.
-pub(crate) fn sent_bits(table: &Table) -> Bits<196>
-    ensures value { result ≡ table.now }
-    ensures long { length result ≡ 196 }
-{
-    let cells = cells_of(&table.rows);
-    let mut first = 0;
-    let mut second = 0;
-    let mut third = 0;
-    let mut last = 0;
-    for group in 0..5 {
-        let columns = cells.field(39 * group, 39);
-        for column in 0..3_u32 {
-            let column_cells = (columns >> (26 - 13 * column)) % 8192;
-            first = 2 * first + in_lines(column_cells % 16);
-            second = 2 * second + in_lines((column_cells >> 4) % 16);
-            third = 2 * third + in_lines((column_cells >> 8) % 16);
-            last = 2 * last + (column_cells >> 12);
-        }
-    }
-    let four = Bits::<196>::zero().with_field(1, 60, first);
-    let eight = four.with_field(61, 60, second);
-    let twelve = eight.with_field(121, 60, third);
-    twelve.with_field(181, 15, last)
-}
-
-/// The bits of four cells of a column, each in a line of its own of fifteen places, the last cell in the first line.
-#[inline(always)]
-fn in_lines(cells: u64) -> u64
-    requires four { cells < 16 }
-    ensures value { result ≡ four 15 (cells % 2) (cells / 2 % 2) (cells / 4 % 2) (cells / 8 % 2) }
-    ensures fits { result < 2 ^ 46 }
-{
-    IN_LINES[cells as usize]
-}
-
-/// The cells of a table of these rows, row by row.
-#[inline(always)]
-fn cells_of(rows: &[u64; 13]) -> Bits<195>
-    requires rows { AreRows rows.now }
-    ensures cells { (k : ℕ) → k < 195 → slice_index_or result k false ≡ cell (laid rows.now) (k / 15) (k % 15) }
-{
-    let mut cells = Bits::<195>::zero();
-    for group in 0..3 {
-        cells = cells.with_field(60 * group, 60, four_rows(rows, 4 * group));
-    }
-    cells.with_field(180, 15, rows[12])
-}
-
-/// The number that the cells of four rows spell.
-#[inline(always)]
-fn four_rows(rows: &[u64; 13], from: usize) -> u64
-    requires rows { AreRows rows.now }
-    requires inside { from ≤ 9 }
-    ensures fits { result < 2 ^ 60 }
-    ensures cells { (k : ℕ) → k < 60
-        → slice_index_or (bits_of 60 result) k false ≡ cell (laid rows.now) (from + k / 15) (k % 15) }
-{
-    let mut number = 0;
-    for row in from..from + 4 {
-        number = number * 32768 + rows[row];
-    }
-    number
 }
