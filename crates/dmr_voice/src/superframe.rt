@@ -49,6 +49,7 @@ fn fields_of(link_control: &FullLc) -> [u32; 4]
 impl Carrier {
     ghost use Rattle.std.specs.Prelude.{◌≡◌, ◌<◌, Some};
     ghost use Rattle.dmr_hearing.specs.Fields.{IsReadFrom};
+    ghost use Rattle.dmr_hearing.specs.Fit.{IsFitLc};
     ghost use Rattle.dmr_voice.specs.Bursts.{IsField};
 
     /// That of a link control.
@@ -80,6 +81,15 @@ impl Carrier {
     {
         if self.link_control != link_control {
             *self = Carrier::of(link_control);
+        }
+    }
+
+    /// Is that of a link control from now on, where there is one.
+    pub(crate) fn take_known(&mut self, link_control: Option<FullLc>)
+        requires fit { IsFitLc link_control }
+    {
+        if let Some(link_control) = link_control {
+            self.take(link_control);
         }
     }
 
