@@ -1,5 +1,5 @@
 -- Any octets of a link control are embedded in some fields, and any short link control has its fragments.
-use Rattle.std.proofs.Common.{◌≡◌, ℕ, zero, suc, ◌+◌, ◌-◌, ◌*◌, ◌/◌, ◌%◌, ◌^◌, ◌<◌, ◌≤◌, Bool, true, false, cond, List, [], ◌∷◌}
+use Rattle.std.proofs.Common.{◌≡◌, ℕ, zero, suc, ◌+◌, ◌*◌, ◌/◌, ◌%◌, ◌^◌, ◌<◌, ◌≤◌, Bool, true, false, cond, List, [], ◌∷◌}
 use Rattle.std.proofs.Common.{◌++◌, All, length, take, map, get_or, refl, sym, ◌∙◌, ap, subst, arith, length-append, lit≤, lit<}
 use Rattle.std.specs.Prelude.{nat_lt}
 use Rattle.std.specs.List.{range_with_len}
@@ -7,7 +7,6 @@ use Rattle.std.proofs.lemmas.Bool.{lt-ltb}
 use Rattle.std.proofs.lemmas.List.{take_at, drop_at, get_or-take, get_or_append_left, get_or-append_right, append-nil}
 use Rattle.std.proofs.lemmas.List.Concat.{flat_map-cons}
 use Rattle.std.proofs.lemmas.List.FromFn.{length-map-range_with_len, get_or-map-range_with_len}
-use Rattle.std.specs.List.{flat_map}
 use Rattle.dmr_bits.specs.Bits.{bits_of, bits_of_octets, number_of, octets_of, part, xor, xor_bits}
 use Rattle.dmr_bits.specs.Polynomials.{binary_field, IsMultiple}
 use Rattle.dmr_bits.proofs.Lists.{length-bits_of, number_of-bits_of, number_of-lt, bits_of_spelled}

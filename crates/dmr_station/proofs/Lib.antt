@@ -16,4 +16,5 @@ pub mod Offers
 pub mod OneReception
 pub mod OneResult
 pub mod Readings
+pub mod Refilling
 pub mod TakenInOrder

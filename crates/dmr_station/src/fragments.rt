@@ -1,8 +1,9 @@
 //! The fragments of the message that is announced, one in the CACH of each record.
-ghost use Rattle.std.specs.Prelude.{◌≡◌, ◌<◌, ◌%◌, ◌==◌, All};
+ghost use Rattle.std.specs.Prelude.{◌≡◌, ◌<◌, ◌%◌, ◌==◌, ℕ, Bool, List, All};
 ghost use Rattle.dmr_bits.specs.Bits.{bits_of_octets};
 ghost use Rattle.dmr_burst.specs.Cach.{IsCach};
-ghost use Rattle.dmr_station.specs.Sent.{AreCachs, FitOctets, fragment_lcss};
+ghost use Rattle.dmr_station.specs.Sent.{AreCachs, CarryMessage, FitOctets, fragment_lcss};
+ghost use Rattle.dmr_station.specs.declared.announcing.Message.{Message};
 
 use crate::announcing::Message;
 use dmr_bits::Bits;
@@ -64,7 +65,12 @@ impl Fragments {
         ensures message { self.new ≡ message }
     {
         if self.message != message {
-            *self = Fragments::of(message);
+            let four = short_lc(message.slco, message.body);
+            *self = Fragments {
+                message,
+                free: refilled(&self.free, &four),
+                busy: refilled(&self.busy, &four),
+            };
         }
     }
 
@@ -79,6 +85,36 @@ impl Fragments {
             self.free[place as usize % 4]
         }
     }
+}
+
+/// CACHs with other fragments: their TACT bits stay.
+fn refilled(cachs: &[[u8; 3]; 4], fragments: &[Bits<17>; 4]) -> [[u8; 3]; 4]
+    ensures octets { All FitOctets result }
+    ensures cachs { (busy : Bool) (message : Message) → CarryMessage busy message cachs.now → AreCachs busy fragments.now result }
+{
+    [
+        with_fragment(&cachs[0], &fragments[0]),
+        with_fragment(&cachs[1], &fragments[1]),
+        with_fragment(&cachs[2], &fragments[2]),
+        with_fragment(&cachs[3], &fragments[3]),
+    ]
+}
+
+/// A CACH with another fragment, which has all places but the seven of the TACT.
+fn with_fragment(cach: &[u8; 3], fragment: &Bits<17>) -> [u8; 3]
+    ensures octets { FitOctets result }
+    ensures cach { (at tc : Bool) (lcss : ℕ) (old : List Bool) → IsCach at tc lcss old (bits_of_octets cach.now)
+        → IsCach at tc lcss fragment.now (bits_of_octets result) }
+{
+    let mut bits = Bits::<24>::from_octets(cach);
+    bits.put_part(1, fragment, 0, 3);
+    bits.put_part(5, fragment, 3, 6);
+    bits.put_part(9, fragment, 6, 9);
+    bits.put_part(13, fragment, 9, 10);
+    bits.put_part(15, fragment, 10, 13);
+    bits.put_part(19, fragment, 13, 16);
+    bits.put_part(23, fragment, 16, 17);
+    bits.octets()
 }
 
 /// The CACHs with these fragments.
