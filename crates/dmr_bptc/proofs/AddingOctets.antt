@@ -28,7 +28,8 @@ more_zeros (suc m) n =
 pub octet_at : (count : ℕ) (bits : List Bool) (p : ℕ) → length bits ≡ 8 * count → p < count
     → bits_of 8 (get_or (octets_of count bits) p 0) ≡ take 8 (drop (8 * p) bits)
 octet_at count bits p long h =
-    let wide : length (take 8 (drop (8 * p) bits)) ≡ 8 = length-take-le 8 (drop (8 * p) bits) (omega (arith, length-drop (8 * p) bits)) in
+    let wide : length (take 8 (drop (8 * p) bits)) ≡ 8 =
+        length-take-le 8 (drop (8 * p) bits) (omega (arith, length-drop (8 * p) bits)) in
     ap (bits_of 8) (get_or-map-range_with_len (λ k. number_of (take 8 (drop (8 * k) bits))) 0 count p p 0 h (omega arith))
     ∙ bits_of_spelled 8 (take 8 (drop (8 * p) bits)) wide
 

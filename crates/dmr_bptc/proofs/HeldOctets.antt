@@ -1,5 +1,6 @@
 -- The table of what octets hold is that of its definition, and what they hold is added.
-use Rattle.std.proofs.Common.{◌≡◌, ℕ, zero, suc, ◌+◌, ◌-◌, ◌*◌, ◌/◌, ◌%◌, ◌^◌, ◌<◌, ◌≤◌, ◌==◌, Bool, true, false, List, [], ◌∷◌, ◌++◌}
+use Rattle.std.proofs.Common.{◌≡◌, ℕ, zero, suc, ◌+◌, ◌-◌, ◌*◌, ◌/◌, ◌%◌, ◌^◌, ◌<◌, ◌≤◌, ◌==◌, Bool, true, false}
+use Rattle.std.proofs.Common.{List, [], ◌∷◌, ◌++◌}
 use Rattle.std.proofs.Common.{length, replicate, refl, sym, ◌∙◌, ap, subst, arith, cond, take, drop, get_or, eqb, eqb-true, ◌&&◌}
 use Rattle.std.specs.Prelude.{bit_xor, nat_lt}
 use Rattle.std.proofs.lemmas.Bool.{agree_below, agree_below_at, and_parts, ltb-true}
@@ -144,7 +145,8 @@ octet_held p n h l =
     ∙ bits_of-join 64 32 96 (get_or (entry p n) 0 0) (get_or (entry p n) 1 0) refl (second_fits p n h l)
 
 -- one octet more, of bits whose first octets are held
-pub held_more : (bits : List Bool) (p n a b c d : ℕ) → length bits ≡ 196 → p < 24 → n < 256 → bits_of 8 n ≡ take 8 (drop (8 * p) bits)
+pub held_more : (bits : List Bool) (p n a b c d : ℕ) → length bits ≡ 196 → p < 24 → n < 256
+    → bits_of 8 n ≡ take 8 (drop (8 * p) bits)
     → information (front 196 bits p) ≡ held_in (a ∷ b ∷ []) → information (octet_sent p n) ≡ held_in (c ∷ d ∷ [])
     → information (front 196 bits (p + 1)) ≡ held_in (bit_xor a c ∷ bit_xor b d ∷ [])
 held_more bits p n a b c d long h low is before new =
@@ -174,7 +176,8 @@ all_held bits long =
     (λ k h.
     let i : ℕ = place ((k + 3) / 11) ((k + 3) % 11) in
     information_at F k h
-    ∙ get_or_append_left (take 192 bits) (replicate 4 false) false i (omega (arith, length-take-le 192 bits (omega arith), early k h))
+    ∙ get_or_append_left (take 192 bits) (replicate 4 false) false i
+    (omega (arith, length-take-le 192 bits (omega arith), early k h))
     ∙ get_or-take 192 bits i false (early k h))
 
 -- before the first octet nothing is held

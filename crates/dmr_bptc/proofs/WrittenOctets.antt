@@ -1,5 +1,6 @@
 -- The table of written forms of octets is that of its definition.
-use Rattle.std.proofs.Common.{◌≡◌, ℕ, zero, suc, ◌+◌, ◌-◌, ◌*◌, ◌/◌, ◌%◌, ◌^◌, ◌<◌, ◌≤◌, ◌==◌, Bool, true, false, List, [], ◌∷◌, ◌++◌}
+use Rattle.std.proofs.Common.{◌≡◌, ℕ, zero, suc, ◌+◌, ◌-◌, ◌*◌, ◌/◌, ◌%◌, ◌^◌, ◌<◌, ◌≤◌, ◌==◌, Bool, true, false}
+use Rattle.std.proofs.Common.{List, [], ◌∷◌, ◌++◌}
 use Rattle.std.proofs.Common.{replicate, refl, sym, ◌∙◌, ap, subst, arith, cond, get_or, eqb, eqb-true, not, ◌&&◌}
 use Rattle.std.specs.Prelude.{bit_xor, nat_lt}
 use Rattle.std.proofs.lemmas.Bool.{agree_below, agree_below_at, and_parts, not-true, ltb-true}
@@ -116,7 +117,8 @@ sum_of f (suc j) n = bit_xor (sum_of f j n) (cond (n / 2 ^ j % 2 == 1) (f (2 ^ j
 units_are : (i : ℕ) → i < 96 → is_written (message (i / 8) (2 ^ (i % 8))) (number_in (entry (i / 8) (2 ^ (i % 8)))) ≡ true
 unfolding is_written
 units_are i h =
-    agree_below_at (λ i. is_written (message (i / 8) (2 ^ (i % 8))) (number_in (entry (i / 8) (2 ^ (i % 8))))) (λ i. true) 96 i refl h
+    agree_below_at (λ i. is_written (message (i / 8) (2 ^ (i % 8))) (number_in (entry (i / 8) (2 ^ (i % 8)))))
+    (λ i. true) 96 i refl h
 
 entries_are : (i : ℕ) → i < 3072
     → (eqb (sum_of (λ m. number_in (entry (i / 256) m)) 8 (i % 256)) (number_in (entry (i / 256) (i % 256)))

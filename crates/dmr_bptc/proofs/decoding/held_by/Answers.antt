@@ -22,7 +22,8 @@ loop-place-preserved c =
     ∙ ap (λ l. take 8 (drop (8 * p) l)) c.part.ensures.value
     ∙ octet_of_part bits p (omega arith) in
     record {
-      held = held_more bits p n (get_or w 0 0) (get_or w 1 0) (get_or more 0 0) (get_or more 1 0) c.part.ensures.length (omega arith)
+      held = held_more bits p n (get_or w 0 0) (get_or w 1 0) (get_or more 0 0) (get_or more 1 0)
+          c.part.ensures.length (omega arith)
           (c.octets-octets.ensures.octets p 0 (omega arith)) octet c.loop-place.invariant.held c.held_octet-more.ensures.held;
       fits = xor_lt 32 (get_or w 1 0) (get_or more 1 0) c.loop-place.invariant.fits c.held_octet-more.ensures.fits;
     }
