@@ -40,7 +40,8 @@ of_new_fragment at tc lcss old bits f e is =
     let piece : f ≡ by_place 17 g = fill_by_all g f 17 false e (λ k h. refl) in
     let made : with_fragment bits f ≡ with_fragment (by_place 24 b) (by_place 17 g) =
     ap (λ x. with_fragment x f) whole ∙ ap (with_fragment (by_place 24 b)) piece in
-    let tact : tact_field (with_fragment bits f) ≡ tact_field bits = ap tact_field made ∙ tact_stays b g ∙ ap tact_field (sym whole) in
+    let tact : tact_field (with_fragment bits f) ≡ tact_field bits = ap tact_field made ∙ tact_stays b g
+    ∙ ap tact_field (sym whole) in
     record {
       long = ap length made ∙ length_stays b g;
       word = subst IsHamming7 (sym tact) is.word;
@@ -56,7 +57,8 @@ Refills cach fragment new =
 
 -- the same, whatever stands for a missing CACH and a missing fragment
 pub refills_at : (cachs : List (List ℕ)) (fragments : List (List Bool)) (place : ℕ) (x : List ℕ) (y : List Bool) (new : List ℕ)
-    → place < length cachs → place < length fragments → Refills (slice_index_or cachs place x) (slice_index_or fragments place y) new
+    → place < length cachs → place < length fragments
+    → Refills (slice_index_or cachs place x) (slice_index_or fragments place y) new
     → Refills (slice_index_or cachs place []) (slice_index_or fragments place []) new
 refills_at cachs fragments place x y new few also refills =
     subst (λ cach. Refills cach (slice_index_or fragments place []) new) (get_or_default cachs place x [] few)
