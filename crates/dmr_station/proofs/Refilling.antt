@@ -40,8 +40,8 @@ of_new_fragment at tc lcss old bits f e is =
     let piece : f ≡ by_place 17 g = fill_by_all g f 17 false e (λ k h. refl) in
     let made : with_fragment bits f ≡ with_fragment (by_place 24 b) (by_place 17 g) =
     ap (λ x. with_fragment x f) whole ∙ ap (with_fragment (by_place 24 b)) piece in
-    let tact : tact_field (with_fragment bits f) ≡ tact_field bits =
-        ap tact_field made ∙ tact_stays b g ∙ ap tact_field (sym whole) in
+    let tact : tact_field (with_fragment bits f) ≡ tact_field bits = ap tact_field made ∙ tact_stays b g
+    ∙ ap tact_field (sym whole) in
     record {
       long = ap length made ∙ length_stays b g;
       word = subst IsHamming7 (sym tact) is.word;

@@ -15,6 +15,6 @@ returns-clause-cach c = λ at tc lcss old is.
     let sixth = c.put_part-6.ensures.value ∙ ap (λ x. put_at x 19 (part f 13 16)) fifth in
     let last = c.put_part-7.ensures.value ∙ ap (λ x. put_at x 23 (part f 16 17)) sixth in
     let made : bits_of_octets c.octets.result ≡ with_fragment (bits_of_octets c.args.cach.now) f =
-        c.octets.ensures.spelled ∙ last in
+    c.octets.ensures.spelled ∙ last in
     subst (IsCach at tc lcss f) (sym made)
     (of_new_fragment at tc lcss old (bits_of_octets c.args.cach.now) f c.put_part.ensures.other_length is)
