@@ -1,14 +1,14 @@
 -- One octet more of the information, and the words of a sum.
-use Rattle.std.proofs.Common.{◌≡◌, ℕ, zero, suc, ◌+◌, ◌-◌, ◌*◌, ◌<◌, ◌≤◌, Bool, false, List, [], ◌∷◌, ◌++◌, length, take, drop}
+use Rattle.std.proofs.Common.{◌≡◌, ℕ, zero, suc, ◌+◌, ◌-◌, ◌*◌, ◌<◌, Bool, false, List, [], ◌∷◌, ◌++◌, length, take, drop}
 use Rattle.std.proofs.Common.{replicate, refl, sym, ◌∙◌, ap, arith, get_or}
 use Rattle.std.specs.Prelude.{bit_xor}
 use Rattle.std.proofs.lemmas.List.{append_assoc, length-take-le, length-drop}
-use Rattle.std.proofs.lemmas.List.{length-replicate, drop-take}
+use Rattle.std.proofs.lemmas.List.{length-replicate}
 use Rattle.std.proofs.lemmas.List.FromFn.{get_or-map-range_with_len}
-use Rattle.dmr_bits.specs.Bits.{bits_of, number_of, octets_of, part, xor_bits}
+use Rattle.dmr_bits.specs.Bits.{bits_of, number_of, octets_of, xor_bits}
 use Rattle.dmr_bits.proofs.Lists.{length-bits_of, bits_of_spelled, xor_bits-append, xor_false, take_parts}
 use Rattle.dmr_bits.proofs.Numbers.{bits_of_xor}
-use Rattle.dmr_bptc.specs.Octets.{spelled}
+use Rattle.dmr_bptc.specs.Octets.{octet_alone, spelled}
 
 xor_zeros : (x : List Bool) → xor_bits x (replicate (length x) false) ≡ x
 xor_zeros [] = refl
@@ -25,39 +25,33 @@ more_zeros (suc m) n =
     ap (λ k. replicate k false) e ∙ ap (λ r. false ∷ r) (more_zeros m n)
 
 -- the octet at a place, from those of the bits
-pub octet_at : (count : ℕ) (bits : List Bool) (p : ℕ) → length bits ≡ 8 * count → p < count
-    → bits_of 8 (get_or (octets_of count bits) p 0) ≡ take 8 (drop (8 * p) bits)
-octet_at count bits p long h =
+pub octet_at : (bits : List Bool) (p : ℕ) → length bits ≡ 96 → p < 12
+    → bits_of 8 (get_or (octets_of 12 bits) p 0) ≡ take 8 (drop (8 * p) bits)
+octet_at bits p long h =
     let wide : length (take 8 (drop (8 * p) bits)) ≡ 8 =
-        length-take-le 8 (drop (8 * p) bits) (omega (arith, length-drop (8 * p) bits)) in
-    ap (bits_of 8) (get_or-map-range_with_len (λ k. number_of (take 8 (drop (8 * k) bits))) 0 count p p 0 h (omega arith))
+    length-take-le 8 (drop (8 * p) bits) (omega (arith, length-drop (8 * p) bits)) in
+    ap (bits_of 8) (get_or-map-range_with_len (λ k. number_of (take 8 (drop (8 * k) bits))) 0 12 p p 0 h (omega arith))
     ∙ bits_of_spelled 8 (take 8 (drop (8 * p) bits)) wide
 
--- the first octets of bits, and zeros behind them
-abbrev pub front : ℕ → List Bool → ℕ → List Bool
-front total bits p = take (8 * p) bits ++ replicate (total - 8 * p) false
-
 -- an octet is added behind those before it
-pub front_more : (total : ℕ) (bits : List Bool) (p n : ℕ) → length bits ≡ total → 8 * p + 8 ≤ total
-    → bits_of 8 n ≡ take 8 (drop (8 * p) bits)
-    → xor_bits (front total bits p) (replicate (8 * p) false ++ (bits_of 8 n ++ replicate (total - 8 - 8 * p) false))
-    ≡ front total bits (p + 1)
-front_more total bits p n long h is =
-    let b : ℕ = total - 8 - 8 * p in
+pub front_more : (bits : List Bool) (p n : ℕ) → length bits ≡ 96 → p < 12 → bits_of 8 n ≡ take 8 (drop (8 * p) bits)
+    → xor_bits (take (8 * p) bits ++ replicate (96 - 8 * p) false) (octet_alone p n)
+    ≡ take (8 * (p + 1)) bits ++ replicate (96 - 8 * (p + 1)) false
+front_more bits p n long h is =
+    let b : ℕ = 88 - 8 * p in
     let F : List Bool = take (8 * p) bits in
     let N : List Bool = bits_of 8 n in
     let R : List Bool = replicate b false in
-    let Z : List Bool = replicate (8 * p) false in
     let front : length F ≡ 8 * p = length-take-le (8 * p) bits (omega arith) in
     let octet : length N ≡ 8 = length-bits_of 8 n in
-    let rest : total - 8 * p ≡ 8 + b = omega arith in
+    let rest : 96 - 8 * p ≡ 8 + b = omega arith in
     let after : 8 * p + 8 ≡ 8 * (p + 1) = omega arith in
-    let left : b ≡ total - 8 * (p + 1) = omega arith in
-    let zeros : length F ≡ length Z = front ∙ sym (length-replicate (8 * p) false) in
+    let left : b ≡ 96 - 8 * (p + 1) = omega arith in
+    let zeros : length F ≡ length (replicate (8 * p) false) = front ∙ sym (length-replicate (8 * p) false) in
     let eight : length (replicate 8 false) ≡ length N = sym octet in
-    ap (λ k. xor_bits (F ++ replicate k false) (Z ++ (N ++ R))) rest
-    ∙ ap (λ z. xor_bits (F ++ z) (Z ++ (N ++ R))) (more_zeros 8 b)
-    ∙ xor_bits-append F (replicate 8 false ++ R) Z (N ++ R) zeros
+    ap (λ k. xor_bits (F ++ replicate k false) (octet_alone p n)) rest
+    ∙ ap (λ z. xor_bits (F ++ z) (octet_alone p n)) (more_zeros 8 b)
+    ∙ xor_bits-append F (replicate 8 false ++ R) (replicate (8 * p) false) (N ++ R) zeros
     ∙ ap (λ x. x ++ xor_bits (replicate 8 false ++ R) (N ++ R))
     (ap (λ k. xor_bits F (replicate k false)) (sym front) ∙ xor_zeros F)
     ∙ ap (λ x. F ++ x)
@@ -92,21 +86,3 @@ spelled_xor a b c d p q r s =
     ∙ ap (λ x. xor_bits A P ++ (xor_bits B Q ++ x)) (sym (xor_bits-append C D R S third))
     ∙ ap (λ x. xor_bits A P ++ x) (sym (xor_bits-append B (C ++ D) Q (R ++ S) second))
     ∙ sym (xor_bits-append A (B ++ (C ++ D)) P (Q ++ (R ++ S)) first)
-
--- an octet of the front of bits is theirs
-pub octet_of_part : (bits : List Bool) (p : ℕ) → 8 * p + 8 ≤ 192 → take 8 (drop (8 * p) (part bits 0 192)) ≡ take 8 (drop (8 * p)
-    bits)
-octet_of_part bits p h =
-    let rest : 192 ≡ 8 * p + (192 - 8 * p) = omega arith in
-    let more : 192 - 8 * p ≡ 8 + (192 - 8 * p - 8) = omega arith in
-    ap (λ k. take 8 (drop (8 * p) (take k bits))) rest
-    ∙ ap (take 8) (drop-take (8 * p) (192 - 8 * p) bits)
-    ∙ ap (λ k. take 8 (take k (drop (8 * p) bits))) more
-    ∙ take_of_take 8 (192 - 8 * p - 8) (drop (8 * p) bits)
-  where
-    take_of_take : (m n : ℕ) (xs : List Bool) → take m (take (m + n) xs) ≡ take m xs
-    take_of_take zero n xs = refl
-    take_of_take (suc m) n [] = let e : suc m + n ≡ suc (m + n) = omega arith in ap (λ k. take (suc m) (take {A = Bool} k [])) e
-    take_of_take (suc m) n (x ∷ xs) =
-        let e : suc m + n ≡ suc (m + n) = omega arith in
-        ap (λ k. take (suc m) (take k (x ∷ xs))) e ∙ ap (λ l. x ∷ l) (take_of_take m n xs)

@@ -22,7 +22,7 @@ use Rattle.dmr_bptc.proofs.WrittenSums.{written-xor}
 
 -- ---- written forms that are numbers
 -- the bit in a cell of the word whose bits a number spells
-abbrev pub bit_in : ℕ → ℕ → ℕ → Bool
+abbrev bit_in : ℕ → ℕ → ℕ → Bool
 bit_in w r c = w / 2 ^ (195 - place r c) % 2 == 1
 
 abbrev are_even : List ℕ → List Bool → Bool
@@ -44,7 +44,7 @@ is_clear w = agree_below (λ c. bit_in w 0 c) (λ c. false) 3
 is_written : ℕ → ℕ → Bool
 is_written m w = are_rows w && (are_columns w && (holds m w && (is_clear w && not (w / 2 ^ 195 % 2 == 1))))
 
-pub cell_is : (w r c : ℕ) → cell (bits_of 196 w) r c ≡ bit_in w r c
+cell_is : (w r c : ℕ) → cell (bits_of 196 w) r c ≡ bit_in w r c
 cell_is w r c = get_or-bits_of 196 w (place r c) (place_below r c)
 
 row_is : (w r : ℕ) → row_of (bit_in w) 15 r ≡ row (bits_of 196 w) r
@@ -110,7 +110,7 @@ abbrev message : ℕ → ℕ → ℕ
 message p n = n * 2 ^ (88 - 8 * p)
 
 -- the sums of the entries, and of the messages, of the lowest bits of an octet
-unfoldable pub sum_of : (ℕ → ℕ) → ℕ → ℕ → ℕ
+sum_of : (ℕ → ℕ) → ℕ → ℕ → ℕ
 sum_of f zero n = 0
 sum_of f (suc j) n = bit_xor (sum_of f j n) (cond (n / 2 ^ j % 2 == 1) (f (2 ^ j)) 0)
 
@@ -160,7 +160,7 @@ sums_written p n (suc j) h l =
     (sym (bits_of_xor 96 (sum_of (message p) j n) more)) both)
 
 -- the bits of zero are zeros
-pub zeros_of : (w : ℕ) → bits_of w 0 ≡ replicate w false
+zeros_of : (w : ℕ) → bits_of w 0 ≡ replicate w false
 zeros_of zero = refl
 zeros_of (suc w) =
     let head : (0 / 2 ^ w % 2 == 1) ≡ false = ap (λ n. n == 1) (bit_at-zero w) in

@@ -11,7 +11,7 @@ use Rattle.dmr_bptc.proofs.Existing.{length-information}
 use Rattle.dmr_bptc.proofs.Written.{information_at}
 
 -- a cell of a sum is the sum of the cells
-pub cell-xor : (a b : List Bool) (r c : ℕ) → length a ≡ 196 → length b ≡ 196
+cell-xor : (a b : List Bool) (r c : ℕ) → length a ≡ 196 → length b ≡ 196
     → cell (xor_bits a b) r c ≡ xor (cell a r c) (cell b r c)
 cell-xor a b r c e f =
     get_or-xor_bits a b (place r c) (omega (arith, place_below r c)) (omega (arith, place_below r c))

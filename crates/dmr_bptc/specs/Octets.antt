@@ -1,4 +1,4 @@
--- The written form of 96 bits as the sum of those of their octets, and the information of 196 bits likewise.
+-- The written form of 96 bits, as the sum of those of their octets.
 use Rattle.std.specs.Prelude.{ℕ, ◌*◌, ◌-◌, Bool, false, List, ◌++◌, replicate, slice_index_or}
 use Rattle.dmr_bits.specs.Bits.{bits_of}
 
@@ -11,11 +11,3 @@ abbrev pub spelled : List ℕ → List Bool
 spelled words =
     bits_of 64 (slice_index_or words 0 0)
     ++ (bits_of 64 (slice_index_or words 1 0) ++ (bits_of 64 (slice_index_or words 2 0) ++ bits_of 4 (slice_index_or words 3 0)))
-
--- 196 bits with one octet in its place among the first 24, and zeros in all others
-abbrev pub octet_sent : ℕ → ℕ → List Bool
-octet_sent place octet = replicate (8 * place) false ++ (bits_of 8 octet ++ replicate (188 - 8 * place) false)
-
--- the 96 bits of two words, 64 in the first and 32 in the other
-abbrev pub held_in : List ℕ → List Bool
-held_in words = bits_of 64 (slice_index_or words 0 0) ++ bits_of 32 (slice_index_or words 1 0)

@@ -5,11 +5,8 @@ ghost use Rattle.dmr_bits.specs.Bits.{bits_of};
 ghost use Rattle.dmr_codes.specs.Seven.{IsHamming15};
 ghost use Rattle.dmr_bptc.specs.ProductWord.{cell, row};
 ghost use Rattle.dmr_bptc.specs.ProductWord.{IsProductWord, information};
-ghost use Rattle.dmr_bptc.specs.Octets.{held_in};
 ghost use Rattle.dmr_bptc.specs.Decoding.{IsCorrected, IsDecoded, IsDamaged};
 
-use crate::encoding::bptc_encode;
-use crate::held_octets::held_octet;
 use crate::table::{Table, are_columns_words, correct_columns, correct_row, first_cells, table_of};
 use dmr_bits::Bits;
 
@@ -21,11 +18,6 @@ pub fn bptc_decode(bits: &Bits<196>) -> Option<Bits<96>>
     ensures undone { (word : List Bool) → IsProductWord word → IsDamaged word bits.now
         → result ≡ Some (information word) }
 {
-    // Most were received as they were written: what they hold has these bits for its written form.
-    let held = held_by(bits);
-    if bptc_encode(&held).distance(bits) == 0 {
-        return Some(held);
-    }
     let mut table = table_of(bits);
     let columns = correct_columns(&mut table);
     let rows = correct_rows(&mut table);
@@ -35,30 +27,6 @@ pub fn bptc_decode(bits: &Bits<196>) -> Option<Bits<96>>
     } else {
         None
     }
-}
-
-/// The information that 196 bits hold.
-fn held_by(bits: &Bits<196>) -> Bits<96>
-    ensures value { result ≡ information bits.now }
-{
-    let octets = bits.part::<192>(0, 192).octets::<24>();
-    let mut words = [0; 2];
-    for place in 0..24 {
-        let more = held_octet(place, octets[place]);
-        let next = [words[0] ^ more[0], words[1] ^ more[1]];
-        words = next;
-    }
-    bits_of_words(&words)
-}
-
-/// The 96 bits of two words.
-#[inline(always)]
-fn bits_of_words(words: &[u64; 2]) -> Bits<96>
-    requires fits { slice_index_or words.now 1 0 < 2 ^ 32 }
-    ensures value { result ≡ held_in words.now }
-{
-    let front = Bits::<96>::zero().with_field(0, 64, words[0]);
-    front.with_field(64, 32, words[1])
 }
 
 /// Corrects each row, and answers whether all were words.

@@ -1,11 +1,10 @@
 use Rattle.std.proofs.Common.{Some, None, sym, subst, ◌∙◌}
 use Rattle.std.proofs.lemmas.Bool.{both_ways, and_parts}
 use Rattle.dmr_codes.specs.Seven.{IsHamming13}
-use Rattle.dmr_bptc.specs.ProductWord.{IsProductWord, IsWritten}
+use Rattle.dmr_bptc.specs.ProductWord.{IsProductWord}
 use Rattle.dmr_bptc.proofs.Cells.{column_same}
 use Rattle.dmr_bptc.proofs.decoding.bptc_decode.Goals.{then-columns-rows, else-columns-rows}
-use Rattle.dmr_bits.proofs.Lists.{distance_zero}
-use Rattle.dmr_bptc.proofs.Decoded.{undone, clean_decoded}
+use Rattle.dmr_bptc.proofs.Decoded.{undone}
 use Rattle.dmr_bptc.proofs.Correcting.{from_received}
 use Rattle.dmr_bptc.proofs.decoding.bptc_decode.Goals as goal
 
@@ -78,19 +77,3 @@ returns-else-are_columns_words-clause-undone c word is damaged =
       outcome = none c;
     })
     is damaged
-
--- bits that are the written form of what they hold
-clean : (c : goal.Then-distance-eq0) → IsWritten c.held_by-held.result c.args.bits.now
-clean c =
-    subst (IsWritten c.held_by-held.result)
-    (distance_zero c.bptc_encode.result c.args.bits.now (c.distance.ensures.length ∙ sym c.distance.ensures.other_length)
-    (sym c.distance.ensures.value ∙ c.if-distance-eq0.true))
-    c.bptc_encode.ensures.written
-
-pub returns-then-distance-eq0-clause-decoded : goal.returns-then-distance-eq0-clause-decoded
-returns-then-distance-eq0-clause-decoded c = clean_decoded c.held_by-held.result c.args.bits.now (clean c)
-
-pub returns-then-distance-eq0-clause-undone : goal.returns-then-distance-eq0-clause-undone
-returns-then-distance-eq0-clause-undone c word is damaged =
-    undone c.args.bits.now word (Some c.held_by-held.result)
-    (clean_decoded c.held_by-held.result c.args.bits.now (clean c)) is damaged

@@ -25,9 +25,9 @@ returns c =
     let same : place ≡ c.args.octet = c.from-place.ensures ∙ c.from.ensures in
     let inside : place < 256 = omega arith in
     let first : c.from-2.result ≡ times c.args.octet 0x0E =
-        c.from-2.ensures ∙ first_is place inside ∙ ap (λ n. times n 0x0E) same in
+    c.from-2.ensures ∙ first_is place inside ∙ ap (λ n. times n 0x0E) same in
     let second : c.from-3.result ≡ times c.args.octet 0x38 =
-        c.from-3.ensures ∙ second_is place inside ∙ ap (λ n. times n 0x38) same in
+    c.from-3.ensures ∙ second_is place inside ∙ ap (λ n. times n 0x38) same in
     let third : c.from-4.result ≡ times c.args.octet 0x40 =
-        c.from-4.ensures ∙ third_is place inside ∙ ap (λ n. times n 0x40) same in
+    c.from-4.ensures ∙ third_is place inside ∙ ap (λ n. times n 0x40) same in
     record { value = cc }
