@@ -71,7 +71,7 @@ words_first xs h =
 pub words_there : (x : ℕ) (xs : List ℕ) → is_blank x ≡ false → has_any (line_words (x ∷ xs)) ≡ true
 words_there x xs e =
     let one : position_or_len is_blank (x ∷ xs) ≡ 1 + position_or_len is_blank xs =
-        ap (λ (b : Bool). cond (not b) (1 + position_or_len is_blank xs) 0) e in
+    ap (λ (b : Bool). cond (not b) (1 + position_or_len is_blank xs) 0) e in
     ap has_any (words_first (x ∷ xs) (omega (arith, one)))
 
 no_blank : (xs : List ℕ) → position_or_len is_blank xs ≡ length xs → All (λ x. is_blank x ≡ false) xs
