@@ -1,19 +1,23 @@
 -- What is written of both slots, frame by frame.
-use Rattle.std.proofs.Common.{◌≡◌, ℕ, suc, ◌+◌, ◌-◌, ◌≤◌, List, [], ◌∷◌, ◌++◌, length, Option, append_assoc, arith, ap, refl, sym}
+use Rattle.std.proofs.Common.{◌≡◌, ℕ, suc, ◌+◌, ◌-◌, ◌≤◌, List, [], ◌∷◌, ◌++◌, length, Option, None, slice_index_or, append_assoc}
+use Rattle.std.proofs.Common.{arith, ap, refl, sym}
 use Rattle.std.proofs.Common.{◌∙◌, subst, Result, Ok, Err}
 use Rattle.std.specs.Result.{OnErr}
 use Rattle.std.proofs.KnownBytes.{Appends-trans}
 use Rattle.std.proofs.lemmas.Grind.{flat_map-append}
+use Rattle.std.proofs.lemmas.List.Sums.{sum_by-append}
+use Rattle.std.specs.List.{sum_by}
 use Rattle.std.proofs.lemmas.List.{append-nil, length-append}
 use Rattle.std.specs.Io.KnownBytes.{Appends}
 use Rattle.dmr_making.proofs.Seen.{all_append}
-use Rattle.dmr_making.proofs.Standing.{at_right}
-use Rattle.dmr_making.specs.Playing.{AreFramesMade, IsFrameMade, IsLineOfSlot, IsLineStep, IsMadeIn, IsPlayed, IsReady, SlotFrames}
-use Rattle.dmr_making.specs.Playing.{PlaysFrame}
+use Rattle.dmr_making.proofs.Standing.{stands_right}
+use Rattle.dmr_making.specs.Playing.{AreFramesMade, IsFrameMade, IsLineOfSlot, IsLineStep, IsMadeAt, IsMadeIn, IsPlayed, IsReady}
+use Rattle.dmr_making.specs.Playing.{SlotFrames}
+use Rattle.dmr_making.specs.Playing.{AreBurstsCounted, PlaysFrame, burst_count}
 use Rattle.dmr_making.specs.Playing.{StandsInLine, WritesFrames, TearsFrames, TearsRecording, WritesRecording, still_placed}
-use Rattle.dmr_making.specs.Standing.{HoldsAt}
 use Rattle.dmr_making.specs.declared.playing.PlacedTransmission.{PlacedTransmission}
 use Rattle.dmr_making.specs.declared.playing.Player.{Player}
+use Rattle.dmr_making.specs.declared.recording.BurstsMade.{BurstsMade}
 use Rattle.dmr_script.specs.declared.statement.NumberedStatement.{NumberedStatement}
 use Rattle.dmr_record.proofs.Torn.{Tears_after, Tears_more}
 use Rattle.dmr_record.specs.Devices.{Tears}
@@ -29,21 +33,21 @@ made_more from one two (f ∷ frames) slots at e p q = (p.0, made_more (suc from
 
 -- a player that has played a frame
 stands_more : (now next : Player) (frame : ℕ) (made : Option (List ℕ)) (line : SlotFrames) → now.from ≤ frame
-    → IsPlayed now next frame made → StandsInLine now line → HoldsAt (IsMadeIn frame made) line frame × StandsInLine next line
+    → IsPlayed now next frame made → StandsInLine now line → IsMadeAt frame made line frame × StandsInLine next line
 stands_more now next frame made line le played s =
     let before : SlotFrames = s.0 in
     let rest : SlotFrames = s.1 in
     let split : line ≡ before ++ rest = s.2 in
     let long : length before ≡ now.from = s.3 in
     let step : IsLineStep now next frame made rest = played.step rest s.4 in
-    let holds : HoldsAt (IsMadeIn frame made) (before ++ rest) frame =
-    at_right (IsMadeIn frame made) before rest (frame - now.from) frame (omega (arith, long, le)) step.holds in
+    let holds : IsMadeAt frame made (before ++ rest) frame =
+    stands_right (IsMadeIn frame made) (made ≡ None) before rest (frame - now.from) frame (omega (arith, long, le)) step.holds in
     let all = length-append before step.before in
     let count = step.count in
     let on : IsLineOfSlot next.own next.statements.now next.from (still_placed next) step.rest =
     subst (λ (n : ℕ). IsLineOfSlot n next.statements.now next.from (still_placed next) step.rest) (sym played.own)
     (subst (λ st. IsLineOfSlot now.own st next.from (still_placed next) step.rest) (sym played.statements) step.goes_on) in (
-      subst (λ (l : SlotFrames). HoldsAt (IsMadeIn frame made) l frame) (sym split) holds,
+      subst (λ (l : SlotFrames). IsMadeAt frame made l frame) (sym split) holds,
       (
         before ++ step.before,
         step.rest,
@@ -55,22 +59,42 @@ stands_more now next frame made line le played s =
 
 -- nothing is written yet
 pub writes_none : (first second : Player) (held : Option (List ℕ)) → first.from ≡ 0 → second.from ≡ 0 → Appends held held []
-    → WritesFrames first first second second 0 held held
+    → WritesFrames first first second second 0 (record { first = 0; second = 0 }) held held
 writes_none first second held e f none = record {
   frames = [];
   many = refl;
+  counted = record { first = refl; second = refl };
   each = tt;
   made = λ one two p q. (tt, ([], one, refl, sym e, p), ([], two, refl, sym f, q));
   written = none;
 }
 
+-- the bursts of one frame more
+counted_more : (counts more : BurstsMade) (frames : List UplinkSlots) (slots : UplinkSlots) → AreBurstsCounted counts frames
+    → AreBurstsCounted more (slots ∷ [])
+    → AreBurstsCounted (record { first = counts.first + more.first; second = counts.second + more.second })
+    (frames ++ slots ∷ [])
+counted_more counts more frames slots p q = record {
+  first =
+      let a = p.first in
+      let b = q.first in
+      let all = sum_by-append (λ (s : UplinkSlots). burst_count (slice_index_or s 0 None)) frames (slots ∷ []) in
+      omega (arith, a, b, all);
+  second =
+      let a = p.second in
+      let b = q.second in
+      let all = sum_by-append (λ (s : UplinkSlots). burst_count (slice_index_or s 1 None)) frames (slots ∷ []) in
+      omega (arith, a, b, all);
+}
+
 -- one frame more is written
 pub writes_more : (first first_now first_next second second_now second_next : Player) (count : ℕ)
-    → (old mid new : Option (List ℕ)) → IsReady first_now count → IsReady second_now count
-    → WritesFrames first first_now second second_now count old mid
-    → PlaysFrame first_now first_next second_now second_next count mid new
-    → WritesFrames first first_next second second_next (count + 1) old new
-writes_more first first_now first_next second second_now second_next count old mid new ready other w p =
+    → (counts more : BurstsMade) (old mid new : Option (List ℕ)) → IsReady first_now count → IsReady second_now count
+    → WritesFrames first first_now second second_now count counts old mid
+    → PlaysFrame first_now first_next second_now second_next count more mid new
+    → WritesFrames first first_next second second_next (count + 1)
+    (record { first = counts.first + more.first; second = counts.second + more.second }) old new
+writes_more first first_now first_next second second_now second_next count counts more old mid new ready other w p =
     let slots : UplinkSlots = p.one ∷ p.two ∷ [] in
     let many = w.many in
     let all = length-append w.frames (slots ∷ []) in
@@ -80,6 +104,7 @@ writes_more first first_now first_next second second_now second_next count old m
     record {
       frames = w.frames ++ slots ∷ [];
       many = omega (arith, many, all);
+      counted = counted_more counts more w.frames slots w.counted p.counted;
       each = all_append IsFrame w.frames (slots ∷ []) w.each (p.is, tt);
       made = λ one two u v.
           let so_far = w.made one two u v in
@@ -92,16 +117,17 @@ writes_more first first_now first_next second second_now second_next count old m
 
 -- the file of these frames is its head, and then they
 pub writes_file : (own : ℕ) (statements : List NumberedStatement) (first second : List PlacedTransmission) (count : ℕ)
-    → (one one_now two two_now : Player) (old mid new : Option (List ℕ))
+    → (one one_now two two_now : Player) (counts : BurstsMade) (old mid new : Option (List ℕ))
     → ((line : SlotFrames) → IsLineOfSlot own statements 0 first line
     → IsLineOfSlot one.own one.statements.now one.from (still_placed one) line)
     → ((line : SlotFrames) → IsLineOfSlot own statements 0 second line
     → IsLineOfSlot two.own two.statements.now two.from (still_placed two) line)
-    → Appends old mid (head_octets uplink_magic) → WritesFrames one one_now two two_now count mid new
-    → WritesRecording own statements first second count old new
-writes_file own statements first second count one one_now two two_now old mid new p q head w = record {
+    → Appends old mid (head_octets uplink_magic) → WritesFrames one one_now two two_now count counts mid new
+    → WritesRecording own statements first second count counts old new
+writes_file own statements first second count one one_now two two_now counts old mid new p q head w = record {
   frames = w.frames;
   many = w.many;
+  counted = w.counted;
   each = w.each;
   made = λ a b u v. (w.made a b (p a u) (q b v)).0;
   written = Appends-trans old mid new (head_octets uplink_magic) (frames_octets w.frames) head w.written;

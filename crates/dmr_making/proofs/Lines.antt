@@ -5,8 +5,9 @@ use Rattle.std.proofs.lemmas.List.Elements.{All-head, All-tail}
 use Rattle.std.specs.List.{AllByRecursion}
 use Rattle.std.proofs.lemmas.List.{length-map, length-replicate, length-append}
 use Rattle.dmr_hearing.specs.Slots.{SentSlot, Silent}
-use Rattle.dmr_making.proofs.Standing.{at_left, at_right, at_replicate}
-use Rattle.dmr_making.specs.Playing.{EndsLater, IsFitPlaced, IsInFront, IsOrdered, IsLineOfSlot, IsLineStep, IsMadeIn, IsPlacedLine}
+use Rattle.dmr_making.proofs.Standing.{at_replicate, stands_left, stands_right}
+use Rattle.dmr_making.specs.Playing.{EndsLater, IsFitPlaced, IsInFront, IsOrdered, IsLineOfSlot, IsLineStep, IsMadeAt, IsMadeIn}
+use Rattle.dmr_making.specs.Playing.{IsPlacedLine}
 use Rattle.dmr_making.specs.Playing.{SlotFrames, still_placed}
 use Rattle.dmr_making.specs.Senders.{colour_of}
 use Rattle.dmr_making.specs.Standing.{HoldsAt}
@@ -15,41 +16,42 @@ use Rattle.dmr_making.specs.declared.playing.Player.{Player}
 use Rattle.dmr_script.specs.declared.statement.NumberedStatement.{NumberedStatement}
 
 -- nothing is placed
-pub line_none : (P : ℕ × SentSlot
-    → Type 0) (own : ℕ) (statements : List NumberedStatement) (from : ℕ) (line : SlotFrames) (place : ℕ)
-    → IsLineOfSlot own statements from [] line → HoldsAt P line place
-line_none P own statements from line place e = subst (λ (l : SlotFrames). HoldsAt P l place) (sym e) tt
+line_none : (own : ℕ) (statements : List NumberedStatement) (from frame : ℕ) (line : SlotFrames) (place : ℕ)
+    → IsLineOfSlot own statements from [] line → IsMadeAt frame None line place
+line_none own statements from frame line place e = subst (λ (l : SlotFrames). IsMadeAt frame None l place) (sym e) refl
 
 -- in front of the first transmission
-pub line_gap : (P : ℕ × SentSlot → Type 0) (own : ℕ) (statements : List NumberedStatement) (from : ℕ) (p : PlacedTransmission)
-    → (placed : List PlacedTransmission) (line : SlotFrames) (place : ℕ) → IsLineOfSlot own statements from (p ∷ placed) line
-    → place < p.start - from
-    → P (own, Silent) → HoldsAt P line place
-line_gap P own statements from p placed line place l lt silent =
+line_gap : (own : ℕ) (statements : List NumberedStatement) (from : ℕ) (p : PlacedTransmission)
+    → (placed : List PlacedTransmission) (frame : ℕ) (line : SlotFrames) (place : ℕ)
+    → IsLineOfSlot own statements from (p ∷ placed) line → place < p.start - from → IsMadeAt frame None line place
+line_gap own statements from p placed frame line place l lt =
     let gap : SlotFrames = replicate (p.start - from) (own, Silent) in
     let long : length gap ≡ p.start - from = length-replicate (p.start - from) (own, Silent) in
-    subst (λ (x : SlotFrames). HoldsAt P x place) (sym l.5)
-    (at_left P gap (l.0 ++ l.1) place (omega (arith, long, lt)) (at_replicate P (p.start - from) (own, Silent) place silent))
+    let P : ℕ × SentSlot → Type 0 = IsMadeIn frame None in
+    let None_is : Option (List ℕ) = None in
+    subst (λ (x : SlotFrames). IsMadeAt frame None x place) (sym l.5)
+    (stands_left P (None_is ≡ None) gap (l.0 ++ l.1) place (omega (arith, long, lt))
+    (at_replicate P (p.start - from) (own, Silent) place refl))
 
 -- in the first transmission
-pub line_mine : (P : ℕ × SentSlot → Type 0) (own : ℕ) (statements : List NumberedStatement) (from : ℕ) (p : PlacedTransmission)
-    → (placed : List PlacedTransmission) (line : SlotFrames) (frame : ℕ) → IsLineOfSlot own statements from (p ∷ placed) line
-    → p.start ≤ frame
-    → frame < p.start + p.length
-    → ((mine : SlotFrames) → IsPlacedLine own statements p mine → HoldsAt P mine (frame - p.start))
-    → HoldsAt P line (frame - from)
-line_mine P own statements from p placed line frame l begun less here =
+line_mine : (own : ℕ) (statements : List NumberedStatement) (from : ℕ) (p : PlacedTransmission)
+    → (placed : List PlacedTransmission) (line : SlotFrames) (frame : ℕ) (made : Option (List ℕ))
+    → IsLineOfSlot own statements from (p ∷ placed) line → p.start ≤ frame → frame < p.start + p.length
+    → ((mine : SlotFrames) → IsPlacedLine own statements p mine → HoldsAt (IsMadeIn frame made) mine (frame - p.start))
+    → IsMadeAt frame made line (frame - from)
+line_mine own statements from p placed line frame made l begun less here =
     let mine : SlotFrames = l.0 in
     let gap : SlotFrames = replicate (p.start - from) (own, Silent) in
     let long : length gap ≡ p.start - from = length-replicate (p.start - from) (own, Silent) in
     let behind : from ≤ p.start = l.2 in
     let is : IsPlacedLine own statements p mine = l.3 in
+    let P : ℕ × SentSlot → Type 0 = IsMadeIn frame made in
     let count : length mine ≡ p.length =
     ap (λ (x : SlotFrames). length x) is.is
     ∙ length-map is.sent.slots (λ (slot : SentSlot). (colour_of own is.transmit.sender, slot)) ∙ is.count in
-    subst (λ (x : SlotFrames). HoldsAt P x (frame - from)) (sym l.5)
-    (at_right P gap (mine ++ l.1) (frame - p.start) (frame - from) (omega (arith, long, behind, begun))
-    (at_left P mine l.1 (frame - p.start) (omega (arith, count, begun, less)) (here mine is)))
+    subst (λ (x : SlotFrames). IsMadeAt frame made x (frame - from)) (sym l.5)
+    (stands_right P (made ≡ None) gap (mine ++ l.1) (frame - p.start) (frame - from) (omega (arith, long, behind, begun))
+    (stands_left P (made ≡ None) mine l.1 (frame - p.start) (omega (arith, count, begun, less)) (here mine is)))
 
 -- what is read is the first of what is left
 pub left_is : {X : Type 0} (xs : List X) (k : ℕ) (x : X) → slice_get xs k ≡ Some x → drop k xs ≡ x ∷ drop (suc k) xs
@@ -67,7 +69,7 @@ none_left (y ∷ xs) (suc k) e = none_left xs k e
 pub step_none : (old : Player) (frame : ℕ) (line : SlotFrames) → still_placed old ≡ [] → IsInFront old frame
     → IsLineOfSlot old.own old.statements.now old.from (still_placed old) line → IsLineStep old old frame None line
 step_none old frame line e front l = record {
-  holds = line_none (IsMadeIn frame None) old.own old.statements.now old.from line (frame - old.from)
+  holds = line_none old.own old.statements.now old.from frame line (frame - old.from)
       (subst (λ (ps : List PlacedTransmission). IsLineOfSlot old.own old.statements.now old.from ps line) e l);
   before = [];
   rest = line;
@@ -84,12 +86,12 @@ pub step_gap : (old : Player) (frame : ℕ) (line : SlotFrames) (p : PlacedTrans
 step_gap old frame line p ps e less some front l = record {
   holds =
       let b = front.begins in
-      line_gap (IsMadeIn frame None) old.own old.statements.now old.from p ps line (frame - old.from)
+      line_gap old.own old.statements.now old.from p ps frame line (frame - old.from)
       (subst (λ (qs : List PlacedTransmission). IsLineOfSlot old.own old.statements.now old.from qs line) e l) (omega (
         arith,
         b,
         less,
-      )) refl;
+      ));
   before = [];
   rest = line;
   split = refl;
@@ -104,7 +106,7 @@ pub step_in : (old : Player) (frame : ℕ) (made : Option (List ℕ)) (line : Sl
     → ((mine : SlotFrames) → IsPlacedLine old.own old.statements.now p mine → HoldsAt (IsMadeIn frame made) mine (frame - p.start))
     → IsLineOfSlot old.own old.statements.now old.from (still_placed old) line → IsLineStep old old frame made line
 step_in old frame made line p ps e begun more front here l = record {
-  holds = line_mine (IsMadeIn frame made) old.own old.statements.now old.from p ps line frame
+  holds = line_mine old.own old.statements.now old.from p ps line frame made
       (subst (λ (qs : List PlacedTransmission). IsLineOfSlot old.own old.statements.now old.from qs line) e l) begun (omega (
         arith,
         more,
@@ -141,7 +143,7 @@ step_over old new frame made line p ps e left from begun ends some here l =
     let rest : IsLineOfSlot own statements new.from ps first.1 =
     subst (λ (n : ℕ). IsLineOfSlot own statements n ps first.1) (sym there) first.4 in
     record {
-      holds = line_mine (IsMadeIn frame made) own statements old.from p ps line frame first begun (omega (arith, ends)) here;
+      holds = line_mine own statements old.from p ps line frame made first begun (omega (arith, ends)) here;
       before = gap ++ mine;
       rest = first.1;
       split = first.5 ∙ sym (append_assoc gap mine first.1);

@@ -1,7 +1,7 @@
 -- What stands in a place of a list that is made of others.
 use Rattle.std.proofs.Common.{◌≡◌, ℕ, zero, suc, ◌+◌, ◌<◌, ◌≤◌, List, [], ◌∷◌, ◌++◌, map, drop, length, replicate, arith, subst}
 use Rattle.std.proofs.Common.{get_or, ap, refl, take}
-use Rattle.dmr_making.specs.Standing.{HoldsAt}
+use Rattle.dmr_making.specs.Standing.{HoldsAt, StandsAt}
 
 -- in front of a seam it is what stands there in the first list
 pub at_left : {X : Type 0} (P : X → Type 0) (xs ys : List X) (k : ℕ) → k < length xs → HoldsAt P xs k → HoldsAt P (xs ++ ys) k
@@ -15,6 +15,19 @@ pub at_right : {X : Type 0} (P : X → Type 0) (xs ys : List X) (j k : ℕ) → 
 at_right P [] ys j k e h = let same : j ≡ k = omega arith in subst (HoldsAt P ys) same h
 at_right P (x ∷ xs) ys j zero e h = absurd (omega arith)
 at_right P (x ∷ xs) ys j (suc k) e h = at_right P xs ys j k (omega arith) h
+
+-- the same of lists of which something is said past their end
+pub stands_left : {X : Type 0} (P : X → Type 0) (Past : Type 0) (xs ys : List X) (k : ℕ) → k < length xs → HoldsAt P xs k
+    → StandsAt P Past (xs ++ ys) k
+stands_left P Past [] ys k lt h = absurd (omega arith)
+stands_left P Past (x ∷ xs) ys zero lt h = h
+stands_left P Past (x ∷ xs) ys (suc k) lt h = stands_left P Past xs ys k (omega arith) h
+
+pub stands_right : {X : Type 0} (P : X → Type 0) (Past : Type 0) (xs ys : List X) (j k : ℕ) → k ≡ length xs + j
+    → StandsAt P Past ys j → StandsAt P Past (xs ++ ys) k
+stands_right P Past [] ys j k e h = let same : j ≡ k = omega arith in subst (StandsAt P Past ys) same h
+stands_right P Past (x ∷ xs) ys j zero e h = absurd (omega arith)
+stands_right P Past (x ∷ xs) ys j (suc k) e h = stands_right P Past xs ys j k (omega arith) h
 
 -- so that it is one or the other
 pub at_seam : {X : Type 0} (P : X → Type 0) (xs ys : List X) (k : ℕ) → (k < length xs → HoldsAt P xs k)

@@ -1,17 +1,19 @@
 -- What a slot of a recording sends, frame by frame, of the transmissions that are placed in it.
 use Rattle.std.specs.Prelude.{◌≡◌, ℕ, suc, ◌+◌, ◌-◌, ◌<◌, ◌≤◌, All, List, [], ◌∷◌, ◌++◌, map, drop, length, replicate, slice_get}
+use Rattle.std.specs.Prelude.{slice_index_or}
 use Rattle.std.specs.Prelude.{Option, Some, None, option_and_then}
 use Rattle.dmr_hearing.specs.Slots.{SentSlot, Silent}
 use Rattle.dmr_making.specs.Made.{IsMade}
 use Rattle.dmr_making.specs.Senders.{colour_of, IsSenderColour, IsSendable}
 use Rattle.dmr_record.specs.Uplink.{UplinkSlots, IsFrame, frame_octets, frames_octets, uplink_file}
-use Rattle.std.specs.List.{AllByRecursion}
+use Rattle.std.specs.List.{AllByRecursion, sum_by}
 use Rattle.std.specs.Io.KnownBytes.{Appends}
 use Rattle.dmr_record.specs.Devices.{Tears}
 use Rattle.dmr_making.specs.Sends.{Transmitted, SendsSaid}
-use Rattle.dmr_making.specs.Standing.{HoldsAt}
+use Rattle.dmr_making.specs.Standing.{StandsAt}
 use Rattle.dmr_making.specs.declared.playing.PlacedTransmission.{PlacedTransmission}
 use Rattle.dmr_making.specs.declared.playing.Player.{Player}
+use Rattle.dmr_making.specs.declared.recording.BurstsMade.{BurstsMade}
 use Rattle.dmr_script.specs.declared.packet.PacketTry.{PacketTry}
 use Rattle.dmr_script.specs.declared.statement.NumberedStatement.{NumberedStatement}
 use Rattle.dmr_script.specs.declared.statement.Statement.{Statement}
@@ -78,6 +80,10 @@ IsLineOfSlot own statements from (p ∷ placed) line =
 abbrev pub IsMadeIn : ℕ → Option (List ℕ) → ℕ × SentSlot → Type 0
 IsMadeIn frame made sent = IsMade sent.0 frame sent.1 made
 
+-- what goes out in this frame for what stands in this place of a line: nothing does past its end
+abbrev pub IsMadeAt : ℕ → Option (List ℕ) → SlotFrames → ℕ → Type 0
+IsMadeAt frame made line place = StandsAt (IsMadeIn frame made) (made ≡ None) line place
+
 -- those that haven't ended
 abbrev pub still_placed : Player → List PlacedTransmission
 still_placed p = drop p.at p.placed.now
@@ -100,7 +106,7 @@ IsOrdered from (p ∷ placed) = (from ≤ p.start) × (0 < p.length) × IsOrdere
 -- What a player does in a frame, whose slot sends this line from where it stands: what goes out is made of it, and the player goes
 -- on behind a front of the line.
 pub record IsLineStep (old new : Player) (frame : ℕ) (made : Option (List ℕ)) (line : SlotFrames) : Type 0 where
-  pub holds : HoldsAt (IsMadeIn frame made) line (frame - old.from)
+  pub holds : IsMadeAt frame made line (frame - old.from)
   pub before : SlotFrames
   pub rest : SlotFrames
   pub split : line ≡ before ++ rest
@@ -113,7 +119,7 @@ pub record IsLineStep (old new : Player) (frame : ℕ) (made : Option (List ℕ)
 abbrev pub IsFrameMade : ℕ → SlotFrames → SlotFrames → UplinkSlots → Type 0
 IsFrameMade frame first second slots =
     (one : Option (List ℕ)) × (two : Option (List ℕ)) × (slots ≡ one ∷ two ∷ [])
-    × HoldsAt (IsMadeIn frame one) first frame × HoldsAt (IsMadeIn frame two) second frame
+    × IsMadeAt frame one first frame × IsMadeAt frame two second frame
 
 -- These frames do, from this one on.
 abbrev pub AreFramesMade : ℕ → SlotFrames → SlotFrames → List UplinkSlots → Type 0
@@ -142,19 +148,38 @@ pub record IsPlayed (old new : Player) (frame : ℕ) (made : Option (List ℕ)) 
   pub step : (line : SlotFrames) → IsLineOfSlot old.own old.statements.now old.from (still_placed old) line
       → IsLineStep old new frame made line
 
--- Both players play a frame, and it is written.
-pub record PlaysFrame (first first_new second second_new : Player) (frame : ℕ) (old new : Option (List ℕ)) : Type 0 where
+-- one where a burst goes out, and else none
+abbrev pub burst_count : Option (List ℕ) → ℕ
+burst_count None = 0
+burst_count (Some octets) = 1
+
+-- how many bursts go out in this slot of these frames
+abbrev pub bursts_of_slot : ℕ → List UplinkSlots → ℕ
+bursts_of_slot number frames = sum_by (λ slots. burst_count (slice_index_or slots number None)) frames
+
+-- So many bursts go out in both slots of these frames.
+pub record AreBurstsCounted (counts : BurstsMade) (frames : List UplinkSlots) : Type 0 where
+  pub first : counts.first ≡ bursts_of_slot 0 frames
+  pub second : counts.second ≡ bursts_of_slot 1 frames
+
+-- Both players play a frame with so many bursts, and it is written.
+pub record PlaysFrame (first first_new second second_new : Player) (frame : ℕ) (counts : BurstsMade)
+    (old new : Option (List ℕ)) : Type 0 where
   pub one : Option (List ℕ)
   pub two : Option (List ℕ)
+  pub counted : AreBurstsCounted counts ((one ∷ two ∷ []) ∷ [])
   pub first_is : IsPlayed first first_new frame one
   pub second_is : IsPlayed second second_new frame two
   pub is : IsFrame (one ∷ two ∷ [])
   pub written : Appends old new (frame_octets (one ∷ two ∷ []))
 
--- What was written of both slots, from the first frame on up to so many: frames with what goes out for what these lines send.
-pub record WritesFrames (first first_now second second_now : Player) (count : ℕ) (old new : Option (List ℕ)) : Type 0 where
+-- What was written of both slots, from the first frame on up to so many: frames with what goes out for what these lines send, and
+-- so many bursts.
+pub record WritesFrames (first first_now second second_now : Player) (count : ℕ) (counts : BurstsMade)
+    (old new : Option (List ℕ)) : Type 0 where
   pub frames : List UplinkSlots
   pub many : length frames ≡ count
+  pub counted : AreBurstsCounted counts frames
   pub each : AllByRecursion IsFrame frames
   pub made : (one two : SlotFrames) → IsLineOfSlot first.own first.statements.now first.from (still_placed first) one
       → IsLineOfSlot second.own second.statements.now second.from (still_placed second) two
@@ -162,11 +187,12 @@ pub record WritesFrames (first first_now second second_now : Player) (count : �
   pub written : Appends old new (frames_octets frames)
 
 -- The uplink file of a recording was written: so many frames, each with what goes out for what both slots send, whatever lines
--- that is.
+-- that is, and with so many bursts.
 pub record WritesRecording (own : ℕ) (statements : List NumberedStatement) (first second : List PlacedTransmission) (count : ℕ)
-    (old new : Option (List ℕ)) : Type 0 where
+    (counts : BurstsMade) (old new : Option (List ℕ)) : Type 0 where
   pub frames : List UplinkSlots
   pub many : length frames ≡ count
+  pub counted : AreBurstsCounted counts frames
   pub each : AllByRecursion IsFrame frames
   pub made : (one two : SlotFrames) → IsLineOfSlot own statements 0 first one → IsLineOfSlot own statements 0 second two
       → AreFramesMade 0 one two frames
@@ -184,6 +210,7 @@ pub record TearsMadeFrame (first first_new second second_new : Player) (frame : 
 -- So many frames of both slots were written, and the sink failed within the next one.
 pub record TearsFrames (first second : Player) (old new : Option (List ℕ)) : Type 0 where
   pub count : ℕ
+  pub counts : BurstsMade
   pub first_now : Player
   pub first_next : Player
   pub second_now : Player
@@ -191,7 +218,7 @@ pub record TearsFrames (first second : Player) (old new : Option (List ℕ)) : T
   pub middle : Option (List ℕ)
   pub first_ready : IsReady first_now count
   pub second_ready : IsReady second_now count
-  pub whole : WritesFrames first first_now second second_now count old middle
+  pub whole : WritesFrames first first_now second second_now count counts old middle
   pub part : TearsMadeFrame first_now first_next second_now second_next count middle new
 
 -- The sink failed: a front of the uplink file of some frames was written, each with what goes out for what both slots send.

@@ -22,6 +22,6 @@ mod recording;
 mod sending;
 mod tries;
 
-pub use playing::PlacedTransmission;
-pub use recording::write_recording;
+pub use playing::{PlacedTransmission, packet_in};
+pub use recording::{BurstsMade, write_recording};
 pub use sending::SlotTransmission;

@@ -46,8 +46,8 @@ pub(crate) fn transmit_in(statements: &[NumberedStatement], at: usize) -> Option
     }
 }
 
-/// The packet that the statement with this number says.
-pub(crate) fn packet_in(statements: &[NumberedStatement], at: Option<usize>) -> Option<&PacketTry>
+/// The packet that the statement of a script with this number says, where it says one. Statements are counted from 0.
+pub fn packet_in(statements: &[NumberedStatement], at: Option<usize>) -> Option<&PacketTry>
     ensures value { option_copied result ≡ spec.packet_in statements.now at }
 {
     let transmit = transmit_in(statements, at?)?;

@@ -142,6 +142,9 @@ pub enum Refusal {
     /// No outgoing list is made. Told by what makes transmissions.
     #[error("a datagram to send: name a list for it with --outgoing")]
     NoList,
+    /// More datagrams are to be sent than an outgoing list has records. Told by what makes transmissions.
+    #[error("too long: more than 1048576 datagrams to send")]
+    LongList,
     /// A line is too long.
     #[error("too long: more than 65536 octets")]
     LongLine,

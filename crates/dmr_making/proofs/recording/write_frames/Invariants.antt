@@ -1,5 +1,5 @@
 -- So many frames were written.
-use Rattle.std.proofs.Common.{◌≡◌, false}
+use Rattle.std.proofs.Common.{◌≡◌, ◌≤◌, false}
 use Rattle.dmr_making.specs.Playing.{IsReady, WritesFrames}
 use Rattle.dmr_making.proofs.recording.write_frames.Given as goal
 
@@ -8,5 +8,8 @@ invariant-loop-frame g l = record {
   well : g.K.Sink.has_failed l.sink ≡ false;
   first : IsReady l.first l.frame;
   second : IsReady l.second l.frame;
-  written : WritesFrames l.fn.first l.first l.fn.second l.second l.frame (g.K.Sink.held l.initial.sink) (g.K.Sink.held l.sink);
+  first_few : l.counts.first ≤ l.frame;
+  second_few : l.counts.second ≤ l.frame;
+  written : WritesFrames l.fn.first l.first l.fn.second l.second l.frame l.counts (g.K.Sink.held l.initial.sink)
+      (g.K.Sink.held l.sink);
 }

@@ -1,0 +1,10 @@
+pub mod Counting
+pub mod Halts
+pub mod Pauses
+pub mod Planning
+pub mod Plans
+pub mod Refused
+pub mod Sending
+pub mod Slots
+pub mod Syncs
+pub mod Tries
