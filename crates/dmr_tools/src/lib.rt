@@ -1,6 +1,6 @@
 //! The command line of the tools: what its words ask for, and doing that.
 //!
-//! The tools are what `dmrgate` does beside repeating: `show`, `log`, `damage`, `compare`, `import` and `export`. They are a
+//! The tools are what `dmrgate` does beside repeating: `show`, `log`, `make`, `damage`, `compare`, `import` and `export`. They are a
 //! program of their own, so that nobody who repeats waits for their proofs. `request_of` reads the words, by a command line parser
 //! whose texts are its own, and answers a `Request`. `obey` reads them and does what they ask for, on a system (`dmr_files`), and
 //! prints to two sinks (`dmr_record`): what was asked for to the first, errors to the second. `program` is that on the system that
@@ -17,12 +17,17 @@ mod comparison;
 mod damaging;
 mod datagrams;
 mod listing;
+mod make_places;
+mod making;
 mod obeying;
 mod opening;
+mod outputs;
+mod printing;
 mod process;
 mod request;
 
 pub use comparison::Comparison;
+pub use make_places::MakePlaces;
 pub use obeying::obey;
 pub use process::program;
 pub use request::{ExportFormat, ImportFormat, LogRefusal, PairPlaces, Request, request_of};
