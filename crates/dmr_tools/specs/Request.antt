@@ -142,7 +142,8 @@ IsAskedOfTools (Some command) NoStart =
     (command.0 ≡ codes "export") × (subcommand_name_of command.1 ≡ Some (codes "datagrams"))
 IsAskedOfTools (Some command) (Elsewhere name) =
     (command.0 ≡ codes "show" → ⊥) × (command.0 ≡ codes "log" → ⊥) × (command.0 ≡ codes "make" → ⊥)
-    × (command.0 ≡ codes "damage" → ⊥) × (command.0 ≡ codes "compare" → ⊥) × (command.0 ≡ codes "import" → NamesFormat command.1 → ⊥)
+    × (command.0 ≡ codes "damage" → ⊥) × (command.0 ≡ codes "compare" → ⊥)
+    × (command.0 ≡ codes "import" → NamesFormat command.1 → ⊥)
     × (command.0 ≡ codes "export" → NamesFormat command.1 → ⊥)
     × (name.now ≡ command.0)
 

@@ -160,7 +160,8 @@ pub(crate) fn make_files<S: System, K: Sink, E: Sink>(
 ) -> u8
     requires out { K.has_failed out.old ≡ false }
     requires err { E.has_failed err.old ≡ false }
-    // What is printed goes to one of the two: a success to the first, but where a file goes to standard output; a fault to the second.
+    // What is printed goes to one of the two: a success to the first, but where a file goes to standard output; a fault to the
+    // second.
     ensures alone { (out.new ≡ out.old) ⊎ (err.new ≡ err.old) }
     ensures line { result ≡ success → take_output places.now ≡ false → PutsLine (K.held out.old) (K.held out.new) }
     ensures line_alone { result ≡ success → take_output places.now ≡ false → err.new ≡ err.old }

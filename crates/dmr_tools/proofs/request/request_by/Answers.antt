@@ -6,6 +6,14 @@ pub returns-in_default-named : goal.returns-in_default-named
 returns-in_default-named c =
     let none = c.in_default-named.ensures.none in
     rw c.in-Some.is (record {
-      asked =
-          (none Show, none Log, none Make, none Damage, none Compare, λ same named. none Import same, λ same named. none Export same, refl);
+      asked = (
+        none Show,
+        none Log,
+        none Make,
+        none Damage,
+        none Compare,
+        λ same named. none Import same,
+        λ same named. none Export same,
+        refl,
+      );
     })
