@@ -213,7 +213,7 @@ SENT = [
     ("opcode 5, fid 16, 0123456789ABCDEF, last", [control("85100123456789ABCDEF")]),
     ("preamble, data to follow 7, 2 -> group 9", [control("BD00C007000009000002")]),
     ("preamble, CSBKs to follow 2, 2 -> 1", [control("BD000002000001000002")]),
-    ("BS activation by 2 of 9", [control("38000000000009000002")]),
+    ("BS activation by 2 of 9", [control("B8000000000009000002")]),
     (f"terminator {CALLS}", slots_of_call(CALL_OF_2, "T")),
     (f"PI header {TWELVE}", [burst_of_block(PI_HEADER, bytes.fromhex(TWELVE))]),
     (f"MBC header {TWELVE}", [burst_of_block(MBC_HEADER, bytes.fromhex(TWELVE))]),
@@ -225,7 +225,7 @@ SENT = [
     (f"foreign 7 opcode 0, fid 0, {ZEROS}", [control("00" * 10, 7)]),
     ("status 3 -> 1, port 1 -> 2, status 5", [STATUS]),
     ("unconfirmed 2 -> group 1, octets 0102030405", packet_of(bytes([1, 2, 3, 4, 5]), is_group=True)),
-    ("confirmed 2 -> 1, N(S) 5, SAP 9, octets 0102030405", packet_of(bytes([1, 2, 3, 4, 5]), number=5, sap=9)),
+    ("confirmed 2 -> 1, SAP 9, N(S) 5, octets 0102030405", packet_of(bytes([1, 2, 3, 4, 5]), number=5, sap=9)),
     ('confirmed 2 -> 1, rate 1, UDP 5018 -> 5016, id 7, "hello"', packet_of(datagram_of(7, b"hello"), dmr.DataType.RATE_FULL, 0)),
     ("ACK 2 -> 1, N(S) 3", answer_of(packets.Answer.RECEIVED)),
     ("failed 2 -> 1, N(S) 3, SAP 3", answer_of(packets.Answer.FAILED, sap=3)),
@@ -261,9 +261,10 @@ def check_sent(report):
     one, two = (control(digits * 10) for digits in ("00", "11"))
     octets, _ = made(report, f"slot 1\nopcode 0, fid 0, {ZEROS}\nopcode 17, fid 17, {'11' * 8}\n")
     report.expect("control blocks stand in a row", octets == recording([one, two]), octets.hex())
-    octets, _ = made(report, f"slot 1\nopcode 0, fid 0, {ZEROS}\nstatus 3 -> 1, port 1 -> 2, status 5\n{CALLS}: H\n{CALLS}: HT\n")
-    shape = slots_of_call(CALL_OF_2, "H......HT")
-    wanted = recording([one, None, STATUS, None, *shape])
+    lines = f"opcode 0, fid 0, {ZEROS}\nstatus 3 -> 1, port 1 -> 2, status 5\n{CALLS}: H\n{CALLS}: HT\n"
+    octets, _ = made(report, f"slot 1\n{lines}{CALLS}: ABCDEF\n{CALLS}: ABCDEF\n")
+    shape = slots_of_call(CALL_OF_2, "H.HT.ABCDEF......ABCDEF")
+    wanted = spoken(recording([one, None, STATUS, None, *shape]))
     report.expect("the least silences", octets == wanted, octets.hex())
     octets, _ = made(report, f"slot 1\n{CALLS}: 2*H\nstatus 3 -> 1, port 1 -> 2, status 5\n")
     wanted = [*slots_of_call(CALL_OF_2, "HH"), None, STATUS]

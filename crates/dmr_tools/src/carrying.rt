@@ -11,9 +11,7 @@ use crate::request::{ExportFormat, ImportFormat, PairPlaces};
 use dmr_capture::CaptureFault;
 use dmr_damage::{Damage, DamageEnd, DamageSettings, Damaged, SettingsFault, damage_recording};
 use dmr_datagrams::{ExportedDatagrams, ImportedDatagrams, export_datagrams, import_datagrams};
-use dmr_files::{
-    BufferedPair, PairFault, System, is_sent_to_terminal, open_buffered, write_out,
-};
+use dmr_files::{BufferedPair, PairFault, System, is_sent_to_terminal, open_buffered, write_out};
 use dmr_lines::{FAILURE, SUCCESS, ToldName};
 use dmr_record::{Sink, Source};
 use dmr_recording::FaultLine;

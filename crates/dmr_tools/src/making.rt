@@ -2,6 +2,7 @@
 ghost use Rattle.std.specs.Prelude.{◌≡◌, ◌≤◌, ◌⊎◌, false, true, IfSome};
 ghost use Rattle.dmr_lines.specs.Line.{PutsError, PutsLine};
 ghost use Rattle.dmr_lines.specs.Status.{failure, success};
+ghost use Rattle.dmr_planning.specs.Plans.{IsPlan};
 ghost use Rattle.dmr_tools.specs.Making.{take_output};
 
 use crate::make_places::MakePlaces;
