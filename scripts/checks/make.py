@@ -144,7 +144,8 @@ NAMED = re.compile(
     r"|a terminator stands in the place of an A|the last place is absent|of another colour code it begins and ends with a burst"
     r"|behind a voice sync of another colour code an EMB stands within five slots|burst \d+ reads as a sync of a mobile station"
     r"|\d+ silences where \d+ are needed behind line \d+|frame \d+ has passed: the slot stands at \d+"
-    r"|too long: more than (1048576 frames|65536 octets)|the number of frames stands once|\d+ frames are too few: \d+ are sent"
+    r"|too long: more than (1048576 frames|1048576 datagrams to send|65536 octets)|the number of frames stands once"
+    r"|\d+ frames are too few: \d+ are sent"
     r"|a datagram to send: name a list for it with --outgoing)"
 )
 

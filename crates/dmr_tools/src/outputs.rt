@@ -24,7 +24,7 @@ pub(crate) enum OutputsFault<'a> {
 #[derive(Drop)]
 struct Output<'a, O> {
     place: Place<'a>,
-    open: Open<O>,
+    file: Open<O>,
 }
 
 /// An output behind a buffer, and where it is.
@@ -48,11 +48,11 @@ fn open_output<'a, S: System>(
     script: &Identity,
     standard: &StandardFiles,
 ) -> Result<Output<'a, S::Output>, OutputsFault<'a>>
-    ensures apart { IfOk result (λ output. IsApartFrom script.now standard.now output.open.identity) }
+    ensures apart { IfOk result (λ output. IsApartFrom script.now standard.now output.file.identity) }
     ensures fault { IfErr result (λ e. e ≡ OutputsFault.Unopened place) }
 {
     match open_apart(system, place, script, standard) {
-        Ok(open) => Ok(Output { place, open }),
+        Ok(file) => Ok(Output { place, file }),
         Err(_) => Err(OutputsFault::Unopened(place)),
     }
 }
@@ -65,14 +65,14 @@ fn open_outgoing<'a, S: System>(
     script: &Identity,
     standard: &StandardFiles,
 ) -> Result<Option<Output<'a, S::Output>>, OutputsFault<'a>>
-    ensures apart { IfOk result (λ list. IfSome list (λ output. IsApartFrom script.now standard.now output.open.identity)) }
-    ensures outputs { IfOk result (λ list. IfSome list (λ output. clashes output.open.identity uplink.now ≡ false)) }
+    ensures apart { IfOk result (λ list. IfSome list (λ output. IsApartFrom script.now standard.now output.file.identity)) }
+    ensures outputs { IfOk result (λ list. IfSome list (λ output. clashes output.file.identity uplink.now ≡ false)) }
 {
     let Some(place) = place else {
         return Ok(None);
     };
     let output = open_output(system, place, script, standard)?;
-    if output.open.identity.clashes(uplink) {
+    if output.file.identity.clashes(uplink) {
         return Err(OutputsFault::Unopened(place));
     }
     Ok(Some(output))
@@ -85,10 +85,10 @@ fn empty_output<'a, S: System>(
     script: &Identity,
     standard: &StandardFiles,
 ) -> Result<(), OutputsFault<'a>>
-    requires apart { IsApartFrom script.now standard.now output.now.open.identity }
+    requires apart { IsApartFrom script.now standard.now output.now.file.identity }
     ensures fault { IfErr result (λ e. e ≡ OutputsFault.Unopened output.now.place) }
 {
-    match empty_apart(system, &output.open, script, standard) {
+    match empty_apart(system, &output.file, script, standard) {
         Ok(()) => Ok(()),
         Err(_) => Err(OutputsFault::Unopened(output.place)),
     }
@@ -102,8 +102,8 @@ fn empty_outgoing<'a, S: System>(
     script: &Identity,
     standard: &StandardFiles,
 ) -> Result<(), OutputsFault<'a>>
-    requires apart { IfSome outgoing.now (λ output. IsApartFrom script.now standard.now output.open.identity) }
-    requires outputs { IfSome outgoing.now (λ output. clashes output.open.identity uplink.now ≡ false) }
+    requires apart { IfSome outgoing.now (λ output. IsApartFrom script.now standard.now output.file.identity) }
+    requires outputs { IfSome outgoing.now (λ output. clashes output.file.identity uplink.now ≡ false) }
 {
     match outgoing {
         Some(output) => empty_output(system, output, script, standard),
@@ -118,8 +118,8 @@ fn buffered<'a, O: Write + Drop>(
 ) -> Result<BufferedOutput<'a, O>, AllocError>
     ensures well { IfOk result (λ file. ⟦<ToWrite<BufWriter<O>> as Sink>⟧.has_failed file.sink ≡ false) }
 {
-    let Output { place, open } = output;
-    let sink = buffered_sink(alloc, kept_back(false), open.file)?;
+    let Output { place, file } = output;
+    let sink = buffered_sink(alloc, kept_back(false), file.file)?;
     Ok(BufferedOutput { place, sink })
 }
 
@@ -167,7 +167,7 @@ pub(crate) fn open_outputs<'a, S: System>(
 {
     let standard = system.standard_files().in_use(places.take_output());
     let uplink = open_output(system, places.uplink, script, &standard)?;
-    let identity = uplink.open.identity;
+    let identity = uplink.file.identity;
     let outgoing = open_outgoing(system, places.outgoing, &identity, script, &standard)?;
     empty_output(system, &uplink, script, &standard)?;
     empty_outgoing(system, &outgoing, &identity, script, &standard)?;
