@@ -10,6 +10,7 @@ import tempfile
 from checks import recordings as it
 from checks.bursts import CONTROL_BLOCK, data_burst, information_of, sealed
 from checks.captures import CAPTURED
+from checks.make import SCENE
 from checks.program import Room, summary
 from checks.text_lines import text_of
 
@@ -31,6 +32,8 @@ ANSWERED = [
     ["show", "nowhere"], ["show", "long.dmri"], ["show", "long.dmri", "--json"], ["show", "long.dmri", "--strip"],
     ["log", "one.dmru"], ["log", "one.dmru", "--csv"], ["log", "one.dmru", "--json", "--llid", 1], ["log", "cut.dmru"],
     ["log", "nowhere"], ["log", "long.dmri"], ["log", "one.dmru", "--start", "now"], ["log", "--help"],
+    ["make", "scene.txt", "made", "--outgoing", "list"], ["make", "scene.txt", "-"], ["make", "cut.txt", "made"],
+    ["make", "nowhere", "made"], ["make", "scene.txt", "scene.txt"], ["make", "--help"],
     ["damage", "one.dmru", "-"], ["damage", "one.dmru", "made", "--errors", 500], ["damage", "cut.dmru", "made"],
     ["damage", "long.dmri", "made"], ["damage", "nowhere", "made"], ["damage", "one.dmru", "one.dmru"], ["damage", "--help"],
     ["compare", "one.dmru", "one.dmru"], ["compare", "one.dmru", "cut.dmru"], ["compare", "long.dmri", "long.dmri"],
@@ -201,6 +204,7 @@ def check_answers(report, shim):
         text, _ = text_of(it.ONE_CSBK)
         (room.path / "one.txt").write_bytes(text)
         (room.path / "one.pcap").write_bytes(CAPTURED)
+        (room.path / "scene.txt").write_text(SCENE)
         (room.path / "cut.txt").write_bytes(text[:-9])
         for words in ANSWERED:
             expect_answer(report, shim, words, room.path)

@@ -7,6 +7,7 @@ import subprocess
 import tempfile
 
 from checks import captures, recordings
+from checks.make import SCENE, SCENE_DOWNLINK
 from checks.program import Room
 
 MANUAL = "share/man/man1/dmrgate.1"
@@ -39,6 +40,7 @@ Commands:
   slot     Says what one burst is
   show     Lists what a file holds
   log      Lists what a repeater repeats: who calls whom
+  make     Makes a recording of transmissions that are written down
   damage   Turns bits of a recording, within the limits or at a rate
   compare  Tells where two files differ
   import   Makes a file of a run from another format
@@ -170,6 +172,46 @@ Example:
   dmrgate log uplink.dmru --llid 1 --start 2026-01-31T12:00:00Z --csv
 
 The lines, the columns and the page are described in docs/protocol.md.
+""",
+    "make": """Makes a recording of transmissions that are written down
+
+Usage: dmrgate make [OPTIONS] <SCRIPT> <UPLINK>
+
+Arguments:
+  <SCRIPT>  The script, to read; - is standard input
+  <UPLINK>  The uplink recording, to write; - is standard output
+
+Options:
+      --outgoing <FILE>  The datagrams that the script sends, to write
+  -h, --help             Print help
+
+A script has a statement a line. It names a slot, and then what is sent in it:
+what the listing says of a transmission, and behind a colon what the strip
+shows of it. # begins a remark. Of radio 2, which calls talk group 1 and is lost
+for a moment, and of radio 4, which sends a status in the other slot:
+
+  colour 1
+  slot 1
+  group call 2 -> 1: H .. ABCDEF A..DEF T
+  slot 2
+  at 12
+  status 4 -> 1, port 1 -> 2, status 5
+  frames 40
+
+Between two transmissions stands what `silence N` or `at FRAME` say, and else
+the least silence that may. Each burst is the exact encoding of what is said.
+`send at FRAME, UDP 12.0.0.1:5016 -> 12.0.0.2:5018` is a datagram for the
+outgoing list of a run, which --outgoing names.
+
+Status 0: done, and the counts are in a line on standard output, or on standard
+error where a file goes to standard output; 1: a fault, which is told on
+standard error, of the script with the number of its line; 2: the command line.
+Of a script that is refused nothing is written.
+
+Example:
+  dmrgate make scene.txt - | dmrgate show - --strip
+
+The statements are described in docs/protocol.md.
 """,
     "damage": """Turns bits of a recording, within the limits or at a rate
 
@@ -458,8 +500,8 @@ def offered(report, *words):
     return set(ran.stdout.split())
 
 
-def check_completions(report, top, run, slot, show, log, damage, compare, carrying, listing, capturing):
-    commands = {"run", "slot", "show", "log", "damage", "compare", "import", "export"}
+def check_completions(report, top, run, slot, show, log, make, damage, compare, carrying, listing, capturing):
+    commands = {"run", "slot", "show", "log", "make", "damage", "compare", "import", "export"}
     for words, wanted in (
         (["dmrgate", ""], {*commands, "help"} | top),
         (["dmrgate", "-"], top),
@@ -487,6 +529,11 @@ def check_completions(report, top, run, slot, show, log, damage, compare, carryi
         (["dmrgate", "log", "READ"], {"README.md"}),
         (["dmrgate", "log", "--start", ""], set()),
         (["dmrgate", "log", "--", "READ"], {"README.md"}),
+        (["dmrgate", "make", "-"], make),
+        (["dmrgate", "make", "READ"], {"README.md"}),
+        (["dmrgate", "make", "README.md", "CHANGE"], {"CHANGELOG.md"}),
+        (["dmrgate", "make", "--outgoing", "READ"], {"README.md"}),
+        (["dmrgate", "make", "--", "READ"], {"README.md"}),
         (["dmrgate", "damage", "-"], damage),
         (["dmrgate", "damage", "READ"], {"README.md"}),
         (["dmrgate", "damage", "README.md", "CHANGE"], {"CHANGELOG.md"}),
@@ -523,10 +570,10 @@ def check_completions(report, top, run, slot, show, log, damage, compare, carryi
         report.expect(f"bash offers for {words}", had == wanted, had ^ wanted)
     text = (report.top / ZSH).read_text()
     begin = text.index("    run)")
-    later = r"^    (?:slot|show|log|damage|compare|import|export|help)\)$"
+    later = r"^    (?:slot|show|log|make|damage|compare|import|export|help)\)$"
     parts = [text[:begin], *re.split(later, text[begin:], flags=re.MULTILINE)]
-    names = "the program", "run", "slot", "show", "log", "damage", "compare", "import", "export"
-    for name, part, wanted in zip(names, parts, (top, run, slot, show, log, damage, compare, listing, capturing)):
+    names = "the program", "run", "slot", "show", "log", "make", "damage", "compare", "import", "export"
+    for name, part, wanted in zip(names, parts, (top, run, slot, show, log, make, damage, compare, listing, capturing)):
         report.expect(f"zsh's options of {name}", options_in(part) == wanted, options_in(part) ^ wanted)
         kinds = 2 if name in ("import", "export") else 1
         is_so = name == "the program" or part.count("_arguments -S ") == kinds
@@ -537,7 +584,8 @@ def check_completions(report, top, run, slot, show, log, damage, compare, carryi
     everywhere = {"--help"}
     marks = (
         ("the program", "__fish_use_subcommand", top), ("run", "from run'", run), ("show", "from show'", show),
-        ("log", "from log'", log), ("damage", "from damage'", damage), ("compare", "from compare'", compare),
+        ("log", "from log'", log), ("make", "from make'", make), ("damage", "from damage'", damage),
+        ("compare", "from compare'", compare),
         ("import datagrams", "from import; and __fish_seen_subcommand_from datagrams'", listing),
         ("export datagrams", "from export; and __fish_seen_subcommand_from datagrams'", capturing),
     )
@@ -567,10 +615,10 @@ def expect_live(report, name, room, sample, command):
 
 
 def check_examples(report):
-    """The manual's examples run: over a file, to a picture, and between the ports of a modem."""
+    """The manual's examples run: over a file, to a picture, of a script, and between the ports of a modem."""
     text = (report.top / MANUAL).read_text()
     text = text[text.index(".SH EXAMPLES") :].replace("\\-", "-")
-    over_file, to_picture, live = re.findall(r"^\.nf\n(.*?)^\.fi$", text, re.MULTILINE | re.DOTALL)
+    over_file, to_picture, of_script, live = re.findall(r"^\.nf\n(.*?)^\.fi$", text, re.MULTILINE | re.DOTALL)
     sample = report.top / "samples/call"
     line = (sample / "summary.txt").read_text()
     with Room(report) as room:
@@ -583,6 +631,9 @@ def check_examples(report):
         ran, strip = shell(f"PATH=$PWD:$PATH; {to_picture}", room.path), shell("./dmrgate show out.dmrd --strip", room.path)
         is_so = (ran.returncode, ran.stdout, ran.stderr) == (0, strip.stdout, line)
         report.expect("the manual's picture", is_so and strip.stdout, ran)
+        (room.path / "scene.txt").write_text(SCENE)
+        ran = shell(f"PATH=$PWD:$PATH; {of_script}", room.path)
+        report.expect("the manual's picture of a script", (ran.returncode, ran.stdout) == (0, SCENE_DOWNLINK), ran)
         expect_live(report, "the manual's run between the ports of a modem", room, sample, live)
 
 
@@ -630,6 +681,10 @@ def check_readme(report):
             ran = shell(command, room.path)
             lines = re.sub(r"^    ", "", shown, flags=re.MULTILINE)
             report.expect(f"what is shown: {command}", (ran.returncode, ran.stdout) == (0, lines), ran)
+        ran = shell(re.search(r"^    (printf .* \./dmrgate make .*)$", text, re.MULTILINE)[1], room.path)
+        strip = shell("./dmrgate show scene.dmru --strip", room.path)
+        is_so = (ran.returncode, strip.stdout) == (0, "      0 1  H..ABCDEFA..DEFT\n      0 2  ................\n")
+        report.expect("the README's recording of a script", is_so, (ran, strip))
         (room.path / "hosts.pcap").write_bytes(captures.CAPTURED)
         ran = shell(re.search(r"^    (\./dmrgate import datagrams .*)$", text, re.MULTILINE)[1], room.path)
         records = recordings.outgoing_record(0) + recordings.outgoing_record(16)
@@ -638,7 +693,7 @@ def check_readme(report):
         for name in ("one.dmru", "two.dmru"):
             shutil.copy(sample / "uplink.dmru", room.path / name)
         room.uplink.unlink()
-        shell("rm -f mine.dmru calls.dmru damaged.dmru", room.path)
+        shell("rm -f mine.dmru calls.dmru damaged.dmru scene.dmru", room.path)
         ran = shell(re.search(r"^    (ls .* xargs .*)$", text, re.MULTILINE)[1], room.path)
         report.expect("many at once", (ran.returncode, ran.stdout) == (0, 2 * (line + "\n")), ran)
         made = [(room.path / f"{name}.dmru.dmrd").read_bytes() for name in ("one", "two")]
@@ -648,15 +703,15 @@ def check_readme(report):
 def check(report):
     check_alike(report)
     options = check_help(report)
-    commands = "", "run", "slot", "show", "log", "damage", "compare", "import text", "import datagrams", "export datagrams"
-    top, run, slot, show, log, damage, compare, carrying, listing, capturing = (options[it] for it in commands)
+    commands = "", "run", "slot", "show", "log", "make", "damage", "compare", "import text", "import datagrams", "export datagrams"
+    top, run, slot, show, log, make, damage, compare, carrying, listing, capturing = (options[it] for it in commands)
     ran = report.call("--version")
     version = ran.out.decode().strip()
     is_version = re.fullmatch(r"dmrgate \d+\.\d+\.\d+", version) and ran.status == 0 and ran.err == b""
     report.expect("the version", is_version, ran)
     short = report.call("-V")
     report.expect("-V is --version", (short.status, short.out, short.err) == (ran.status, ran.out, ran.err), short)
-    check_manual(report, top | run | slot | show | log | damage | compare | listing | capturing, version)
+    check_manual(report, top | run | slot | show | log | make | damage | compare | listing | capturing, version)
     check_examples(report)
-    check_completions(report, top, run, slot, show, log, damage, compare, carrying, listing, capturing)
+    check_completions(report, top, run, slot, show, log, make, damage, compare, carrying, listing, capturing)
     check_readme(report)

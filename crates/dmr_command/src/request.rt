@@ -145,6 +145,7 @@ pub(crate) fn request_by<'a>(command: Option<(&'a str, &ArgMatches<'a>)>) -> Req
         Listed::Slot => Request::Slot(text_of(given, "burst")),
         Listed::Show
         | Listed::Log
+        | Listed::Make
         | Listed::Damage
         | Listed::Compare
         | Listed::Import

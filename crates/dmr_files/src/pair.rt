@@ -44,8 +44,9 @@ fn is_apart(output: &Identity, input: &Identity, standard: &StandardFiles) -> bo
     !output.clashes(input) && !output.is_behind_any(standard)
 }
 
-/// Opens a file that is to be written, and refuses one that is in use.
-fn open_apart<S: System>(
+/// Opens a file that is to be written, and refuses one that is the input or stands behind a standard stream. What it holds is left
+/// as it is.
+pub fn open_apart<S: System>(
     system: &S,
     place: Place<'_>,
     input: &Identity,
@@ -61,7 +62,7 @@ fn open_apart<S: System>(
 }
 
 /// Empties an output, which is neither the input nor behind a standard stream.
-fn empty_apart<S: System>(
+pub fn empty_apart<S: System>(
     system: &S,
     output: &Open<S::Output>,
     input: &Identity,

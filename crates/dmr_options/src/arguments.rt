@@ -4,7 +4,7 @@ use clap::{Arg, ArgAction, value_parser};
 use std::alloc::{AllocError, Global};
 
 /// An option that takes the path of a file.
-pub(crate) fn file<'a>(alloc: Global, name: &'a str, help: &'a str) -> Arg<'a> {
+pub fn file<'a>(alloc: Global, name: &'a str, help: &'a str) -> Arg<'a> {
     Arg::new(alloc, name)
         .long(name)
         .value_name("FILE")

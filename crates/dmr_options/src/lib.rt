@@ -3,7 +3,7 @@
 //! `dmrgate` is several programs behind one command, so that whoever needs one waits for none of the others. Each program knows
 //! every command, with a line of help (`Listed`, `bare_command`), and has the options of its own commands alone. `command`
 //! makes a command line of these, for the command line parser. `repeating_commands` is that of the program that repeats; those of
-//! other programs are made of the same pieces (`number`, `colour`, `frame`, `word`).
+//! other programs are made of the same pieces (`file`, `number`, `colour`, `frame`, `word`).
 //!
 //! `words_of` gives the words that a program was started with. `text_of`, `given_text_of`, `is_text_of` and `flag_of` tell what was
 //! given for an option, by `specs/Found.antt`. Where nothing is to be done, three calls print why, and answer the exit status:
@@ -24,7 +24,7 @@ mod texts;
 mod words;
 
 pub use answer::{print_answer, print_elsewhere, print_unwritten};
-pub use arguments::{colour, frame, number, word};
+pub use arguments::{colour, file, frame, number, word};
 pub use commands::{Listed, bare_command, command};
 pub use found::{flag_of, given_text_of, is_text_of, text_of};
 pub use repeating::repeating_commands;

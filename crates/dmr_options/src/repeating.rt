@@ -115,10 +115,11 @@ pub fn repeating_commands<'a>(alloc: Global) -> Result<Command<'a>, AllocError> 
     let slot = slot_command(alloc)?;
     let show = bare_command(alloc, Listed::Show);
     let log = bare_command(alloc, Listed::Log);
+    let make = bare_command(alloc, Listed::Make);
     let damage = bare_command(alloc, Listed::Damage);
     let compare = bare_command(alloc, Listed::Compare);
     let import = bare_command(alloc, Listed::Import);
     let export = bare_command(alloc, Listed::Export);
-    let commands = vec![in alloc; run, slot, show, log, damage, compare, import, export]?;
+    let commands = vec![in alloc; run, slot, show, log, make, damage, compare, import, export]?;
     command(alloc, commands)
 }

@@ -5,6 +5,7 @@ mod command_line;
 mod comparing;
 mod damaging;
 mod logging;
+mod making;
 mod text;
 
 use dmr_record::{FromRead, ToWrite};

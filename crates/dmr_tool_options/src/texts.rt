@@ -35,6 +35,30 @@ error with the octet at which its record begins; 2: the command line.\n\n\
 Example:\n  dmrgate log uplink.dmru --llid 1 --start 2026-01-31T12:00:00Z --csv\n\n\
 The lines, the columns and the page are described in docs/protocol.md.";
 
+/// What help says behind the options of `make`.
+pub(crate) const ABOUT_SCRIPTS: &str =
+    "A script has a statement a line. It names a slot, and then what is sent in it:\n\
+what the listing says of a transmission, and behind a colon what the strip\n\
+shows of it. # begins a remark. Of radio 2, which calls talk group 1 and is lost\n\
+for a moment, and of radio 4, which sends a status in the other slot:\n\n\
+\x20 colour 1\n\
+\x20 slot 1\n\
+\x20 group call 2 -> 1: H .. ABCDEF A..DEF T\n\
+\x20 slot 2\n\
+\x20 at 12\n\
+\x20 status 4 -> 1, port 1 -> 2, status 5\n\
+\x20 frames 40\n\n\
+Between two transmissions stands what `silence N` or `at FRAME` say, and else\n\
+the least silence that may. Each burst is the exact encoding of what is said.\n\
+`send at FRAME, UDP 12.0.0.1:5016 -> 12.0.0.2:5018` is a datagram for the\n\
+outgoing list of a run, which --outgoing names.\n\n\
+Status 0: done, and the counts are in a line on standard output, or on standard\n\
+error where a file goes to standard output; 1: a fault, which is told on\n\
+standard error, of the script with the number of its line; 2: the command line.\n\
+Of a script that is refused nothing is written.\n\n\
+Example:\n  dmrgate make scene.txt - | dmrgate show - --strip\n\n\
+The statements are described in docs/protocol.md.";
+
 /// What help says behind the options of `damage`.
 pub(crate) const ABOUT_DAMAGE: &str =
     "Without rates, damage stays within the limits of a repeater of this colour code.\n\

@@ -6,4 +6,5 @@ pub mod Datagrams
 pub mod Filters
 pub mod Listed
 pub mod LogRequest
+pub mod Making
 pub mod Request

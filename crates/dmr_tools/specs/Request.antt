@@ -15,15 +15,17 @@ use Rattle.dmr_tools.specs.Damaging.{IsDamageOf}
 use Rattle.dmr_tools.specs.Datagrams.{AreExportSettings, AreImportSettings}
 use Rattle.dmr_tools.specs.Filters.{IsFilterOf, is_backwards}
 use Rattle.dmr_tools.specs.LogRequest.{AreLogSettings, ArePageSettings}
+use Rattle.dmr_tools.specs.Making.{AreMakePlaces, share_output, take_output}
 use Rattle.dmr_tools.specs.declared.comparison.Comparison.{Comparison}
+use Rattle.dmr_tools.specs.declared.make_places.MakePlaces.{MakePlaces}
 use Rattle.dmr_tools.specs.declared.request.ExportFormat.{ExportFormat}
 use Rattle.dmr_tools.specs.declared.request.ExportFormat.TheVariants as to
 use Rattle.dmr_tools.specs.declared.request.ImportFormat.{ImportFormat}
 use Rattle.dmr_tools.specs.declared.request.ImportFormat.TheVariants as from
 use Rattle.dmr_tools.specs.declared.request.PairPlaces.{PairPlaces}
 use Rattle.dmr_tools.specs.declared.request.Request.{Request}
-use Rattle.dmr_tools.specs.declared.request.Request.TheVariants.{Show, Backwards, Log, LogPage, LogRefused, Import, Export}
-use Rattle.dmr_tools.specs.declared.request.Request.TheVariants.{Damage, Compare, SharedInput, NoStart, Elsewhere}
+use Rattle.dmr_tools.specs.declared.request.Request.TheVariants.{Show, Backwards, Log, LogPage, LogRefused, Make, SharedOutput}
+use Rattle.dmr_tools.specs.declared.request.Request.TheVariants.{Damage, Compare, SharedInput, Import, Export, NoStart, Elsewhere}
 
 -- a strip where it is asked for, JSON where that alone is, and else a listing
 abbrev pub form_by : Bool → Bool → Form
@@ -87,15 +89,18 @@ NamesFormat given =
     (subcommand_name_of given ≡ Some (codes "text")) ⊎ (subcommand_name_of given ≡ Some (codes "datagrams"))
 
 -- What a command with these options asks for: `show` for a listing, which is refused where it begins beyond its end; `log` for a
--- log, for its page, or for one that is refused; `damage` for a recording with wrong bits; `compare` for a comparison, which is
--- refused where both files would be standard input; `import` for a file from another format, and `export` for one in it, which is
--- refused where it begins at what is no time; and any other what isn't done here.
+-- log, for its page, or for one that is refused; `make` for the files of a script, which are refused where both would be standard
+-- output; `damage` for a recording with wrong bits; `compare` for a comparison, which is refused where both files would be standard
+-- input; `import` for a file from another format, and `export` for one in it, which is refused where it begins at what is no time;
+-- and any other what isn't done here.
 abbrev pub IsAskedOfTools : Option (Text × ArgMatches) → Request → Type 0
 IsAskedOfTools None (Show name form filter) = ⊥
 IsAskedOfTools None Backwards = ⊥
 IsAskedOfTools None (Log name settings) = ⊥
 IsAskedOfTools None (LogPage name settings) = ⊥
 IsAskedOfTools None (LogRefused refusal) = ⊥
+IsAskedOfTools None (Make places) = ⊥
+IsAskedOfTools None SharedOutput = ⊥
 IsAskedOfTools None (Damage damage seed places) = ⊥
 IsAskedOfTools None (Compare comparison) = ⊥
 IsAskedOfTools None SharedInput = ⊥
@@ -116,6 +121,11 @@ IsAskedOfTools (Some command) (LogPage name settings) =
     (command.0 ≡ codes "log") × (name.now ≡ text_of (found_of command.1) (codes "uplink"))
     × ArePageSettings (found_of command.1) settings
 IsAskedOfTools (Some command) (LogRefused refusal) = command.0 ≡ codes "log"
+IsAskedOfTools (Some command) (Make places) =
+    (command.0 ≡ codes "make") × AreMakePlaces (found_of command.1) places × (share_output places ≡ false)
+IsAskedOfTools (Some command) SharedOutput =
+    (command.0 ≡ codes "make")
+    × ((places : MakePlaces) × AreMakePlaces (found_of command.1) places × (share_output places ≡ true))
 IsAskedOfTools (Some command) (Damage damage seed places) =
     (command.0 ≡ codes "damage") × IsDamageOf (found_of command.1) damage
     × IsNumberOf 64 (found_of command.1) (codes "seed") seed × ArePairPlaces (found_of command.1) places
@@ -131,8 +141,9 @@ IsAskedOfTools (Some command) (Export format places) =
 IsAskedOfTools (Some command) NoStart =
     (command.0 ≡ codes "export") × (subcommand_name_of command.1 ≡ Some (codes "datagrams"))
 IsAskedOfTools (Some command) (Elsewhere name) =
-    (command.0 ≡ codes "show" → ⊥) × (command.0 ≡ codes "log" → ⊥) × (command.0 ≡ codes "damage" → ⊥)
-    × (command.0 ≡ codes "compare" → ⊥) × (command.0 ≡ codes "import" → NamesFormat command.1 → ⊥)
+    (command.0 ≡ codes "show" → ⊥) × (command.0 ≡ codes "log" → ⊥) × (command.0 ≡ codes "make" → ⊥)
+    × (command.0 ≡ codes "damage" → ⊥) × (command.0 ≡ codes "compare" → ⊥)
+    × (command.0 ≡ codes "import" → NamesFormat command.1 → ⊥)
     × (command.0 ≡ codes "export" → NamesFormat command.1 → ⊥)
     × (name.now ≡ command.0)
 
@@ -143,8 +154,9 @@ IsShow (Log name settings) = Unit {0}
 IsShow (LogPage name settings) = Unit {0}
 IsShow request = ⊥
 
--- One file is to be made of another: from another format, or in one, or with wrong bits.
+-- One file is to be made of another: from another format, or in one, or with wrong bits, or of a script.
 abbrev pub IsCarrying : Request → Type 0
+IsCarrying (Make places) = Unit {0}
 IsCarrying (Damage damage seed places) = Unit {0}
 IsCarrying (Import format places) = Unit {0}
 IsCarrying (Export format places) = Unit {0}
@@ -160,6 +172,7 @@ abbrev pub IsTool : Request → Type 0
 IsTool (Show name form filter) = Unit {0}
 IsTool (Log name settings) = Unit {0}
 IsTool (LogPage name settings) = Unit {0}
+IsTool (Make places) = Unit {0}
 IsTool (Damage damage seed places) = Unit {0}
 IsTool (Compare comparison) = Unit {0}
 IsTool (Import format places) = Unit {0}
@@ -168,6 +181,7 @@ IsTool request = ⊥
 
 -- What is asked for is to be written to standard output, so that no line is printed there.
 abbrev pub is_to_output : Request → Bool
+is_to_output (Make places) = take_output places
 is_to_output (Damage damage seed places) = is_standard places.output
 is_to_output (Import format places) = is_standard places.output
 is_to_output (Export format places) = is_standard places.output

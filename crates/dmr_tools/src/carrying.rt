@@ -6,21 +6,18 @@ ghost use Rattle.dmr_lines.specs.Status.{failure, success};
 ghost use Rattle.dmr_tools.specs.Carrying.{is_to_octets};
 
 use crate::datagrams::is_slot;
+use crate::printing::{print_counts, print_fault};
 use crate::request::{ExportFormat, ImportFormat, PairPlaces};
-use arrayvec::ArrayString;
 use dmr_capture::CaptureFault;
 use dmr_damage::{Damage, DamageEnd, DamageSettings, Damaged, SettingsFault, damage_recording};
 use dmr_datagrams::{ExportedDatagrams, ImportedDatagrams, export_datagrams, import_datagrams};
-use dmr_files::{
-    BufferedPair, PairFault, Place, System, is_sent_to_terminal, open_buffered, write_out,
-};
-use dmr_lines::{FAILURE, SUCCESS, ToldName, line_of, print_error, print_line};
+use dmr_files::{BufferedPair, PairFault, System, is_sent_to_terminal, open_buffered, write_out};
+use dmr_lines::{FAILURE, SUCCESS, ToldName};
 use dmr_record::{Sink, Source};
 use dmr_recording::FaultLine;
-use dmr_show::print_want_of_memory;
 use dmr_text::{Carried, ExportEnd, ImportEnd, LineFault, export_text, import_text};
 use std::alloc::Global;
-use std::fmt::{self, Write};
+use std::fmt;
 
 /// How one file is made of another.
 #[derive(Clone, Copy)]
@@ -253,48 +250,6 @@ fn carry<S: System>(
     }
 }
 
-/// Tells a fault, behind the name of the file that has it.
-fn print_fault<E: Sink>(alloc: Global, fault: &CarryFault, places: PairPlaces<'_>, err: &mut E)
-    requires err { E.has_failed err.old ≡ false }
-    ensures error { E.has_failed err.new ≡ false → PutsError (E.held err.old) (E.held err.new) }
-{
-    let told = ToldFault {
-        fault,
-        input: ToldName(places.input.name()),
-        output: ToldName(places.output.name()),
-    };
-    match format!(in alloc; "{told}") {
-        Ok(text) => {
-            let _failure = print_error(err, line_of(text.as_str()), FAILURE);
-        }
-        Err(_) => print_want_of_memory(err),
-    }
-}
-
-/// Prints what was done, and answers the exit status: to the first sink, or to the second where the output is standard output.
-fn print_done<K: Sink, E: Sink>(done: &Done, output: Place<'_>, out: &mut K, err: &mut E) -> u8
-    requires out { K.has_failed out.old ≡ false }
-    requires err { E.has_failed err.old ≡ false }
-    ensures line { is_standard output.entry ≡ false → K.has_failed out.new ≡ false → PutsLine (K.held out.old) (K.held out.new) }
-    ensures line_alone { is_standard output.entry ≡ false → err.new ≡ err.old }
-    ensures beside_line { is_standard output.entry ≡ true → E.has_failed err.new ≡ false
-        → PutsLine (E.held err.old) (E.held err.new) }
-    ensures beside { is_standard output.entry ≡ true → out.new ≡ out.old }
-    ensures status { K.has_failed out.new ≡ false → E.has_failed err.new ≡ false → result ≡ success }
-    ensures out_failed { K.has_failed out.new ≡ true → result ≡ failure }
-    ensures err_failed { E.has_failed err.new ≡ true → result ≡ failure }
-{
-    let mut text = ArrayString::<128>::new();
-    // There is room for each text that this can be.
-    let _ = write!(text, "{done}");
-    let line = line_of(text.as_str());
-    if output.is_standard() {
-        print_line(err, line, SUCCESS)
-    } else {
-        print_line(out, line, SUCCESS)
-    }
-}
-
 /// Prints how making a file ended, and answers the exit status: what was done, or a fault, which goes to the second sink.
 fn print_end<K: Sink, E: Sink>(
     alloc: Global,
@@ -317,9 +272,14 @@ fn print_end<K: Sink, E: Sink>(
     ensures err_failed { E.has_failed err.new ≡ true → result ≡ failure }
 {
     match end {
-        Ok(done) => print_done(done, places.output, out, err),
+        Ok(done) => print_counts(done, places.output.is_standard(), out, err),
         Err(fault) => {
-            print_fault(alloc, fault, places, err);
+            let told = ToldFault {
+                fault,
+                input: ToldName(places.input.name()),
+                output: ToldName(places.output.name()),
+            };
+            print_fault(alloc, &told, err);
             FAILURE
         }
     }

@@ -12,6 +12,7 @@ ghost use Rattle.dmr_tools.specs.Request.{IsCarrying, IsComparison, IsTool, IsSh
 use crate::carrying::{Direction, carry_file};
 use crate::comparing::compare_files;
 use crate::listing::{Listing, list_file};
+use crate::making::make_files;
 use crate::request::{LogRefusal, Request, request_of};
 use dmr_files::System;
 use dmr_lines::{USAGE, line_of, print_error};
@@ -28,6 +29,9 @@ const NO_TIME: &str = "--start is no time, as 2026-01-31T12:00:00Z";
 
 /// What is told of a comparison of standard input with itself.
 const SHARED_INPUT: &str = "A and B can't both be standard input";
+
+/// What is told of two files of a script that would both be standard output.
+const SHARED_OUTPUT: &str = "UPLINK and --outgoing can't both be standard output";
 
 /// What is told of settings of a log that are refused.
 fn log_refusal_text(refusal: LogRefusal) -> &'static str {
@@ -114,6 +118,8 @@ fn fulfil<S: System, K: Sink, E: Sink>(
         }
         Request::NoStart => print_error(err, NO_TIME, USAGE),
         Request::LogRefused(refusal) => print_error(err, line_of(log_refusal_text(refusal)), USAGE),
+        Request::Make(places) => make_files(alloc, system, &places, out, err),
+        Request::SharedOutput => print_error(err, SHARED_OUTPUT, USAGE),
         Request::Compare(comparison) => compare_files(alloc, system, &comparison, out, err),
         Request::SharedInput => print_error(err, SHARED_INPUT, USAGE),
         Request::Elsewhere(_) => print_elsewhere(err),

@@ -11,6 +11,7 @@ ghost use Rattle.dmr_tools.specs.Request.{ArePairPlaces};
 use crate::comparison::Comparison;
 use crate::damaging::{damage_of, seed_of};
 use crate::datagrams::{exported_slot_of, import_settings_of, start_of};
+use crate::make_places::MakePlaces;
 use clap::{ArgMatches, Error};
 use dmr_damage::Damage;
 use dmr_datagrams::{ExportSettings, ImportSettings};
@@ -80,6 +81,10 @@ pub enum Request<'a> {
     },
     /// To print a log with settings that are refused.
     LogRefused(LogRefusal),
+    /// To make a recording of a script.
+    Make(MakePlaces<'a>),
+    /// To make a recording and an outgoing list, which would both be standard output.
+    SharedOutput,
     /// To write a recording with wrong bits.
     Damage {
         damage: Damage,
@@ -262,6 +267,17 @@ fn places_of<'a>(files: &ArgMatches<'a>) -> PairPlaces<'a>
     }
 }
 
+/// What a command line of `make` asks for.
+fn make_request<'a>(make: &ArgMatches<'a>) -> Request<'a>
+    ensures asked { IsAskedOfTools (Some (record { 0 = codes "make"; 1 = make.now })) result }
+{
+    let places = MakePlaces::of(make);
+    if places.share_output() {
+        return Request::SharedOutput;
+    }
+    Request::Make(places)
+}
+
 /// What a command line of `damage` asks for.
 fn damage_request<'a>(damage: &ArgMatches<'a>) -> Request<'a>
     ensures asked { IsAskedOfTools (Some (record { 0 = codes "damage"; 1 = damage.now })) result }
@@ -341,6 +357,7 @@ pub(crate) fn request_by<'a>(command: Option<(&'a str, &ArgMatches<'a>)>) -> Req
     match listed {
         Listed::Show => show_request(given),
         Listed::Log => log_request(given),
+        Listed::Make => make_request(given),
         Listed::Damage => damage_request(given),
         Listed::Compare => compare_request(given),
         Listed::Import => import_request(given),

@@ -4,6 +4,7 @@ complete -c dmrgate -n __fish_use_subcommand -a run -d 'Repeat a recording of th
 complete -c dmrgate -n __fish_use_subcommand -a slot -d 'Say what one burst is'
 complete -c dmrgate -n __fish_use_subcommand -a show -d 'List what a file holds'
 complete -c dmrgate -n __fish_use_subcommand -a log -d 'List what a repeater repeats: who calls whom'
+complete -c dmrgate -n __fish_use_subcommand -a make -d 'Make a recording of transmissions that are written down'
 complete -c dmrgate -n __fish_use_subcommand -a damage -d 'Turn bits of a recording, within the limits or at a rate'
 complete -c dmrgate -n __fish_use_subcommand -a compare -d 'Tell where two files differ'
 complete -c dmrgate -n __fish_use_subcommand -a import -d 'Make a file of a run from another format'
@@ -11,7 +12,7 @@ complete -c dmrgate -n __fish_use_subcommand -a export -d 'Write a file of a run
 complete -c dmrgate -n __fish_use_subcommand -a help -d 'Print help'
 complete -c dmrgate -n __fish_use_subcommand -s V -l version -d 'Print the version'
 complete -c dmrgate -s h -l help -d 'Print help'
-complete -c dmrgate -n '__fish_seen_subcommand_from help' -a 'run slot show log damage compare import export'
+complete -c dmrgate -n '__fish_seen_subcommand_from help' -a 'run slot show log make damage compare import export'
 complete -c dmrgate -n '__fish_seen_subcommand_from run' -l uplink -rF -d 'The recording of the uplink, to read; - is standard input'
 complete -c dmrgate -n '__fish_seen_subcommand_from run' -l outgoing -rF -d 'The datagrams to send, to read; none without it'
 complete -c dmrgate -n '__fish_seen_subcommand_from run' -l downlink -rF -d 'The downlink, to write; - is standard output'
@@ -38,6 +39,8 @@ complete -c dmrgate -n '__fish_seen_subcommand_from log' -l html -d 'A page, a p
 complete -c dmrgate -n '__fish_seen_subcommand_from log' -l slot -x -a '1 2' -d 'The slot alone'
 complete -c dmrgate -n '__fish_seen_subcommand_from log' -l from -x -d 'The first frame that has lines'
 complete -c dmrgate -n '__fish_seen_subcommand_from log' -l to -x -d 'The last frame that has lines'
+complete -c dmrgate -n '__fish_seen_subcommand_from make' -F
+complete -c dmrgate -n '__fish_seen_subcommand_from make' -l outgoing -rF -d 'The datagrams that the script sends, to write'
 complete -c dmrgate -n '__fish_seen_subcommand_from damage' -F
 complete -c dmrgate -n '__fish_seen_subcommand_from damage' -l seed -x -d 'Another number, other damage'
 complete -c dmrgate -n '__fish_seen_subcommand_from damage' -l colour -x -d 'The colour code, 0 to 15'
