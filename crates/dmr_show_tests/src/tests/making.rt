@@ -70,21 +70,25 @@ impl System for Scripts {
 #[test]
 fn files_that_are_asked_for(rt: HostRuntime) -> Result<(), Fail> {
     let words = ["dmrgate", "make", "scene", "-"];
-    let Request::Make(MakePlaces {
-        script,
-        uplink,
-        outgoing: None,
-    }) = request_of(rt.alloc(), &words)?
+    let Request::Make(
+        MakePlaces {
+            script,
+            uplink,
+            outgoing: None,
+        },
+    ) = request_of(rt.alloc(), &words)?
     else {
         return Err(Fail::from("no script, or a list"));
     };
     assert!(rt; script.name() == "scene" && uplink.name() == "-");
     let words = ["dmrgate", "make", "--outgoing=list", "-", "up"];
-    let Request::Make(MakePlaces {
-        script,
-        uplink,
-        outgoing: Some(outgoing),
-    }) = request_of(rt.alloc(), &words)?
+    let Request::Make(
+        MakePlaces {
+            script,
+            uplink,
+            outgoing: Some(outgoing),
+        },
+    ) = request_of(rt.alloc(), &words)?
     else {
         return Err(Fail::from("no script, or no list"));
     };
@@ -104,12 +108,40 @@ fn what_is_printed_of_scripts(rt: HostRuntime) {
         ("scene", "-", "list", 0, "", counts),
         ("-", "up", "-", 0, "", counts),
         ("scene", "-", "-", 2, "", shared),
-        ("nowhere", "up", "list", 1, "", "error: nowhere: cannot open\n"),
-        ("refused", "nowhere", "list", 1, "", "error: refused: line 3: unknown word 'grup'\n"),
-        ("scene", "scene", "list", 1, "", "error: scene: cannot open\n"),
+        (
+            "nowhere",
+            "up",
+            "list",
+            1,
+            "",
+            "error: nowhere: cannot open\n",
+        ),
+        (
+            "refused",
+            "nowhere",
+            "list",
+            1,
+            "",
+            "error: refused: line 3: unknown word 'grup'\n",
+        ),
+        (
+            "scene",
+            "scene",
+            "list",
+            1,
+            "",
+            "error: scene: cannot open\n",
+        ),
         ("scene", "up", "scene", 1, "", "error: scene: cannot open\n"),
         ("scene", "up", "up", 1, "", "error: up: cannot open\n"),
-        ("scene", "full", "list", 1, "", "error: full: write failed\n"),
+        (
+            "scene",
+            "full",
+            "list",
+            1,
+            "",
+            "error: full: write failed\n",
+        ),
         ("scene", "up", "full", 1, "", "error: full: write failed\n"),
     ] {
         let words = ["dmrgate", "make", script, uplink, "--outgoing", list];
