@@ -3,6 +3,7 @@ pub mod Changing
 pub mod Colours
 pub mod Fitting
 pub mod Ordering
+pub mod Pausing
 pub mod Planned
 pub mod Torn
 pub mod Written

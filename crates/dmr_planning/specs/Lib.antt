@@ -1,6 +1,7 @@
 pub mod Counting
 pub mod Halts
 pub mod Pauses
+pub mod Pausing
 pub mod Planning
 pub mod Plans
 pub mod Refused

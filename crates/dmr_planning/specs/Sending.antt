@@ -72,8 +72,8 @@ planned_sendings statements sends = flat_map (said_records statements) sends
 -- 2. Their order.
 
 -- which statement says a record
-abbrev pub said_by : PlannedSend → ℕ
-said_by s = s.statement
+abbrev pub said_number : PlannedSend → ℕ
+said_number s = s.statement
 
 -- One stands in front of another: it is offered in an earlier frame, or in slot 1 of the same frame and not in slot 2, or in the
 -- same slot and frame by no later statement.
