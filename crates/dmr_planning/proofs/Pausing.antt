@@ -1,6 +1,6 @@
 -- Enough silences stand between the transmissions of a slot.
-use Rattle.std.proofs.Common.{◌≡◌, ℕ, zero, suc, ◌+◌, ◌-◌, ◌<◌, ◌≤◌, ◌⊎◌, inl, inr, nat_lt, Bool, true, false, List, [], ◌∷◌, ◌++◌}
-use Rattle.std.proofs.Common.{arith, refl, subst, sym, ap, ◌∙◌, Option, Some, None, Result, Ok, Err, if◌then◌else◌, slice_get}
+use Rattle.std.proofs.Common.{◌≡◌, ℕ, zero, suc, ◌+◌, ◌-◌, ◌≤◌, ◌⊎◌, inl, inr, nat_lt, Bool, true, false, List, [], ◌∷◌, ◌++◌}
+use Rattle.std.proofs.Common.{arith, refl, subst, sym, ap, ◌∙◌, Option, Some, None, Result, Ok, Err, if◌then◌else◌}
 use Rattle.std.specs.Option.{option_and_then}
 use Rattle.dmr_making.specs.Playing.{transmit_in, transmit_of}
 use Rattle.dmr_making.specs.declared.playing.PlacedTransmission.{PlacedTransmission}
@@ -8,7 +8,7 @@ use Rattle.dmr_planning.proofs.Planned.{IsNextThere, next_there, placed_start, s
 use Rattle.dmr_planning.specs.Pauses.{IsEnough, IsEnoughBetween, before_behind, begins_with_data, is_row, named_silences, needed}
 use Rattle.dmr_planning.specs.Pauses.{needed_behind, paused, paused_with, silenced, silenced_to, stands}
 use Rattle.dmr_planning.specs.Pausing.{ArePausedBetween, IsPausedBetween}
-use Rattle.dmr_planning.specs.Planning.{ArePlanned, ChangesSlot, Planned, Plans, planned_slot, transmit_at, with_slot}
+use Rattle.dmr_planning.specs.Planning.{ArePlanned, Planned, Plans, planned_slot, transmit_at, with_slot}
 use Rattle.dmr_planning.specs.Slots.{IsTransmitted, NumberedTransmit, SlotSoFar, count_behind, placed_behind, placed_behind_pause}
 use Rattle.dmr_planning.specs.declared.slot_state.Before.{Before}
 use Rattle.dmr_planning.specs.declared.slot_state.Before.TheVariants as before

@@ -1,7 +1,7 @@
 -- What is planned fits, and stands in order.
-use Rattle.std.proofs.Common.{◌≡◌, ℕ, zero, suc, ◌+◌, ◌-◌, ◌<◌, ◌≤◌, nat_lt, List, [], ◌∷◌, ◌++◌, length, All, Option, Some, None}
+use Rattle.std.proofs.Common.{◌≡◌, ℕ, zero, suc, ◌+◌, ◌-◌, ◌<◌, ◌≤◌, nat_lt, List, [], ◌∷◌, ◌++◌, All, Option, Some, None}
 use Rattle.std.proofs.Common.{IfSome}
-use Rattle.std.proofs.Common.{arith, refl, subst, sym, ap, ◌∙◌, Bool, true, false, slice_get, Result, Ok, Err, if◌then◌else◌, inl}
+use Rattle.std.proofs.Common.{arith, refl, subst, sym, ap, ◌∙◌, Bool, true, false, Result, Ok, Err, if◌then◌else◌, inl}
 use Rattle.std.proofs.Common.{inr}
 use Rattle.std.proofs.lemmas.List.Elements.{All-head, All-push, All-tail}
 use Rattle.std.specs.Option.{option_and_then}
@@ -11,14 +11,12 @@ use Rattle.dmr_making.specs.Senders.{IsSenderColour, IsSendable}
 use Rattle.dmr_making.specs.declared.playing.PlacedTransmission.{PlacedTransmission}
 use Rattle.dmr_planning.proofs.Fitting.{some_slots}
 use Rattle.dmr_planning.specs.Pauses.{paused, paused_with, needed, silenced, silenced_to, stands, named_silences}
-use Rattle.dmr_planning.specs.Planning.{ArePlanned, ChangesSlot, Planned, Plans, nothing_planned, number_of_slot, planned_slot}
+use Rattle.dmr_planning.specs.Planning.{ArePlanned, Planned, Plans, number_of_slot, planned_slot}
 use Rattle.dmr_planning.specs.Planning.{told_frames, with_slot}
 use Rattle.dmr_planning.specs.Plans.{HasSlot}
-use Rattle.dmr_planning.specs.Slots.{IsPlacedNext, IsSilenced, IsSilencedTo, IsTransmitted, NumberedTransmit, SlotSoFar}
+use Rattle.dmr_planning.specs.Slots.{IsTransmitted, NumberedTransmit, SlotSoFar}
 use Rattle.dmr_planning.specs.Slots.{count_behind, last_packet, placed_paused, placed_behind, placed_behind_pause}
-use Rattle.dmr_planning.specs.Slots.{slot_state_behind}
 use Rattle.dmr_planning.specs.declared.planner.ToldFrames.{ToldFrames}
-use Rattle.dmr_planning.specs.declared.sends.PlannedSend.{PlannedSend}
 use Rattle.dmr_planning.specs.declared.slot_state.SlotState.{SlotState}
 use Rattle.dmr_script.specs.Fits.{FitsNumbered, FitsSender, FitsStatement, FitsTransmit}
 use Rattle.dmr_script.specs.declared.fault.Refusal.{Refusal}
@@ -32,7 +30,6 @@ use Rattle.dmr_script.specs.declared.statement.Slot.TheVariants.{One, Two}
 use Rattle.dmr_script.specs.declared.statement.Statement.{Statement}
 use Rattle.dmr_script.specs.declared.statement.Statement.TheVariants as statement
 use Rattle.dmr_script.specs.declared.statement.Transmission.{Transmission}
-use Rattle.dmr_script.specs.declared.statement.Transmit.{Transmit}
 
 -- 1. Order.
 

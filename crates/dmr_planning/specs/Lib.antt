@@ -9,3 +9,4 @@ pub mod Sending
 pub mod Slots
 pub mod Syncs
 pub mod Tries
+pub mod WellFormed

@@ -1,7 +1,7 @@
 -- Where a slot stands, and which silences stand in front of a transmission.
 use Rattle.std.specs.Prelude.{◌≡◌, ◌≤◌, ◌⊎◌, ℕ, ◌+◌, ◌-◌, nat_lt, ◌==◌, Bool, true, false, List, [], ◌∷◌, Option, Some, None}
 use Rattle.std.specs.Prelude.{Result, Ok, Err}
-use Rattle.std.specs.Prelude.{if◌then◌else◌, is_none}
+use Rattle.std.specs.Prelude.{if◌then◌else◌}
 use Rattle.dmr_making.specs.Senders.{colour_of}
 use Rattle.dmr_planning.specs.declared.slot_state.Before.{Before}
 use Rattle.dmr_planning.specs.declared.slot_state.Before.TheVariants as before

@@ -1,12 +1,12 @@
 -- The records of the outgoing list.
-use Rattle.std.specs.Prelude.{◌≡◌, ℕ, ◌+◌, ◌<◌, ◌≤◌, ◌⊎◌, Bool, true, false, List, [], ◌∷◌, length, slice_get, Option, Some, None}
+use Rattle.std.specs.Prelude.{◌≡◌, ℕ, ◌<◌, ◌≤◌, ◌⊎◌, Bool, true, false, List, [], ◌∷◌, length, slice_get, Option, Some, None}
 use Rattle.std.specs.Prelude.{option_and_then}
 use Rattle.std.specs.Int.{from_be_bytes, w32}
 use Rattle.std.specs.List.{flat_map, AllAdjacentBelow}
 use Rattle.std.specs.List.Sorted.{IsPermutation}
 use Rattle.dmr_data.specs.declared.rate.Rate.{Rate}
 use Rattle.dmr_data.specs.declared.rate.Rate.TheVariants.{Half, Full}
-use Rattle.dmr_ip.specs.Contents.{Contents, datagram_between}
+use Rattle.dmr_ip.specs.Contents.{datagram_between}
 use Rattle.dmr_making.specs.Packets.{contents_of}
 use Rattle.dmr_planning.specs.declared.sends.PlannedSend.{PlannedSend}
 use Rattle.dmr_record.specs.Outgoing.{Sending}
