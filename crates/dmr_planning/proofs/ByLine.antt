@@ -1,13 +1,14 @@
 -- The records of the outgoing list stand by their lines.
-use Rattle.std.proofs.Common.{◌≡◌, ℕ, zero, suc, ◌+◌, ◌-◌, ◌<◌, ◌≤◌, List, [], ◌∷◌, ◌++◌, length, All, arith, get_or, Bool, sym, subst}
-use Rattle.std.proofs.Common.{ap, ◌∙◌, refl, Option, Some}
+use Rattle.std.proofs.Common.{◌≡◌, ℕ, zero, suc, ◌+◌, ◌-◌, ◌<◌, List, [], ◌∷◌, ◌++◌, length, All, arith, get_or, Bool, sym}
+use Rattle.std.proofs.Common.{subst}
+use Rattle.std.proofs.Common.{ap, refl}
 use Rattle.std.proofs.lemmas.List.Elements.{All-push}
 use Rattle.std.proofs.lemmas.List.Sorted.{IsNonDecreasingBy-push, IsNonDecreasingBy-short}
 use Rattle.std.specs.List.Sorted.{IsNonDecreasingBy, IsSortedByKey}
 use Rattle.std.specs.Ordering.{nat_cmp}
 use Rattle.dmr_planning.proofs.Ordering.{not_less}
 use Rattle.dmr_planning.specs.Planning.{ArePlanned, Planned, Plans, number_of_slot, with_slot}
-use Rattle.dmr_planning.specs.Sending.{said_by}
+use Rattle.dmr_planning.specs.Sending.{said_number}
 use Rattle.dmr_planning.specs.Slots.{SlotSoFar}
 use Rattle.dmr_planning.specs.declared.sends.PlannedSend.{PlannedSend}
 use Rattle.dmr_script.specs.declared.statement.NumberedStatement.{NumberedStatement}
@@ -19,7 +20,7 @@ use Rattle.dmr_script.specs.declared.statement.Statement.TheVariants as statemen
 -- They are of statements in front of this one, in their order.
 pub record AreByLine (at : ℕ) (sends : List PlannedSend) : Type 0 where
   pub below : All (λ (s : PlannedSend). s.statement < at) sends
-  pub rising : IsNonDecreasingBy said_by sends
+  pub rising : IsNonDecreasingBy said_number sends
 
 later : (at : ℕ) (old new : List PlannedSend) → new ≡ old → AreByLine at old → AreByLine (suc at) new
 later at old new e p = subst (AreByLine (suc at)) (sym e) (record {
@@ -32,7 +33,7 @@ one_more : (at : ℕ) (old new : List PlannedSend) (s : PlannedSend) → s.state
 one_more at old new s is e p = subst (AreByLine (suc at)) (sym e) (record {
   below = All-push (λ (x : PlannedSend). x.statement < suc at) old s (λ k d lt. let h = p.below k d lt in omega (arith, h))
       (omega (arith, is));
-  rising = IsNonDecreasingBy-push said_by old s p.rising
+  rising = IsNonDecreasingBy-push said_number old s p.rising
       (λ d some. let h = p.below (length old - 1) d (omega (arith, some)) in omega (arith, h, is));
 })
 
@@ -62,12 +63,12 @@ pub are_by_line : (all : List NumberedStatement) (own : ℕ) (taken : Bool) (at 
     → ArePlanned all own taken at p → AreByLine at p.sends
 are_by_line all own taken zero p e = subst (λ (x : Planned). AreByLine 0 x.sends) (sym e) (record {
   below = λ k d lt. absurd (omega arith);
-  rising = IsNonDecreasingBy-short said_by [] (omega arith);
+  rising = IsNonDecreasingBy-short said_number [] (omega arith);
 })
 are_by_line all own taken (suc at) p q =
     step_by_line all own taken at q.1.line q.1.statement q.0 p q.4 (are_by_line all own taken at q.0 q.3)
 
 -- in the words of a sort
-pub sorted_by_line : (sends : List PlannedSend) → IsNonDecreasingBy said_by sends → IsSortedByKey said_by nat_cmp sends
+pub sorted_by_line : (sends : List PlannedSend) → IsNonDecreasingBy said_number sends → IsSortedByKey said_number nat_cmp sends
 sorted_by_line sends rising = λ k d low lt.
-    not_less (said_by (get_or sends k d)) (said_by (get_or sends (k + 1) d)) (rising k (k + 1) d (omega arith) lt)
+    not_less (said_number (get_or sends k d)) (said_number (get_or sends (k + 1) d)) (rising k (k + 1) d (omega arith) lt)

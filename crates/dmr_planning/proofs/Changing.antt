@@ -3,7 +3,6 @@ use Rattle.std.proofs.Common.{◌≡◌, sym, subst}
 use Rattle.dmr_planning.specs.Planning.{ChangesSlot, Planned, planned_slot, with_slot}
 use Rattle.dmr_planning.specs.Slots.{SlotSoFar}
 use Rattle.dmr_script.specs.declared.statement.Slot.{Slot}
-use Rattle.dmr_script.specs.declared.statement.Slot.TheVariants.{One, Two}
 
 -- the slot of this name
 pub changed : (Changes : SlotSoFar → SlotSoFar → Type 0) (slot : Slot) (old new : Planned) (x : SlotSoFar) → old.slot ≡ slot

@@ -1,17 +1,16 @@
 -- What is said fits, and can be sent.
-use Rattle.std.proofs.Common.{◌≡◌, ℕ, zero, suc, ◌+◌, ◌<◌, ◌≤◌, List, [], ◌∷◌, length, All, Option, Some, None, IfSome, arith, refl}
+use Rattle.std.proofs.Common.{◌≡◌, ℕ, ◌<◌, List, [], ◌∷◌, length, All, Option, Some, None, IfSome, arith, refl}
 use Rattle.std.proofs.Common.{slice_get, drop, Bool, true, false}
 use Rattle.std.specs.List.{sum}
 use Rattle.std.specs.Option.{option_and_then}
 use Rattle.dmr_making.proofs.TrySlots.{fit_at}
 use Rattle.dmr_making.specs.Fit.{IsFitCall, IsFitStart}
-use Rattle.dmr_making.specs.Playing.{packet_in, packet_said, transmit_in, transmit_of}
-use Rattle.dmr_planning.specs.Counting.{again_count, slot_count, start_count}
+use Rattle.dmr_making.specs.Playing.{packet_in, packet_said, transmit_of}
+use Rattle.dmr_planning.specs.Counting.{slot_count, start_count}
 use Rattle.dmr_planning.specs.Tries.{try_fault}
 use Rattle.dmr_script.specs.Fits.{FitsCall, FitsNumbered, FitsPacket, FitsStatement, FitsTransmission}
-use Rattle.dmr_script.specs.Shapes.{IsCallShape, IsStart, there_within}
+use Rattle.dmr_script.specs.Shapes.{IsStart, there_within}
 use Rattle.dmr_script.specs.declared.call.Call.{Call}
-use Rattle.dmr_script.specs.declared.packet.Again.{Again}
 use Rattle.dmr_script.specs.declared.packet.Again.TheVariants as again
 use Rattle.dmr_script.specs.declared.packet.PacketTry.{PacketTry}
 use Rattle.dmr_script.specs.declared.shape.CallStart.{CallStart}

@@ -2,7 +2,10 @@ pub mod ByLine
 pub mod Changing
 pub mod Colours
 pub mod Fitting
+pub mod Forming
 pub mod Ordering
+pub mod Pausing
 pub mod Planned
+pub mod Superframes
 pub mod Torn
 pub mod Written

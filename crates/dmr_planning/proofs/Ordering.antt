@@ -1,6 +1,6 @@
 -- Records of the outgoing list in its order.
-use Rattle.std.proofs.Common.{◌≡◌, ℕ, ◌+◌, ◌*◌, ◌<◌, ◌≤◌, ◌⊎◌, inl, inr, List, length, All, arith, get_or, Bool, true, false, cond, nat_lt}
-use Rattle.std.proofs.lemmas.List.Sorted.{All-permutation, IsNonDecreasingBy-from_sort, IsPermutation-trans, length_permutation}
+use Rattle.std.proofs.Common.{◌≡◌, ℕ, ◌+◌, ◌*◌, ◌<◌, ◌≤◌, List, All, arith, get_or, false}
+use Rattle.std.proofs.lemmas.List.Sorted.{All-permutation, IsNonDecreasingBy-from_sort, IsPermutation-trans}
 use Rattle.std.proofs.lemmas.List.Sorted.{ties_still_rise}
 use Rattle.std.specs.List.Sorted.{IsPermutation, IsSortedByKey, IsStableByKey, IsNonDecreasingBy}
 use Rattle.std.specs.Ordering.{is_lt, nat_cmp}

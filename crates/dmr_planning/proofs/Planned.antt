@@ -1,7 +1,7 @@
 -- What is planned fits, and stands in order.
-use Rattle.std.proofs.Common.{◌≡◌, ℕ, zero, suc, ◌+◌, ◌-◌, ◌<◌, ◌≤◌, nat_lt, List, [], ◌∷◌, ◌++◌, length, All, Option, Some, None}
+use Rattle.std.proofs.Common.{◌≡◌, ℕ, zero, suc, ◌+◌, ◌-◌, ◌<◌, ◌≤◌, nat_lt, List, [], ◌∷◌, ◌++◌, All, Option, Some, None}
 use Rattle.std.proofs.Common.{IfSome}
-use Rattle.std.proofs.Common.{arith, refl, subst, sym, ap, ◌∙◌, Bool, true, false, slice_get, Result, Ok, Err, if◌then◌else◌, inl}
+use Rattle.std.proofs.Common.{arith, refl, subst, sym, ap, ◌∙◌, Bool, true, false, Result, Ok, Err, if◌then◌else◌, inl}
 use Rattle.std.proofs.Common.{inr}
 use Rattle.std.proofs.lemmas.List.Elements.{All-head, All-push, All-tail}
 use Rattle.std.specs.Option.{option_and_then}
@@ -11,14 +11,12 @@ use Rattle.dmr_making.specs.Senders.{IsSenderColour, IsSendable}
 use Rattle.dmr_making.specs.declared.playing.PlacedTransmission.{PlacedTransmission}
 use Rattle.dmr_planning.proofs.Fitting.{some_slots}
 use Rattle.dmr_planning.specs.Pauses.{paused, paused_with, needed, silenced, silenced_to, stands, named_silences}
-use Rattle.dmr_planning.specs.Planning.{ArePlanned, ChangesSlot, Planned, Plans, nothing_planned, number_of_slot, planned_slot}
+use Rattle.dmr_planning.specs.Planning.{ArePlanned, Planned, Plans, number_of_slot, planned_slot}
 use Rattle.dmr_planning.specs.Planning.{told_frames, with_slot}
 use Rattle.dmr_planning.specs.Plans.{HasSlot}
-use Rattle.dmr_planning.specs.Slots.{IsPlacedNext, IsSilenced, IsSilencedTo, IsTransmitted, NumberedTransmit, SlotSoFar}
+use Rattle.dmr_planning.specs.Slots.{IsTransmitted, NumberedTransmit, SlotSoFar}
 use Rattle.dmr_planning.specs.Slots.{count_behind, last_packet, placed_paused, placed_behind, placed_behind_pause}
-use Rattle.dmr_planning.specs.Slots.{slot_state_behind}
 use Rattle.dmr_planning.specs.declared.planner.ToldFrames.{ToldFrames}
-use Rattle.dmr_planning.specs.declared.sends.PlannedSend.{PlannedSend}
 use Rattle.dmr_planning.specs.declared.slot_state.SlotState.{SlotState}
 use Rattle.dmr_script.specs.Fits.{FitsNumbered, FitsSender, FitsStatement, FitsTransmit}
 use Rattle.dmr_script.specs.declared.fault.Refusal.{Refusal}
@@ -32,7 +30,6 @@ use Rattle.dmr_script.specs.declared.statement.Slot.TheVariants.{One, Two}
 use Rattle.dmr_script.specs.declared.statement.Statement.{Statement}
 use Rattle.dmr_script.specs.declared.statement.Statement.TheVariants as statement
 use Rattle.dmr_script.specs.declared.statement.Transmission.{Transmission}
-use Rattle.dmr_script.specs.declared.statement.Transmit.{Transmit}
 
 -- 1. Order.
 
@@ -57,7 +54,7 @@ ends_later end later placed le all = λ k d lt. let h = all k d lt in omega (ari
 -- 2. Where a slot stands.
 
 -- silences leave the last transmission where it is
-silenced_end : (s r : SlotState) (count : ℕ) → silenced s count ≡ Ok r → r.end ≡ s.end
+pub silenced_end : (s r : SlotState) (count : ℕ) → silenced s count ≡ Ok r → r.end ≡ s.end
 silenced_end s r count e = by (nat_lt (1048576 - stands s) count) e
   where
     by : (long : Bool)
@@ -68,7 +65,7 @@ silenced_end s r count e = by (nat_lt (1048576 - stands s) count) e
         let same : record s { silences = Some (named_silences s.silences + count) } ≡ r = cc in
         ap (λ (x : SlotState). x.end) (sym same)
 
-silenced_to_end : (s r : SlotState) (frame : ℕ) → silenced_to s frame ≡ Ok r → r.end ≡ s.end
+pub silenced_to_end : (s r : SlotState) (frame : ℕ) → silenced_to s frame ≡ Ok r → r.end ≡ s.end
 silenced_to_end s r frame e = by (nat_lt frame (stands s)) e
   where
     by : (past : Bool)
@@ -125,6 +122,16 @@ next_there s own n count one e = by (paused s (needed s own n.transmit)) refl e
         let end : r.end ≡ s.end = paused_end s r s.silences (needed s own n.transmit) q in
         let start : one.start ≡ r.end + named_silences r.silences = there.start in
         record { start = omega (arith, end, start); length = there.length; statement = there.statement; packet = there.packet_is }
+
+-- it is placed behind the silences of the pause
+pub placed_start : (s r : SlotState) (own : ℕ) (n : NumberedTransmit) (count : ℕ) (one : PlacedTransmission)
+    → paused s (needed s own n.transmit) ≡ Ok r → placed_behind_pause (Ok r) s.packet n.statement count ≡ Ok one
+    → one.start ≡ s.end + named_silences r.silences
+placed_start s r own n count one q e =
+    let there : IsThere r s.packet n.statement count one = placed_there r s.packet n.statement count one e in
+    let end : r.end ≡ s.end = paused_end s r s.silences (needed s own n.transmit) q in
+    let start : one.start ≡ r.end + named_silences r.silences = there.start in
+    omega (arith, end, start)
 
 -- 3. What is planned of a slot.
 
@@ -191,8 +198,10 @@ slot_fits all Two p f = f.second
 
 with_fits : (all : List NumberedStatement) (slot : Slot) (old new : Planned) (x : SlotSoFar) → IsSlotFit all x → IsAllFit all old
     → new ≡ with_slot slot old x → IsAllFit all new
-with_fits all One old new x fit f e = subst (IsAllFit all) (sym e) (record { first = fit; second = f.second; sends = f.sends; told = f.told })
-with_fits all Two old new x fit f e = subst (IsAllFit all) (sym e) (record { first = f.first; second = fit; sends = f.sends; told = f.told })
+with_fits all One old new x fit f e =
+    subst (IsAllFit all) (sym e) (record { first = fit; second = f.second; sends = f.sends; told = f.told })
+with_fits all Two old new x fit f e =
+    subst (IsAllFit all) (sym e) (record { first = f.first; second = fit; sends = f.sends; told = f.told })
 
 number_is_slot : (slot : Slot) (at frame : ℕ) → HasSlot (record { statement = at; slot = number_of_slot slot; frame = frame })
 number_is_slot One at frame = inl refl

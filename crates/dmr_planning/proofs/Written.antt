@@ -1,9 +1,8 @@
 -- The records of the outgoing list, one behind another.
-use Rattle.std.proofs.Common.{◌≡◌, ℕ, zero, suc, ◌+◌, ◌<◌, List, [], ◌∷◌, ◌++◌, take, drop, get_or, length, Option, ap, sym, ◌∙◌, subst, arith, refl}
-use Rattle.std.proofs.Common.{append-nil, append_assoc}
+use Rattle.std.proofs.Common.{◌≡◌, ℕ, zero, suc, ◌<◌, List, [], ◌∷◌, ◌++◌, take, drop, get_or, length, Option, ap, sym, ◌∙◌}
+use Rattle.std.proofs.Common.{subst, arith, refl}
 use Rattle.std.proofs.lemmas.Grind.{flat_map-append}
 use Rattle.std.specs.Io.KnownBytes.{Appends}
-use Rattle.std.specs.List.{flat_map}
 use Rattle.dmr_planning.specs.Sending.{planned_sendings, said_records}
 use Rattle.dmr_planning.specs.declared.sends.PlannedSend.{PlannedSend}
 use Rattle.dmr_record.proofs.Torn.{Tears_after, Tears_more}

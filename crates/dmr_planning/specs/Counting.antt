@@ -1,5 +1,5 @@
 -- How many slots a transmission has.
-use Rattle.std.specs.Prelude.{ℕ, ◌+◌, List, [], ◌∷◌, Bool, length, sum, Option, Some, None}
+use Rattle.std.specs.Prelude.{ℕ, List, [], ◌∷◌, Bool, length, sum, Option, Some, None}
 use Rattle.dmr_making.specs.Calls.{silences_behind}
 use Rattle.dmr_script.specs.declared.call.Call.{Call}
 use Rattle.dmr_script.specs.declared.packet.Again.{Again}

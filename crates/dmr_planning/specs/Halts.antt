@@ -1,5 +1,4 @@
 -- Why planning stops at a statement.
-use Rattle.std.specs.Prelude.{ℕ}
 use Rattle.dmr_planning.specs.declared.halt.Halt.{Halt}
 use Rattle.dmr_planning.specs.declared.halt.Halt.TheVariants as halt
 use Rattle.dmr_script.specs.declared.fault.Refusal.{Refusal}

@@ -1,6 +1,7 @@
 pub mod Counting
 pub mod Halts
 pub mod Pauses
+pub mod Pausing
 pub mod Planning
 pub mod Plans
 pub mod Refused
@@ -8,3 +9,4 @@ pub mod Sending
 pub mod Slots
 pub mod Syncs
 pub mod Tries
+pub mod WellFormed

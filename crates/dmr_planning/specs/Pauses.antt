@@ -1,6 +1,7 @@
 -- Where a slot stands, and which silences stand in front of a transmission.
-use Rattle.std.specs.Prelude.{◌≡◌, ℕ, ◌+◌, ◌-◌, nat_lt, ◌==◌, Bool, true, false, List, [], ◌∷◌, Option, Some, None, Result, Ok, Err}
-use Rattle.std.specs.Prelude.{if◌then◌else◌, is_none}
+use Rattle.std.specs.Prelude.{◌≡◌, ◌≤◌, ◌⊎◌, ℕ, ◌+◌, ◌-◌, nat_lt, ◌==◌, Bool, true, false, List, [], ◌∷◌, Option, Some, None}
+use Rattle.std.specs.Prelude.{Result, Ok, Err}
+use Rattle.std.specs.Prelude.{if◌then◌else◌}
 use Rattle.dmr_making.specs.Senders.{colour_of}
 use Rattle.dmr_planning.specs.declared.slot_state.Before.{Before}
 use Rattle.dmr_planning.specs.declared.slot_state.Before.TheVariants as before
@@ -122,3 +123,19 @@ paused_with s (Some found) need = if nat_lt found need then Err (refusal.FewSile
 
 abbrev pub paused : SlotState → ℕ → Result SlotState Refusal
 paused s need = paused_with s s.silences need
+
+-- 3. What stands between two transmissions.
+
+-- So many silences are enough between what is in front and a transmission: six behind a call that ends in silence, and behind
+-- headers alone that do, where no data burst follows; one behind anything else; and none within a row.
+abbrev pub IsEnough : Before → (begins_with_data : Bool) → (itself : Before) → ℕ → Type 0
+IsEnough before.Nothing begins itself silences = Unit {0}
+IsEnough before.SilencedCall begins itself silences = 6 ≤ silences
+IsEnough before.SilencedHeaders true itself silences = 1 ≤ silences
+IsEnough before.SilencedHeaders false itself silences = 6 ≤ silences
+IsEnough (before.Row colour) begins itself silences = (1 ≤ silences) ⊎ ((silences ≡ 0) × (is_row colour itself ≡ true))
+IsEnough before.Other begins itself silences = 1 ≤ silences
+
+-- So many silences are enough between two transmissions.
+abbrev pub IsEnoughBetween : ℕ → Transmit → Transmit → ℕ → Type 0
+IsEnoughBetween own t next silences = IsEnough (before_behind own t) (begins_with_data next) (before_behind own next) silences

@@ -1,5 +1,5 @@
 -- Plans, and what is written by them.
-use Rattle.std.specs.Prelude.{◌≡◌, ℕ, ◌+◌, ◌<◌, ◌≤◌, Bool, All, List, length, Option, None, Result, Ok}
+use Rattle.std.specs.Prelude.{◌≡◌, ℕ, ◌+◌, ◌<◌, ◌≤◌, Bool, All, List, length, Option, None, Ok}
 use Rattle.dmr_making.specs.Playing.{IsFitPlaced, IsOrdered, WritesRecording}
 use Rattle.dmr_making.specs.declared.recording.BurstsMade.{BurstsMade}
 use Rattle.dmr_planning.specs.Planning.{ArePlanned, Planned, told_frames, own_colour, sent_frames}

@@ -1,9 +1,8 @@
 -- Why there is no plan of a script.
-use Rattle.std.specs.Prelude.{◌≡◌, ◌⊎◌, Bool, List, length, Some, None, Err}
+use Rattle.std.specs.Prelude.{◌≡◌, ◌⊎◌, Bool, length, Some, None, Err}
 use Rattle.dmr_planning.specs.Planning.{ArePlanned, IsLineUnplanned, Planned, told_frames, own_colour, sent_frames}
 use Rattle.dmr_script.specs.declared.fault.RefusedLine.{RefusedLine}
 use Rattle.dmr_script.specs.declared.script.Script.{Script}
-use Rattle.dmr_script.specs.declared.statement.NumberedStatement.{NumberedStatement}
 
 -- All statements that were read are planned.
 abbrev pub AreAllPlanned : Script → Bool → Planned → Type 0

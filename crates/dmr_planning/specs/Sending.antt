@@ -1,12 +1,12 @@
 -- The records of the outgoing list.
-use Rattle.std.specs.Prelude.{◌≡◌, ℕ, ◌+◌, ◌<◌, ◌≤◌, ◌⊎◌, Bool, true, false, List, [], ◌∷◌, length, slice_get, Option, Some, None}
+use Rattle.std.specs.Prelude.{◌≡◌, ℕ, ◌<◌, ◌≤◌, ◌⊎◌, Bool, true, false, List, [], ◌∷◌, length, slice_get, Option, Some, None}
 use Rattle.std.specs.Prelude.{option_and_then}
 use Rattle.std.specs.Int.{from_be_bytes, w32}
 use Rattle.std.specs.List.{flat_map, AllAdjacentBelow}
 use Rattle.std.specs.List.Sorted.{IsPermutation}
 use Rattle.dmr_data.specs.declared.rate.Rate.{Rate}
 use Rattle.dmr_data.specs.declared.rate.Rate.TheVariants.{Half, Full}
-use Rattle.dmr_ip.specs.Contents.{Contents, datagram_between}
+use Rattle.dmr_ip.specs.Contents.{datagram_between}
 use Rattle.dmr_making.specs.Packets.{contents_of}
 use Rattle.dmr_planning.specs.declared.sends.PlannedSend.{PlannedSend}
 use Rattle.dmr_record.specs.Outgoing.{Sending}
@@ -72,8 +72,8 @@ planned_sendings statements sends = flat_map (said_records statements) sends
 -- 2. Their order.
 
 -- which statement says a record
-abbrev pub said_by : PlannedSend → ℕ
-said_by s = s.statement
+abbrev pub said_number : PlannedSend → ℕ
+said_number s = s.statement
 
 -- One stands in front of another: it is offered in an earlier frame, or in slot 1 of the same frame and not in slot 2, or in the
 -- same slot and frame by no later statement.

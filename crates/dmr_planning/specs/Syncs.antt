@@ -1,5 +1,5 @@
 -- Bursts that would be heard as others.
-use Rattle.std.specs.Prelude.{◌≡◌, ℕ, ◌+◌, ◌-◌, ◌%◌, ◌<◌, nat_lt, ◌==◌, not, ◌&&◌, Bool, true, false, List, Option, Some, None}
+use Rattle.std.specs.Prelude.{◌≡◌, ℕ, ◌+◌, ◌-◌, ◌%◌, ◌<◌, nat_lt, ◌==◌, not, ◌&&◌, Bool, true, false, List, Option, Some}
 use Rattle.std.specs.Prelude.{IfSome, length}
 use Rattle.std.specs.Prelude.{if◌then◌else◌}
 use Rattle.dmr_bits.specs.Bits.{bits_of_octets}

@@ -1,5 +1,5 @@
 -- Further tries, and the packets that they try.
-use Rattle.std.specs.Prelude.{ℕ, ◌==◌, nat_le, List, [], ◌∷◌, length, Option, Some, None, if◌then◌else◌}
+use Rattle.std.specs.Prelude.{ℕ, ◌==◌, nat_le, List, length, Option, Some, None, if◌then◌else◌}
 use Rattle.std.specs.List.{list_any}
 use Rattle.dmr_script.specs.declared.fault.Refusal.{Refusal}
 use Rattle.dmr_script.specs.declared.fault.Refusal.TheVariants as refusal

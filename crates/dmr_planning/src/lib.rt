@@ -9,6 +9,7 @@
 mod counting;
 mod fault;
 mod halt;
+pub mod laws;
 mod plan;
 mod planner;
 mod sends;

@@ -10,7 +10,7 @@ ghost use Rattle.dmr_planning.specs.Planning.{ArePlanned, ChangesSlot, IsLineUnp
 ghost use Rattle.dmr_planning.specs.Planning.{planned_by};
 ghost use Rattle.dmr_planning.specs.Plans.{IsPlan, IsPlanOf};
 ghost use Rattle.dmr_planning.specs.Refused.{IsPlanRefused};
-ghost use Rattle.dmr_planning.specs.Sending.{AreInListOrder, said_by};
+ghost use Rattle.dmr_planning.specs.Sending.{AreInListOrder, said_number};
 ghost use Rattle.dmr_planning.specs.Slots.{IsSilenced, IsSilencedTo, IsTransmitted, IsUntransmitted, numbered_of};
 ghost use Rattle.dmr_script.specs.Fits.{FitsNumbered, FitsStatement, FitsTransmit};
 
@@ -270,7 +270,7 @@ impl Planner {
     /// their lines.
     fn sort_sends(&mut self) -> Result<(), AllocError>
         requires small { All (λ s. s.statement < 18446744073709551616) self.old.sends.items }
-        requires by_line { IsSortedByKey said_by nat_cmp self.old.sends.items }
+        requires by_line { IsSortedByKey said_number nat_cmp self.old.sends.items }
         ensures planned { OnOk result
             (planned_by self.new ≡ record (planned_by self.old) { sends = self.new.sends.items }) }
         ensures order { OnOk result (AreInListOrder self.old.sends.items self.new.sends.items) }

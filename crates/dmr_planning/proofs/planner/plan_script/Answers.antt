@@ -1,7 +1,6 @@
-use Rattle.std.proofs.Common.{◌≡◌, ◌∙◌, ℕ, ◌<◌, ◌≤◌, List, length, All, ap, subst, sym, arith, Ok}
+use Rattle.std.proofs.Common.{◌≡◌, ◌∙◌, ◌≤◌, List, length, All, ap, subst, sym, arith}
 use Rattle.std.proofs.lemmas.List.Sorted.{All-permutation}
 use Rattle.dmr_making.specs.Playing.{IsFitPlaced, IsOrdered}
-use Rattle.dmr_making.specs.declared.playing.PlacedTransmission.{PlacedTransmission}
 use Rattle.dmr_planning.proofs.ByLine.{AreByLine, are_by_line, sorted_by_line}
 use Rattle.dmr_planning.proofs.Planned.{IsAllFit, few_frames, planned_fits}
 use Rattle.dmr_planning.specs.Planning.{Planned, planned_by}

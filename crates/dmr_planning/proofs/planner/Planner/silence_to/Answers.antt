@@ -17,5 +17,5 @@ pub returns-in-Two-clause-planned : goal.returns-in-Two-clause-planned
 returns-in-Two-clause-planned c =
     on_ok_weaker c.silence_to-in-Two.result (λ q.
     changed (IsSilencedTo c.args.frame) Two (planned_by c.args.self.now)
-    (planned_by (record c.args.self.now { second = c.silence_to-in-Two.new.self })) (so_far c.silence_to-in-Two.new.self) c.in-Two.is q
-    refl) c.silence_to-in-Two.ensures.planned
+    (planned_by (record c.args.self.now { second = c.silence_to-in-Two.new.self })) (so_far c.silence_to-in-Two.new.self)
+    c.in-Two.is q refl) c.silence_to-in-Two.ensures.planned
