@@ -15,7 +15,7 @@ use Rattle.dmr_tools.specs.Damaging.{IsDamageOf}
 use Rattle.dmr_tools.specs.Datagrams.{AreExportSettings, AreImportSettings}
 use Rattle.dmr_tools.specs.Filters.{IsFilterOf, is_backwards}
 use Rattle.dmr_tools.specs.LogRequest.{AreLogSettings, ArePageSettings}
-use Rattle.dmr_tools.specs.Making.{AreMakePlaces, share_output, take_output}
+use Rattle.dmr_tools.specs.Making.{AreMakePlaces, are_both_to_output, is_any_to_output}
 use Rattle.dmr_tools.specs.declared.comparison.Comparison.{Comparison}
 use Rattle.dmr_tools.specs.declared.make_places.MakePlaces.{MakePlaces}
 use Rattle.dmr_tools.specs.declared.request.ExportFormat.{ExportFormat}
@@ -122,10 +122,10 @@ IsAskedOfTools (Some command) (LogPage name settings) =
     × ArePageSettings (found_of command.1) settings
 IsAskedOfTools (Some command) (LogRefused refusal) = command.0 ≡ codes "log"
 IsAskedOfTools (Some command) (Make places) =
-    (command.0 ≡ codes "make") × AreMakePlaces (found_of command.1) places × (share_output places ≡ false)
+    (command.0 ≡ codes "make") × AreMakePlaces (found_of command.1) places × (are_both_to_output places ≡ false)
 IsAskedOfTools (Some command) SharedOutput =
     (command.0 ≡ codes "make")
-    × ((places : MakePlaces) × AreMakePlaces (found_of command.1) places × (share_output places ≡ true))
+    × ((places : MakePlaces) × AreMakePlaces (found_of command.1) places × (are_both_to_output places ≡ true))
 IsAskedOfTools (Some command) (Damage damage seed places) =
     (command.0 ≡ codes "damage") × IsDamageOf (found_of command.1) damage
     × IsNumberOf 64 (found_of command.1) (codes "seed") seed × ArePairPlaces (found_of command.1) places
@@ -181,7 +181,7 @@ IsTool request = ⊥
 
 -- What is asked for is to be written to standard output, so that no line is printed there.
 abbrev pub is_to_output : Request → Bool
-is_to_output (Make places) = take_output places
+is_to_output (Make places) = is_any_to_output places
 is_to_output (Damage damage seed places) = is_standard places.output
 is_to_output (Import format places) = is_standard places.output
 is_to_output (Export format places) = is_standard places.output

@@ -19,7 +19,7 @@ pub struct MakePlaces<'a> {
 
 /// The place that an option names, where it is given.
 fn place_if_given<'a>(make: &ArgMatches<'a>, option: &str) -> Option<Place<'a>>
-    ensures place { spec.IsPlaceIfGiven (found_of make.now) option.now result }
+    ensures place { spec.IsNamedIfGiven (found_of make.now) option.now result }
 {
     match given_text_of(make, option) {
         Some(name) => Some(Place::named(name)),
@@ -28,8 +28,8 @@ fn place_if_given<'a>(make: &ArgMatches<'a>, option: &str) -> Option<Place<'a>>
 }
 
 /// Whether a place that may be left out is a standard stream.
-fn is_standard_if_any(place: &Option<Place<'_>>) -> bool
-    ensures standard { result ≡ spec.is_standard_if_any place.now }
+fn is_list_to_output(place: &Option<Place<'_>>) -> bool
+    ensures standard { result ≡ spec.is_list_to_output place.now }
 {
     match place {
         Some(place) => place.is_standard(),
@@ -50,16 +50,16 @@ impl<'a> MakePlaces<'a> {
     }
 
     /// Whether both outputs are standard output.
-    pub(crate) fn share_output(&self) -> bool
-        ensures share { result ≡ spec.share_output self.now }
+    pub(crate) fn are_both_to_output(&self) -> bool
+        ensures share { result ≡ spec.are_both_to_output self.now }
     {
-        self.uplink.is_standard() && is_standard_if_any(&self.outgoing)
+        self.uplink.is_standard() && is_list_to_output(&self.outgoing)
     }
 
     /// Whether an output is standard output, to which nothing else is printed then.
-    pub(crate) fn take_output(&self) -> bool
-        ensures take { result ≡ spec.take_output self.now }
+    pub(crate) fn is_any_to_output(&self) -> bool
+        ensures take { result ≡ spec.is_any_to_output self.now }
     {
-        self.uplink.is_standard() || is_standard_if_any(&self.outgoing)
+        self.uplink.is_standard() || is_list_to_output(&self.outgoing)
     }
 }

@@ -3,7 +3,7 @@ ghost use Rattle.std.specs.Prelude.{◌≡◌, ◌≤◌, ◌⊎◌, false, true
 ghost use Rattle.dmr_lines.specs.Line.{PutsError, PutsLine};
 ghost use Rattle.dmr_lines.specs.Status.{failure, success};
 ghost use Rattle.dmr_planning.specs.Plans.{IsPlan};
-ghost use Rattle.dmr_tools.specs.Making.{take_output};
+ghost use Rattle.dmr_tools.specs.Making.{is_any_to_output};
 
 use crate::make_places::MakePlaces;
 use crate::outputs::{BufferedOutput, BufferedOutputs, OutputsFault, open_outputs};
@@ -139,7 +139,7 @@ fn make<'a, S: System>(
     system: &S,
     places: &MakePlaces<'a>,
 ) -> Result<Made, MakeFault<'a>> {
-    if places.take_output() && system.prints_to_terminal() {
+    if places.is_any_to_output() && system.prints_to_terminal() {
         return Err(MakeFault::Terminal);
     }
     let Open { mut file, identity } = open_source(system, alloc, places.script)?;
@@ -164,10 +164,10 @@ pub(crate) fn make_files<S: System, K: Sink, E: Sink>(
     // What is printed goes to one of the two: a success to the first, but where a file goes to standard output; a fault to the
     // second.
     ensures alone { (out.new ≡ out.old) ⊎ (err.new ≡ err.old) }
-    ensures line { result ≡ success → take_output places.now ≡ false → PutsLine (K.held out.old) (K.held out.new) }
-    ensures line_alone { result ≡ success → take_output places.now ≡ false → err.new ≡ err.old }
-    ensures beside_line { result ≡ success → take_output places.now ≡ true → PutsLine (E.held err.old) (E.held err.new) }
-    ensures beside { take_output places.now ≡ true → out.new ≡ out.old }
+    ensures line { result ≡ success → is_any_to_output places.now ≡ false → PutsLine (K.held out.old) (K.held out.new) }
+    ensures line_alone { result ≡ success → is_any_to_output places.now ≡ false → err.new ≡ err.old }
+    ensures beside_line { result ≡ success → is_any_to_output places.now ≡ true → PutsLine (E.held err.old) (E.held err.new) }
+    ensures beside { is_any_to_output places.now ≡ true → out.new ≡ out.old }
     ensures error { result ≡ failure → K.has_failed out.new ≡ false → E.has_failed err.new ≡ false
         → PutsError (E.held err.old) (E.held err.new) }
     ensures status { result ≤ 1 }
@@ -175,7 +175,7 @@ pub(crate) fn make_files<S: System, K: Sink, E: Sink>(
     ensures err_failed { E.has_failed err.new ≡ true → result ≡ failure }
 {
     match make(alloc, system, places) {
-        Ok(made) => print_counts(&made, places.take_output(), out, err),
+        Ok(made) => print_counts(&made, places.is_any_to_output(), out, err),
         Err(fault) => {
             let script = places.script;
             print_fault(alloc, &ToldFault { fault, script }, err);

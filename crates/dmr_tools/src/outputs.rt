@@ -165,7 +165,7 @@ pub(crate) fn open_outputs<'a, S: System>(
     ensures outgoing { IfOk result (λ files. IfSome files.outgoing
         (λ file. ⟦<ToWrite<BufWriter<S::Output>> as Sink>⟧.has_failed file.sink ≡ false)) }
 {
-    let standard = system.standard_files().in_use(places.take_output());
+    let standard = system.standard_files().in_use(places.is_any_to_output());
     let uplink = open_output(system, places.uplink, script, &standard)?;
     let identity = uplink.file.identity;
     let outgoing = open_outgoing(system, places.outgoing, &identity, script, &standard)?;

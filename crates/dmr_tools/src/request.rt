@@ -272,7 +272,7 @@ fn make_request<'a>(make: &ArgMatches<'a>) -> Request<'a>
     ensures asked { IsAskedOfTools (Some (record { 0 = codes "make"; 1 = make.now })) result }
 {
     let places = MakePlaces::of(make);
-    if places.share_output() {
+    if places.are_both_to_output() {
         return Request::SharedOutput;
     }
     Request::Make(places)
