@@ -1,0 +1,7 @@
+mod Cells
+mod Decided
+mod Lists
+mod Places
+mod Rewriting
+mod Slots
+mod Steps

@@ -1,0 +1,2 @@
+pub mod DamagedSlots
+pub mod SameTransmissions
