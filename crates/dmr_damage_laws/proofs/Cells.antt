@@ -12,7 +12,8 @@ use Rattle.dmr_burst.specs.declared.emb.Emb.{Emb}
 use Rattle.dmr_hearing.specs.Damage.{IsDamagedBurst, IsRecordedAs, HasNoMobileSync}
 use Rattle.dmr_hearing.specs.Hearing.{Hears, IsHeardBurst}
 use Rattle.dmr_hearing.specs.Parts.{is_own}
-use Rattle.dmr_hearing.specs.Slots.{SentSlot, Silent, Data, VoiceSync, Voice, ForeignVoice, ForeignData, CutOff, IsHeardAs, vocoder_of}
+use Rattle.dmr_hearing.specs.Slots.{SentSlot, Silent, Data, VoiceSync, Voice, ForeignVoice, ForeignData, CutOff, IsHeardAs}
+use Rattle.dmr_hearing.specs.Slots.{vocoder_of}
 use Rattle.dmr_hearing.specs.declared.heard.DataBurst.{DataBurst}
 use Rattle.dmr_hearing.specs.declared.heard.Heard.{Heard}
 use Rattle.dmr_link.specs.declared.full_lc.FullLc.{FullLc}

@@ -1,5 +1,5 @@
 -- The slots of a line as they were decided, one after another.
-use Rattle.std.proofs.Common.{◌≡◌, ℕ, zero, suc, List, [], ◌∷◌, ◌++◌, length, map, take, replicate, Option, None, refl, sym, ap, ◌∙◌}
+use Rattle.std.proofs.Common.{◌≡◌, ℕ, List, [], ◌∷◌, ◌++◌, length, map, take, replicate, Option, None, refl, ap, ◌∙◌}
 use Rattle.std.proofs.Common.{subst, arith, slice_index_or}
 use Rattle.dmr_hearing.proofs.OneHearing.{one_hearing}
 use Rattle.dmr_hearing.specs.Hearing.{Hears}
@@ -102,7 +102,8 @@ decided colour old new (slot ∷ slots) [] left long runs = absurd (omega (arith
 decided colour old new (slot ∷ slots) (out ∷ outs) left long (ahead, behind, mid, five, split, one, runs) =
     let more = decided colour mid new slots outs left (omega (arith, long)) runs in
     let hs = heard_of more.all in
-    let here : AreHeard colour slots hs = subst (λ l. AreHeard colour l hs) more.slots_are (places_heard colour mid more.all more.places)
+    let here : AreHeard colour slots hs =
+    subst (λ l. AreHeard colour l hs) more.slots_are (places_heard colour mid more.all more.places)
     in
     let all : AreHeard colour (slots ++ replicate 5 None) (hs ++ past_the_end) =
     heard_append colour slots (replicate 5 None) hs past_the_end here (refl, (refl, (refl, (refl, (refl, tt))))) in

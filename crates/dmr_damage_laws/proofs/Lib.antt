@@ -1,4 +1,5 @@
 mod Cells
+mod Copies
 mod Decided
 mod Lists
 mod Places

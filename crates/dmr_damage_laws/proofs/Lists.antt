@@ -19,7 +19,8 @@ use Rattle.dmr_voice.specs.declared.said.Role.{Role}
 use Rattle.dmr_voice.specs.declared.said.Role.TheVariants.{Call, Other}
 use Rattle.dmr_damage_laws.proofs.Decided.{Decided}
 use Rattle.dmr_damage_laws.proofs.Places.{Closes, IsReceivedAs, superframes}
-use Rattle.dmr_damage_laws.proofs.Rewriting.{IsLine, IsPlain, IsRewritten, Rewrites, all_plain, no_fields, plain, plain_again, rewrites_as}
+use Rattle.dmr_damage_laws.proofs.Rewriting.{IsLine, IsPlain, IsRewritten, Rewrites, all_plain, no_fields, plain, plain_again}
+use Rattle.dmr_damage_laws.proofs.Rewriting.{rewrites_as}
 use Rattle.dmr_damage_laws.specs.SameTransmissions.{IsSamePlace, IsSameSuperframe, IsSameTransmission, superframes_of}
 use Rattle.dmr_damage_laws.specs.SameTransmissions.{with_superframes}
 
@@ -286,7 +287,8 @@ pause_call lc header leads gap ss rs Silenced n ts others p = p
 pause_call lc header leads gap ss rs (Terminated i k) n ts others p = p
 
 pause_late : (lc : FullLc) (tail : List Bool) (ss rs : List Superframe) (ending : Ending) (n : ℕ)
-    (ts others : List (Transmission × ℕ)) → IsPause (LateCall lc tail ss ending) n ts → IsPause (LateCall lc tail rs ending) n others
+    (ts others : List (Transmission × ℕ)) → IsPause (LateCall lc tail ss ending) n ts
+    → IsPause (LateCall lc tail rs ending) n others
 pause_late lc tail ss rs Silenced n ts others p = p
 pause_late lc tail ss rs (Terminated i k) n ts others p = p
 
@@ -302,8 +304,8 @@ call : (colour : ℕ) (lc : FullLc) (header : List Bool) (leads : List Lead) (ga
     → IsPause (VoiceCall lc header leads gap ss ending) n ts → ListRewrites colour ts
     → ListRewrites colour ((VoiceCall lc header leads gap ss ending, n) ∷ ts)
 call colour lc header leads gap ss ending n ts well pause rest =
-    subst (Rewrites (List (Transmission × ℕ)) (all_cells colour) (AreSent colour ((VoiceCall lc header leads gap ss ending, n) ∷ ts))
-    colour no_fields)
+    subst (Rewrites (List (Transmission × ℕ)) (all_cells colour)
+    (AreSent colour ((VoiceCall lc header leads gap ss ending, n) ∷ ts)) colour no_fields)
     (call_cells colour lc header leads gap ss ending n (all_cells colour ts) (in_sixes ss ending well.3))
     (rewrites_as (all_cells colour) (AreSent colour ((VoiceCall lc header leads gap ss ending, n) ∷ ts))
     (λ x. (VoiceCall lc header leads gap x.0 ending, n) ∷ x.1)

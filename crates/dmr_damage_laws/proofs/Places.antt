@@ -22,7 +22,8 @@ use Rattle.dmr_voice.specs.declared.said.Role.TheVariants.{Call}
 use Rattle.dmr_damage.specs.LimitedSlots.{AreFieldsBehindA, moved_on}
 use Rattle.dmr_damage_laws.proofs.Cells.{Agrees, sent_with, with_none}
 use Rattle.dmr_damage_laws.proofs.Decided.{Decided, outs_of, slots_of}
-use Rattle.dmr_damage_laws.proofs.Rewriting.{IsLine, IsPlain, IsRewritten, Rewrites, both_same, goes_on, no_fields, plain, rewrites_as}
+use Rattle.dmr_damage_laws.proofs.Rewriting.{IsLine, IsPlain, IsRewritten, Rewrites, both_same, goes_on, no_fields, plain}
+use Rattle.dmr_damage_laws.proofs.Rewriting.{rewrites_as}
 use Rattle.dmr_damage_laws.proofs.Steps.{AreDue, AreFieldsNext, step}
 use Rattle.dmr_damage_laws.specs.SameTransmissions.{IsSamePlace, IsSameSuperframe}
 
@@ -344,7 +345,8 @@ superframe_by X cells_of Holds colour carried lc role y ys more few readable qui
     let (new, how, due) = line.due in
     let s = step colour no_fields c d new (a_agrees colour carried lc role y) line.heard.0 how in
     let own : d.carried ≡ (if is_complete 4 ys then carried else None) =
-    (carries colour carried lc role ys more quiet (readable_carried y ys carried readable)).by _ d.carried line.heard.1 line.carries.0
+    (carries colour carried lc role ys more quiet (readable_carried y ys carried readable)).by _ d.carried line.heard.1
+    line.carries.0
     in
     let next = behind_a carried ys new d.carried own
     (a_next colour carried lc role y d.heard.vocoder d.carried no_fields new s.next) in
@@ -368,8 +370,8 @@ one_superframe : {X : Type 0} {cells_of : X → List Cell} {Holds : X → Type 0
     → (length s.places < 5 → Quiet more) → Rewrites X cells_of Holds colour no_fields more
     → Rewrites (Superframe × X) (λ x. place_cells colour A x.0.carries lc role x.0.places ++ cells_of x.1)
     (λ x. IsReceivedAs s x.0 × Holds x.1) colour no_fields (place_cells colour A s.carries lc role s.places ++ more)
-one_superframe {X = X} {cells_of = cells_of} {Holds = Holds} {colour = colour} {more = more} s lc role some few readable quiet rest =
-    by_places s.carries s.places some few readable quiet
+one_superframe {X = X} {cells_of = cells_of} {Holds = Holds} {colour = colour} {more = more} s lc role some few readable quiet rest
+    = by_places s.carries s.places some few readable quiet
   where
     by_places : (carried : Option FullLc) (ys : List (Option Present)) → 1 ≤ length ys → length ys ≤ 6
         → IsReadableSuperframe (record { carries = carried; places = ys }) → (length ys < 5 → Quiet more)

@@ -32,7 +32,8 @@ with_past : {Y : Type 0} (f : Decided → Y) (ds : List Decided) (m : ℕ)
     → map f (ds ++ replicate m past) ≡ map f ds ++ replicate m (f past)
 with_past f ds m = map-append f ds (replicate m past) ∙ ap (λ l. map f ds ++ l) (map_again f m past)
 
-meant_front : (cs : List Cell) (slots more : List (Option (List ℕ))) → take (length slots) (meant cs (slots ++ more)) ≡ meant cs slots
+meant_front : (cs : List Cell) (slots more : List (Option (List ℕ)))
+    → take (length slots) (meant cs (slots ++ more)) ≡ meant cs slots
 meant_front [] [] more = refl
 meant_front [] (slot ∷ slots) more = refl
 meant_front (c ∷ cs) [] more = refl
@@ -83,5 +84,5 @@ damaged_slots_mean_the_same colour lead ts slots outs well recording (new, left,
     let d = decided colour fresh_memory new slots outs left long runs in
     subst (MeansTheSame colour lead ts slots) d.outs_are
     (subst (λ l. MeansTheSame colour lead ts l (outs_of d.all)) d.slots_are
-    (of_decided colour lead ts d.all well (subst (IsDamagedRecordingOf colour (sent_list colour lead ts)) (sym d.slots_are) recording)
-    d.places))
+    (of_decided colour lead ts d.all well
+    (subst (IsDamagedRecordingOf colour (sent_list colour lead ts)) (sym d.slots_are) recording) d.places))

@@ -129,8 +129,8 @@ pub record IsStep (colour : ℕ) (old : List (Option ℕ)) (c : Cell) (d : Decid
 pub step : (colour : ℕ) (old : List (Option ℕ)) (c : Cell) (d : Decided) (new : List (Option ℕ)) → Agrees c.sent c.means
     → IsHeardAs c.sent d.heard → IsDue colour old c d new ⊎ IsPast old c d new → IsStep colour old c d new
 step colour old c d new agrees heard (inl u) = record {
-  written = slot_written colour c.sent c.means (slice_index_or old 0 None) d.slot d.out d.heard u.said agrees u.recorded u.here heard
-      u.says u.damaged;
+  written = slot_written colour c.sent c.means (slice_index_or old 0 None) d.slot d.out d.heard u.said agrees u.recorded u.here
+      heard u.says u.damaged;
   next = inr (fields_next colour (c.means d.heard.vocoder) u.said d.carried old new u.says u.fields);
 }
 step colour old c d new agrees heard (inr u) = record {

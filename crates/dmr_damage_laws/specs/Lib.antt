@@ -1,2 +1,3 @@
+pub mod DamagedCopies
 pub mod DamagedSlots
 pub mod SameTransmissions

@@ -1,9 +1,8 @@
 -- Transmissions that are the same, but for the embedded fields that places from B to E were received with.
-use Rattle.std.specs.Prelude.{◌≡◌, ℕ, Bool, List, [], take, drop, Option, Some, None}
+use Rattle.std.specs.Prelude.{◌≡◌, ℕ, List, [], take, drop, Option, Some, None}
 use Rattle.std.specs.List.{AllZip}
-use Rattle.dmr_link.specs.declared.full_lc.FullLc.{FullLc}
-use Rattle.dmr_voice.specs.CallMeaning.{Ending, Lead, Present, Superframe, Transmission, VoiceCall, HeadersAlone, LateCall, Controls}
-use Rattle.dmr_voice.specs.CallMeaning.{DataTry, ForeignParts}
+use Rattle.dmr_voice.specs.CallMeaning.{Present, Superframe, Transmission, VoiceCall, HeadersAlone, LateCall, Controls, DataTry}
+use Rattle.dmr_voice.specs.CallMeaning.{ForeignParts}
 
 -- A place is absent in both, or there in both with the same PI bit.
 abbrev pub IsSamePlace : Option Present → Option Present → Type 0
