@@ -1,20 +1,16 @@
 -- One slot of what was sent: what it is written as is a recording of it again, but for its embedded field.
-use Rattle.std.proofs.Common.{◌≡◌, ◌≢◌, ◌⊎◌, inl, inr, ℕ, Bool, true, false, List, length, Option, Some, None, refl, sym, ap, ◌∙◌}
+use Rattle.std.proofs.Common.{◌≡◌, ◌≢◌, ◌⊎◌, inl, inr, ℕ, Bool, true, false, List, Option, Some, None, refl, sym, ap, ◌∙◌}
 use Rattle.std.proofs.Common.{subst, if◌then◌else◌, ⊎_elim}
-use Rattle.std.specs.Prelude.{◌==◌, MatchOption}
+use Rattle.std.specs.Prelude.{◌==◌}
 use Rattle.std.proofs.lemmas.Bool.{cases_Bool, eq-eqb, eqb-true}
 use Rattle.dmr_bits.specs.Bits.{bits_of_octets, number_of}
 use Rattle.dmr_burst.specs.Emb.{HasEmb}
-use Rattle.dmr_burst.specs.Layout.{embedded_field}
-use Rattle.dmr_burst.specs.declared.burst.Burst.{Burst}
-use Rattle.dmr_burst.specs.declared.burst.Burst.TheVariants as burst
 use Rattle.dmr_burst.specs.declared.emb.Emb.{Emb}
 use Rattle.dmr_hearing.specs.Damage.{IsDamagedBurst, IsRecordedAs, HasNoMobileSync}
 use Rattle.dmr_hearing.specs.Hearing.{Hears, IsHeardBurst}
 use Rattle.dmr_hearing.specs.Parts.{is_own}
 use Rattle.dmr_hearing.specs.Slots.{SentSlot, Silent, Data, VoiceSync, Voice, ForeignVoice, ForeignData, CutOff, IsHeardAs}
 use Rattle.dmr_hearing.specs.Slots.{vocoder_of}
-use Rattle.dmr_hearing.specs.declared.heard.DataBurst.{DataBurst}
 use Rattle.dmr_hearing.specs.declared.heard.Heard.{Heard}
 use Rattle.dmr_link.specs.declared.full_lc.FullLc.{FullLc}
 use Rattle.dmr_voice.specs.Bursts.{IsSaid}
@@ -27,7 +23,6 @@ use Rattle.dmr_voice.specs.declared.said.VoiceOut.{VoiceOut}
 use Rattle.dmr_voice.specs.declared.said.VoiceOut.TheVariants as out
 use Rattle.dmr_damage.specs.Bursts.{IsDamagedBy, IsDamagedSlot, IsDamagedUnrepeated, IsDamagedVoice}
 use Rattle.dmr_damage.specs.Marks.{burst_mark, mark_of_data}
-use Rattle.dmr_damage.specs.declared.mark.BurstMark.{BurstMark}
 use Rattle.dmr_damage.specs.declared.mark.BurstMark.TheVariants as mark
 
 -- 1. What a slot that was sent may mean.

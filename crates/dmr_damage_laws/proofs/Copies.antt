@@ -1,5 +1,5 @@
 -- Whole recordings that were damaged within the limits, and runs over them.
-use Rattle.std.proofs.Common.{◌≡◌, ℕ, List, [], ◌++◌, length, Option, Some, None, IsSome, refl, sym, ap, ◌∙◌, subst, append-nil}
+use Rattle.std.proofs.Common.{◌≡◌, ℕ, List, [], ◌++◌, length, Some, None, refl, sym, ap, ◌∙◌, subst, append-nil}
 use Rattle.std.proofs.Common.{◌+◌, arith, replicate}
 use Rattle.std.proofs.lemmas.List.{length-append, length-map}
 use Rattle.std.specs.Io.KnownBytes.{Appends, Consumes, IsAtEnd}
@@ -9,10 +9,10 @@ use Rattle.dmr_damage.specs.declared.settings.Damage.TheVariants.{WithinLimits}
 use Rattle.dmr_record.specs.Downlink.{downlink_file}
 use Rattle.dmr_record.specs.Outgoing.{Sending}
 use Rattle.dmr_record.specs.Received.{received_file}
-use Rattle.dmr_record.specs.Uplink.{UplinkSlot, UplinkSlots, IsFrame, uplink_file}
+use Rattle.dmr_record.specs.Uplink.{UplinkSlots, IsFrame, uplink_file}
 use Rattle.dmr_repeater.proofs.Files.{read_front}
 use Rattle.dmr_repeater.specs.Files.{Files, KnownOctets}
-use Rattle.dmr_repeater.specs.Headline.{HasOneResult, HasRecording, IsSameResult, LeavesAsMeant, WritesWhatIsMeant}
+use Rattle.dmr_repeater.specs.Headline.{HasOneResult, WritesWhatIsMeant}
 use Rattle.dmr_repeater.specs.Runs.{from_frame}
 use Rattle.dmr_repeater.specs.Summaries.{counts_in}
 use Rattle.dmr_repeater.specs.declared.summary.Summary.{Summary}
@@ -28,9 +28,8 @@ use Rattle.dmr_voice.specs.WellFormed.{IsWellFormed}
 use Rattle.dmr_voice.specs.declared.said.Said.{Said}
 use Rattle.dmr_voice.specs.declared.said.Said.TheVariants.{Nothing}
 use Rattle.dmr_damage_laws.proofs.Slots.{damaged_slots_mean_the_same}
-use Rattle.dmr_damage_laws.specs.DamagedCopies.{BeginAlike, CopiesMeanTheSame, EndAlike, IsCopyOfTheSame, IsDamagedCopy}
-use Rattle.dmr_damage_laws.specs.DamagedCopies.{EndsAsMeant, RunsWriteTheSame}
-use Rattle.dmr_damage_laws.specs.DamagedSlots.{MeansTheSame}
+use Rattle.dmr_damage_laws.specs.DamagedCopies.{CopiesMeanTheSame, IsCopyOfTheSame}
+use Rattle.dmr_damage_laws.specs.DamagedCopies.{RunsWriteTheSame}
 
 -- 1. Copies.
 

@@ -1,11 +1,9 @@
 -- Transmissions, and lists of them: what a line of them is written as is a recording of transmissions that mean the same.
-use Rattle.std.proofs.Common.{◌≡◌, ◌⊎◌, inl, inr, ℕ, zero, suc, ◌≤◌, ◌<◌, Bool, true, false, List, [], ◌∷◌, ◌++◌, map, take, drop}
+use Rattle.std.proofs.Common.{◌≡◌, inl, inr, ℕ, zero, suc, ◌≤◌, Bool, true, false, List, [], ◌∷◌, ◌++◌, map, drop}
 use Rattle.std.proofs.Common.{length, replicate, flat_map, Option, Some, None, refl, sym, ap, ◌∙◌, subst, arith, append_assoc}
 use Rattle.std.proofs.Common.{if◌then◌else◌, is_some}
-use Rattle.std.proofs.lemmas.List.{length-map}
 use Rattle.std.specs.List.{AllByRecursion, AllZip}
-use Rattle.std.specs.Prelude.{◌==◌}
-use Rattle.dmr_hearing.specs.Slots.{SentSlot, Silent, CutOff}
+use Rattle.dmr_hearing.specs.Slots.{Silent, CutOff}
 use Rattle.dmr_link.specs.declared.full_lc.FullLc.{FullLc}
 use Rattle.dmr_voice.proofs.Lists.{all_cells}
 use Rattle.dmr_voice.proofs.Superframes.{AllSix, InSixes, Quiet, all_placed, placed_cells, unbroken_rest}
@@ -16,9 +14,9 @@ use Rattle.dmr_voice.specs.CallMeaning.{foreign_cells, header_cell, lead_cell, s
 use Rattle.dmr_voice.specs.WellFormed.{BeginsWithData, EndsWell, IsPause, IsReadableSuperframe, IsTransmission, IsWellFormed}
 use Rattle.dmr_voice.specs.WellFormed.{Unbroken, Within, presence}
 use Rattle.dmr_voice.specs.declared.said.Role.{Role}
-use Rattle.dmr_voice.specs.declared.said.Role.TheVariants.{Call, Other}
+use Rattle.dmr_voice.specs.declared.said.Role.TheVariants.{Other}
 use Rattle.dmr_damage_laws.proofs.Decided.{Decided}
-use Rattle.dmr_damage_laws.proofs.Places.{Closes, IsReceivedAs, superframes}
+use Rattle.dmr_damage_laws.proofs.Places.{Closes, IsReceivedAs, same_places, superframes}
 use Rattle.dmr_damage_laws.proofs.Rewriting.{IsLine, IsPlain, IsRewritten, Rewrites, all_plain, no_fields, plain, plain_again}
 use Rattle.dmr_damage_laws.proofs.Rewriting.{rewrites_as}
 use Rattle.dmr_damage_laws.specs.SameTransmissions.{IsSamePlace, IsSameSuperframe, IsSameTransmission, superframes_of}
@@ -195,16 +193,8 @@ same_superframes : (ss : List Superframe) → AllZip IsSameSuperframe ss ss
 same_superframes [] = tt
 same_superframes (s ∷ ss) =
     (record { carries = refl; places = same_places s.places; first = refl; last = refl }, same_superframes ss)
-  where
-    same_place : (y : Option Present) → IsSamePlace y y
-    same_place None = tt
-    same_place (Some y) = refl
 
-    same_places : (ys : List (Option Present)) → AllZip IsSamePlace ys ys
-    same_places [] = tt
-    same_places (y ∷ ys) = (same_place y, same_places ys)
-
--- what all stays as it is: a transmission without superframes
+-- A transmission without superframes stays as it is.
 stays : (colour : ℕ) (t : Transmission) (n : ℕ) (ts : List (Transmission × ℕ)) → superframes_of t ≡ []
     → with_superframes (superframes_of t) t ≡ t
     → AllByRecursion IsPlain (cells colour t) → IsTransmission colour t

@@ -1,14 +1,12 @@
 -- The superframes of a call: the fields of their places from B to E may be others, and they mean the same.
 use Rattle.std.proofs.Common.{◌≡◌, ◌⊎◌, inl, inr, ℕ, zero, suc, ◌≤◌, ◌<◌, Bool, true, false, List, [], ◌∷◌, ◌++◌, map, take, drop}
-use Rattle.std.proofs.Common.{length, replicate, Option, Some, None, refl, sym, ap, ◌∙◌, subst, arith, append_assoc}
-use Rattle.std.proofs.Common.{if◌then◌else◌, is_some}
+use Rattle.std.proofs.Common.{length, Option, Some, None, refl, sym, ap, ◌∙◌, subst, arith, append_assoc}
+use Rattle.std.proofs.Common.{if◌then◌else◌}
 use Rattle.std.specs.List.{AllByRecursion, AllZip}
-use Rattle.dmr_burst.specs.declared.emb.Emb.{Emb}
 use Rattle.dmr_hearing.specs.Damage.{IsRecordedAs}
 use Rattle.dmr_hearing.specs.Fields.{IsReceived}
-use Rattle.dmr_hearing.specs.Slots.{SentSlot, Voice, vocoder_of}
+use Rattle.dmr_hearing.specs.Slots.{SentSlot, vocoder_of}
 use Rattle.dmr_link.specs.declared.full_lc.FullLc.{FullLc}
-use Rattle.dmr_voice.proofs.Calls.{Carries}
 use Rattle.dmr_voice.proofs.Superframes.{AllSix, InSixes, Quiet, carries, field_of, known_with, left, one_less, own_lc, place_cells}
 use Rattle.dmr_voice.proofs.Superframes.{placed_cells}
 use Rattle.dmr_voice.specs.CallMeaning.{Cell, Present, Superframe, is_complete, place_cell}
@@ -264,7 +262,8 @@ same_place : (y : Option Present) → IsSamePlace y y
 same_place None = tt
 same_place (Some y) = refl
 
-same_places : (ys : List (Option Present)) → AllZip IsSamePlace ys ys
+-- places are the same as themselves
+pub same_places : (ys : List (Option Present)) → AllZip IsSamePlace ys ys
 same_places [] = tt
 same_places (y ∷ ys) = (same_place y, same_places ys)
 

@@ -1,21 +1,17 @@
 -- What a slot of a recording is written as within the limits is a recording of transmissions that mean the same.
-use Rattle.std.proofs.Common.{◌≡◌, ℕ, zero, suc, Bool, List, [], ◌∷◌, ◌++◌, map, take, length, replicate, Option, Some, None}
-use Rattle.std.proofs.Common.{refl, sym, ap, ◌∙◌, subst, arith}
+use Rattle.std.proofs.Common.{◌≡◌, ℕ, zero, suc, List, [], ◌∷◌, ◌++◌, map, take, length, replicate, Option, None}
+use Rattle.std.proofs.Common.{refl, sym, ap, ◌∙◌, subst}
 use Rattle.std.proofs.lemmas.List.{map-append, length-map}
 use Rattle.std.specs.List.{AllZip}
 use Rattle.dmr_hearing.specs.Damage.{IsRecordedAs}
-use Rattle.dmr_hearing.specs.Slots.{Silent, silence, vocoder_of}
-use Rattle.dmr_hearing.specs.declared.heard.Heard.{Heard}
-use Rattle.dmr_link.specs.declared.full_lc.FullLc.{FullLc}
+use Rattle.dmr_hearing.specs.Slots.{Silent, vocoder_of}
 use Rattle.dmr_voice.proofs.Law.{carried_behind}
-use Rattle.dmr_voice.proofs.Lists.{all_cells}
 use Rattle.dmr_voice.proofs.Recorded.{heard_as_sent, repeats_damaged_recordings}
 use Rattle.dmr_voice.specs.CallMeaning.{Cell, Transmission, sent_list, unsaid}
 use Rattle.dmr_voice.specs.CallRules.{AllCarried}
 use Rattle.dmr_voice.specs.DamagedRecordings.{IsDamagedRecordingOf, meant}
 use Rattle.dmr_voice.specs.Recordings.{AllHeardAs}
 use Rattle.dmr_voice.specs.WellFormed.{IsWellFormed}
-use Rattle.dmr_voice.specs.declared.said.Said.{Said}
 use Rattle.dmr_damage.specs.LimitedSlots.{fresh_memory}
 use Rattle.dmr_damage_laws.proofs.Decided.{ArePlaces, Decided, carried_of, decided, heard_of, outs_of, places_carry, places_heard}
 use Rattle.dmr_damage_laws.proofs.Decided.{slots_of}

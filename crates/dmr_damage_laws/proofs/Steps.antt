@@ -1,12 +1,11 @@
 -- What was sent in a slot of a line, place by place, with what was decided for it.
-use Rattle.std.proofs.Common.{◌≡◌, ◌⊎◌, inl, inr, ℕ, zero, suc, List, [], ◌∷◌, ◌++◌, Bool, map, replicate, Option, Some, None}
+use Rattle.std.proofs.Common.{◌≡◌, ◌⊎◌, inl, inr, ℕ, zero, suc, List, [], ◌∷◌, ◌++◌, replicate, Option, None}
 use Rattle.std.proofs.Common.{refl, sym, subst, slice_index_or}
 use Rattle.std.specs.List.{AllZip}
 use Rattle.dmr_burst.specs.declared.burst.Burst.{Burst}
 use Rattle.dmr_hearing.specs.Damage.{IsRecordedAs}
 use Rattle.dmr_hearing.specs.Hearing.{Hears}
-use Rattle.dmr_hearing.specs.Slots.{Silent, IsHeardAs, silence, vocoder_of}
-use Rattle.dmr_hearing.specs.declared.heard.Heard.{Heard}
+use Rattle.dmr_hearing.specs.Slots.{Silent, IsHeardAs, silence}
 use Rattle.dmr_link.specs.declared.full_lc.FullLc.{FullLc}
 use Rattle.dmr_voice.specs.Bursts.{IsSaid}
 use Rattle.dmr_voice.specs.CallMeaning.{Cell, meaning}
@@ -20,7 +19,7 @@ use Rattle.dmr_voice.specs.declared.track.Track.{Track}
 use Rattle.dmr_damage.specs.Bursts.{IsDamagedSlot}
 use Rattle.dmr_damage.specs.LimitedSlots.{AreFieldsBehind, AreFieldsBehindA, Memory, moved_on}
 use Rattle.dmr_damage.specs.Marks.{burst_mark}
-use Rattle.dmr_damage_laws.proofs.Cells.{Agrees, IsWritten, sent_with, silent_written, slot_written}
+use Rattle.dmr_damage_laws.proofs.Cells.{Agrees, IsWritten, silent_written, slot_written}
 use Rattle.dmr_damage_laws.proofs.Decided.{ArePlaces, Decided, carried_of, heard_of, slots_of}
 
 -- 1. What was decided, beside what was sent.
