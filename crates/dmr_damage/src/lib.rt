@@ -1,10 +1,10 @@
 //! Recordings with wrong bits.
 //!
 //! `damage_recording` reads an uplink recording and writes it with bits turned, as a `DamageSettings` says. **Within the limits**
-//! each part of a burst is written as the word that it reads as, with wrong bits up to its limit. That is meant to leave what a
-//! repeater of the colour code makes of it, which is tested and not proved. **At a rate** each bit is turned, and each burst left
-//! out, so many times in 10,000; nothing is meant of what is repeated then. It goes frame by frame, so that its memory doesn't
-//! grow, and counts what it did (`Damaged`).
+//! each part of a burst is written as the word that it reads as, with wrong bits up to its limit. That leaves what a repeater of
+//! the colour code makes of well-formed transmissions: dmr_damage_laws has the laws. **At a rate** each bit is turned, and each
+//! burst left out, so many times in 10,000; nothing is meant of what is repeated then. It goes frame by frame, so that its memory
+//! doesn't grow, and counts what it did (`Damaged`).
 //!
 //! Contracts say what each slot may be written as. Within the limits that goes by what is heard in the slot and what the rules of
 //! voice calls repeat for it (`specs/Marks.antt`), burst by burst (`specs/Bursts.antt`), and slot after slot with the five behind

@@ -1,0 +1,3 @@
+pub mod DamagedCopies
+pub mod DamagedSlots
+pub mod SameTransmissions
