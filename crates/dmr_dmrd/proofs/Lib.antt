@@ -1,0 +1,4 @@
+pub mod Frames
+pub mod InTurn
+pub mod Lines
+pub mod Syncs
