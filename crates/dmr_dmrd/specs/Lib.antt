@@ -5,5 +5,7 @@ pub mod Lines
 pub mod Payloads
 pub mod Placing
 pub mod Refusals
+pub mod Sending
+pub mod Standing
 pub mod Syncs
 pub mod Taking

@@ -8,13 +8,15 @@
 //! Contracts say which packets are taken (`specs/Payloads.antt`, `specs/Taking.antt`), in which frames they are placed
 //! (`specs/Placing.antt`), and what a slot holds of them (`specs/Lines.antt`). `specs/Holding.antt` goes packet by packet, and
 //! `specs/Imports.antt` says what was read and written, also up to a fault. They cite the captures of dmr_capture and the
-//! recordings of dmr_record.
+//! recordings of dmr_record. `laws` has that a burst stands exactly where its packet is placed (`specs/Standing.antt`), and that
+//! this is the frame in which it was sent where delays differ little (`specs/Sending.antt`).
 #![tactic(auto)]
 
 mod counts;
 mod held;
 mod hold;
 mod import;
+pub mod laws;
 mod packet;
 mod placing;
 mod recording;
