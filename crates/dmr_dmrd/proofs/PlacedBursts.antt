@@ -1,16 +1,17 @@
 -- A burst stands in a recording exactly where its packet is placed.
-use Rattle.std.proofs.Common.{◌≡◌, ◌≢◌, ◌⊎◌, ◌↔◌, ℕ, ◌+◌, ◌-◌, ◌<◌, ◌≤◌, ◌==◌, ◌||◌, nat_le, nat_lt, if◌then◌else◌, Bool, true, false, List, []}
-use Rattle.std.proofs.Common.{◌∷◌, ◌++◌, Option, Some, None, inl, inr, length, replicate, refl, sym, ap, ◌∙◌, subst, arith}
+use Rattle.std.proofs.Common.{◌≡◌, ◌≢◌, ◌⊎◌, ◌↔◌, ℕ, ◌+◌, ◌-◌, ◌<◌, ◌≤◌, ◌==◌, ◌||◌, nat_le, nat_lt}
+use Rattle.std.proofs.Common.{if◌then◌else◌, Bool, true, false, List, [], ◌∷◌, ◌++◌, Option, Some, None, inl, inr, length}
+use Rattle.std.proofs.Common.{replicate, refl, sym, ap, ◌∙◌, subst, arith}
 use Rattle.std.proofs.lemmas.Bool.Decides.{nat_tests}
 use Rattle.std.proofs.lemmas.List.{get_or_append_left, get_or-append_right, get_or_past, get_or-replicate, length-append}
 use Rattle.std.proofs.lemmas.List.{length-replicate}
 use Rattle.std.proofs.Math.Seq.{get_or-append_seam}
 use Rattle.dmr_record.specs.Uplink.{UplinkSlot}
 use Rattle.dmr_capture.specs.State.{CapturedPacket}
-use Rattle.dmr_dmrd.specs.Holding.{held_burst, held_of, hold_behind, hold_with, hold_with_taken, no_hold, slot_held}
+use Rattle.dmr_dmrd.specs.Holding.{held_burst, held_of_capture, hold_behind, hold_with, hold_with_taken, no_hold, slot_held}
 use Rattle.dmr_dmrd.specs.Holding.{slot_in, start_of, with_slot}
 use Rattle.dmr_dmrd.specs.Lines.{HeldSlot, line_behind, line_with, slot_behind}
-use Rattle.dmr_dmrd.specs.Placing.{asked_behind, asked_in_stream, frame_in_stream, frame_of_first, frame_on, frames_behind}
+use Rattle.dmr_dmrd.specs.Placing.{asked_behind, asked_in_stream, frame_in_stream, frame_of_first, frame_on, frames_up_to}
 use Rattle.dmr_dmrd.specs.Placing.{frame_asked, is_much_later, IsFromOn, next_placed, numbers_on, places_behind}
 use Rattle.dmr_dmrd.specs.Standing.{IsPlacedAmong, IsPlacedAt}
 use Rattle.dmr_dmrd.specs.Taking.{taken_packet}
@@ -39,7 +40,8 @@ least_on Data (Voice voice) last on asked = omega arith
 least_on (Voice before) Data last on asked = data_least last on asked (nat_le asked (last + on + 1)) refl
 least_on Data Data last on asked = data_least last on asked (nat_le asked (last + on + 1)) refl
 
-first_least : (start : Start) (p : HotspotPacket) (least time : ℕ) → IsFromOn least (Begins (frame_of_first start p.slot least time))
+first_least : (start : Start) (p : HotspotPacket) (least time : ℕ)
+    → IsFromOn least (Begins (frame_of_first start p.slot least time))
 first_least start p least time = omega arith
 
 late_by : (l : LastPlaced) (start : Start) (p : HotspotPacket) (time : ℕ) (much : Bool)
@@ -68,7 +70,7 @@ by_stream l start p time false = first_least start p (l.frame + 1) time
 
 -- what a packet asks for is behind the last frame
 pub asked_on : (last : Option LastPlaced) (start : Start) (p : HotspotPacket) (time : ℕ)
-    → IsFromOn (frames_behind last) (asked_behind last start p time)
+    → IsFromOn (frames_up_to last) (asked_behind last start p time)
 asked_on None start p time = omega arith
 asked_on (Some l) start p time = by_stream l start p time (l.stream == p.stream)
 
@@ -199,8 +201,8 @@ line_from line burst b f (Some at) behind (inr (is, has)) =
 
 -- The frames of both slots are counted.
 pub record IsCounted (hold : Hold) : Type 0 where
-  pub one : length hold.one.line ≡ frames_behind hold.one.places.last
-  pub two : length hold.two.line ≡ frames_behind hold.two.places.last
+  pub one : length hold.one.line ≡ frames_up_to hold.one.places.last
+  pub two : length hold.two.line ≡ frames_up_to hold.two.places.last
 
 -- what a packet asks for, by the slot that it says
 abbrev asked_at : Slot → Hold → HotspotPacket → ℕ → Asked
@@ -232,7 +234,7 @@ is_own_slot Two One = inr (λ e. cc e)
 is_own_slot Two Two = inl refl
 
 count_of : (slot : Slot) (hold : Hold) → IsCounted hold
-    → length (slot_held slot hold).line ≡ frames_behind (slot_held slot hold).places.last
+    → length (slot_held slot hold).line ≡ frames_up_to (slot_held slot hold).places.last
 count_of One hold counted = counted.one
 count_of Two hold counted = counted.two
 
@@ -246,7 +248,7 @@ asked_behind_line : (slot : Slot) (hold : Hold) (p : HotspotPacket) (time : ℕ)
     → frame_asked (asked_at slot hold p time) ≡ Some at → length (slot_held slot hold).line ≤ at
 asked_behind_line slot hold p time counted at asks =
     subst (λ n. n ≤ at) (sym (count_of slot hold counted))
-    (asked_from (frames_behind (slot_held slot hold).places.last) (asked_at slot hold p time)
+    (asked_from (frames_up_to (slot_held slot hold).places.last) (asked_at slot hold p time)
     (asked_on (slot_held slot hold).places.last (start_of hold.start slot time) p time) at asks)
 
 line_long : (line : List UplinkSlot) (burst : List ℕ) (at : ℕ) → length line ≤ at → length (line_with line burst at) ≡ at + 1
@@ -261,8 +263,8 @@ next_frame None p time frame = refl
 next_frame (Some l) p time frame = refl
 
 count_line : (line : List UplinkSlot) (burst : List ℕ) (places : SlotPlaces) (p : HotspotPacket) (time : ℕ) (asked : Asked)
-    → IsFromOn (frames_behind places.last) asked → length line ≡ frames_behind places.last
-    → length (line_behind line burst (frame_asked asked)) ≡ frames_behind (places_behind places p time asked).last
+    → IsFromOn (frames_up_to places.last) asked → length line ≡ frames_up_to places.last
+    → length (line_behind line burst (frame_asked asked)) ≡ frames_up_to (places_behind places p time asked).last
 count_line line burst places p time Late from counted = counted
 count_line line burst places p time (Begins frame) from counted = line_long line burst frame (omega (arith, from, counted))
 count_line line burst places p time (GoesOn frame lost) from counted =
@@ -420,7 +422,8 @@ stands_among : (settings : ImportSettings) (packets : List CapturedPacket) (hold
 stands_among settings [] hold slot f b counted stands = inl stands
 stands_among settings (packet ∷ packets) hold slot f b counted stands =
     among_more settings hold packet packets slot f b counted
-    (stands_among settings packets (hold_with settings hold packet) slot f b (step_counted settings hold packet slot f b counted) stands)
+    (stands_among settings packets (hold_with settings hold packet) slot f b
+    (step_counted settings hold packet slot f b counted) stands)
 
 among_less : (settings : ImportSettings) (hold : Hold) (packet : CapturedPacket) (packets : List CapturedPacket) (slot : Slot)
     (f : ℕ) (b : List ℕ) → IsCounted hold
@@ -456,7 +459,7 @@ only_among settings packets slot f b (inr among) = among
 
 -- a burst stands in a frame exactly where a packet is placed there that has it
 pub stands_where_placed : (settings : ImportSettings) (packets : List CapturedPacket) (slot : Slot) (f : ℕ) (b : List ℕ)
-    → (slot_in (slot_held slot (held_of settings packets)).line f ≡ Some b)
+    → (slot_in (slot_held slot (held_of_capture settings packets)).line f ≡ Some b)
     ↔ IsPlacedAmong settings (no_hold settings) packets slot f b
 stands_where_placed settings packets slot f b = (
   λ stands. only_among settings packets slot f b

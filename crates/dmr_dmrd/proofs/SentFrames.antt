@@ -1,13 +1,13 @@
 -- Packets that are captured in the order of sending are placed in the frames of sending.
-use Rattle.std.proofs.Common.{◌≡◌, ◌≢◌, ℕ, ◌+◌, ◌-◌, ◌*◌, ◌/◌, ◌%◌, ◌<◌, ◌≤◌, ◌==◌, ◌||◌, max, nat_le, if◌then◌else◌, Bool, true, false}
-use Rattle.std.proofs.Common.{List, [], ◌∷◌, Option, Some, None, refl, sym, ap, ◌∙◌, subst, arith}
+use Rattle.std.proofs.Common.{◌≡◌, ◌≢◌, ℕ, ◌+◌, ◌-◌, ◌*◌, ◌/◌, ◌%◌, ◌<◌, ◌≤◌, ◌==◌, ◌||◌, max, nat_le, if◌then◌else◌}
+use Rattle.std.proofs.Common.{Bool, true, false, List, [], ◌∷◌, Option, Some, None, refl, sym, ap, ◌∙◌, subst, arith}
 use Rattle.std.proofs.lemmas.Bool.Decides.{nat_tests}
 use Rattle.dmr_dmrd.specs.Holding.{held_burst, no_hold, slot_held, start_of, with_slot}
 use Rattle.dmr_dmrd.specs.Lines.{slot_behind}
 use Rattle.dmr_dmrd.specs.Placing.{asked_behind, asked_in_stream, first_placed, frame_asked, frame_from_start, frame_in_stream}
 use Rattle.dmr_dmrd.specs.Placing.{frame_of_first, frame_on, is_much_later, later_than_start, nearest_by_six, numbers_on}
 use Rattle.dmr_dmrd.specs.Placing.{places_behind, voice_frames_on}
-use Rattle.dmr_dmrd.specs.Sending.{AgreeInKind, AreSentFrom, FollowsInSlot, GoesOnBy, IsCaptured, IsKind, MayFollow, SentPacket}
+use Rattle.dmr_dmrd.specs.Sending.{AgreeInKind, AreSentFrom, FollowsInSlot, GoesOnBy, IsCaptured, IsKind, MayBeNext, SentPacket}
 use Rattle.dmr_dmrd.specs.Sending.{frames_placed, frames_sent, last_in, last_of_one, last_of_two, time_in_frame}
 use Rattle.dmr_dmrd.specs.declared.hold.Hold.{Hold}
 use Rattle.dmr_dmrd.specs.declared.hold.ImportSettings.{ImportSettings}
@@ -69,7 +69,8 @@ data_by last on frames numbers is few agree false near = refl
 
 data_on : (last on frames numbers : ℕ) → on ≡ numbers % 256 → numbers ≤ frames → frames ≢ numbers + 1
     → (if nat_le (last + frames) (last + on + 1) then last + on else last + frames) ≡ last + frames
-data_on last on frames numbers is few agree = data_by last on frames numbers is few agree (nat_le (last + frames) (last + on + 1)) refl
+data_on last on frames numbers is few agree =
+    data_by last on frames numbers is few agree (nat_le (last + frames) (last + on + 1)) refl
 
 goes_on : (before kind : BurstKind) (last on frames numbers : ℕ) → IsKind before → IsKind kind → on ≡ numbers % 256 → 1 ≤ on
     → on < 128 → numbers ≤ frames → AgreeInKind before kind frames numbers
@@ -241,7 +242,7 @@ module _ (least first : ℕ) (slot : Slot) (start : Start) (last s : SentPacket)
 -- the next packet of a slot asks for the frame in which it was sent
 right : (least first : ℕ) (slot : Slot) (start : Start) (before : Option SentPacket) (s : SentPacket)
     (placed : Option LastPlaced) → IsTimeOf least first start.slot 0 start.time → s.p.slot ≡ slot
-    → MirrorsLast least first slot before placed → IsCaptured least s → first ≤ s.frame → MayFollow before s
+    → MirrorsLast least first slot before placed → IsCaptured least s → first ≤ s.frame → MayBeNext before s
     → IsRight least first slot s placed (asked_behind placed start s.p s.time)
 right least first slot start None s None is_start of_slot mirrors is later follows =
     right_first least first slot s None start 0 of_slot is_start is later (omega arith)
@@ -272,7 +273,7 @@ Onwards least first settings start rest = (hold : Hold) (one two : Option SentPa
 in_slot : (least first : ℕ) (settings : ImportSettings) (hold : Hold) (start : Start) (one two : Option SentPacket)
     (s : SentPacket) (rest : List SentPacket) (slot : Slot) → s.p.slot ≡ slot → Begun least first hold slot s start
     → MirrorsLast least first One one hold.one.places.last → MirrorsLast least first Two two hold.two.places.last
-    → IsCaptured least s → first ≤ s.frame → MayFollow (last_in slot one two) s
+    → IsCaptured least s → first ≤ s.frame → MayBeNext (last_in slot one two) s
     → AreSentFrom least first (last_of_one slot s one) (last_of_two slot s two) rest
     → Onwards least first settings start rest
     → frame_asked (asked_in slot hold s) ∷ frames_placed settings (held_in slot settings hold s) rest

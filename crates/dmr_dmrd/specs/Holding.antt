@@ -65,11 +65,11 @@ abbrev pub no_hold : ImportSettings → Hold
 no_hold settings = record { repeater = settings.repeater; start = None; one = no_slot; two = no_slot; other = 0 }
 
 -- what is held of the packets of a capture
-abbrev pub held_of : ImportSettings → List CapturedPacket → Hold
-held_of settings packets = hold_behind settings (no_hold settings) packets
+abbrev pub held_of_capture : ImportSettings → List CapturedPacket → Hold
+held_of_capture settings packets = hold_behind settings (no_hold settings) packets
 
 -- A packet is taken, and asks for a frame past those that a recording may have.
-pub record IsPastLimit (settings : ImportSettings) (hold : Hold) (packet : CapturedPacket) : Type 0 where
+pub record IsPastRecording (settings : ImportSettings) (hold : Hold) (packet : CapturedPacket) : Type 0 where
   pub p : HotspotPacket
   pub frame : ℕ
   pub taken : taken_packet settings.ports hold.repeater packet.link packet.octets ≡ Some p
@@ -91,11 +91,11 @@ abbrev pub frames_held : Hold → ℕ
 frames_held hold = max (length hold.one.line) (length hold.two.line)
 
 -- the frames of the recording of what is held
-abbrev pub frames_of : Hold → List UplinkSlots
-frames_of hold = first_frames hold.one.line hold.two.line (frames_held hold)
+abbrev pub recorded_frames : Hold → List UplinkSlots
+recorded_frames hold = first_frames hold.one.line hold.two.line (frames_held hold)
 
 -- What is held of both slots is as it has to be.
-pub record IsHeld (hold : Hold) : Type 0 where
+pub record AreSlotsHeld (hold : Hold) : Type 0 where
   pub one : IsSlotHeld hold.one
   pub two : IsSlotHeld hold.two
 

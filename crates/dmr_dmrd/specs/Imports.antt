@@ -8,7 +8,7 @@ use Rattle.dmr_capture.specs.declared.fault.CaptureFault.TheVariants.{TooLong}
 use Rattle.dmr_record.specs.Devices.{Tears}
 use Rattle.dmr_record.specs.Head.{frame_limit}
 use Rattle.dmr_record.specs.Uplink.{uplink_file}
-use Rattle.dmr_dmrd.specs.Holding.{IsPastLimit, frames_held, frames_of, held_of}
+use Rattle.dmr_dmrd.specs.Holding.{IsPastRecording, frames_held, recorded_frames, held_of_capture}
 use Rattle.dmr_dmrd.specs.declared.counts.ImportedBursts.{ImportedBursts}
 use Rattle.dmr_dmrd.specs.declared.hold.Hold.{Hold}
 use Rattle.dmr_dmrd.specs.declared.hold.ImportSettings.{ImportSettings}
@@ -17,7 +17,7 @@ use Rattle.dmr_dmrd.specs.declared.hold.ImportSettings.{ImportSettings}
 pub record AreHeld (settings : ImportSettings) (state : CaptureState) (packets : List CapturedPacket)
     (left left' : Option (List ℕ)) : Type 0 where
   pub read : IsReadTo state packets left left'
-  pub few : frames_held (held_of settings packets) ≤ frame_limit
+  pub few : frames_held (held_of_capture settings packets) ≤ frame_limit
 
 -- A whole capture was read, and this is held of its packets.
 pub record IsAllHeld (settings : ImportSettings) (hold : Hold) (left left' : Option (List ℕ)) : Type 0 where
@@ -25,7 +25,7 @@ pub record IsAllHeld (settings : ImportSettings) (hold : Hold) (left left' : Opt
   pub packets : List CapturedPacket
   pub each : AreHeld settings state packets left left'
   pub end : IsAtEnd left'
-  pub held : hold ≡ held_of settings packets
+  pub held : hold ≡ held_of_capture settings packets
 
 -- The counts are of what is held.
 pub record IsCountOf (hold : Hold) (counted : ImportedBursts) : Type 0 where
@@ -37,21 +37,21 @@ pub record IsCountOf (hold : Hold) (counted : ImportedBursts) : Type 0 where
   pub other : counted.other ≡ hold.other
 
 -- A capture was read to its end, and its recording was written.
-pub record IsCaptureImported (settings : ImportSettings) (counted : ImportedBursts) (left left' held held' : Option (List ℕ))
+pub record IsCaptureRecorded (settings : ImportSettings) (counted : ImportedBursts) (left left' held held' : Option (List ℕ))
     : Type 0 where
   pub hold : Hold
   pub all : IsAllHeld settings hold left left'
-  pub written : Appends held held' (uplink_file (frames_of hold))
+  pub written : Appends held held' (uplink_file (recorded_frames hold))
   pub counts : IsCountOf hold counted
 
 -- The begin of a capture shows this fault.
-pub record IsBeginFault (fault : CaptureFault) (left left' : Option (List ℕ)) : Type 0 where
+pub record IsFaultOfBegin (fault : CaptureFault) (left left' : Option (List ℕ)) : Type 0 where
   pub taken : List ℕ
   pub read : Consumes left left' taken
   pub shown : ShowsBeginFault fault taken
 
 -- These packets were read and held, and the octets behind them show this fault.
-pub record IsPieceFault (settings : ImportSettings) (fault : CaptureFault) (left left' : Option (List ℕ)) : Type 0 where
+pub record IsFaultOfPiece (settings : ImportSettings) (fault : CaptureFault) (left left' : Option (List ℕ)) : Type 0 where
   pub state : CaptureState
   pub behind : CaptureState
   pub packets : List CapturedPacket
@@ -64,7 +64,7 @@ pub record IsPieceFault (settings : ImportSettings) (fault : CaptureFault) (left
   pub shown : ShowsFault behind fault part
 
 -- The same, and the packet behind them asks for a frame past those that a recording may have.
-pub record IsLimitFault (settings : ImportSettings) (fault : CaptureFault) (left left' : Option (List ℕ)) : Type 0 where
+pub record IsFaultOfLimit (settings : ImportSettings) (fault : CaptureFault) (left left' : Option (List ℕ)) : Type 0 where
   pub state : CaptureState
   pub behind : CaptureState
   pub packets : List CapturedPacket
@@ -74,17 +74,17 @@ pub record IsLimitFault (settings : ImportSettings) (fault : CaptureFault) (left
   pub octets : List ℕ
   pub read : Consumes left_mid left' octets
   pub next : AreRead state octets behind (past ∷ [])
-  pub shown : IsPastLimit settings (held_of settings packets) past
+  pub shown : IsPastRecording settings (held_of_capture settings packets) past
   pub long : fault ≡ TooLong past.octet
 
 -- A capture is at fault.
-abbrev pub IsImportFault : ImportSettings → CaptureFault → (left left' : Option (List ℕ)) → Type 0
-IsImportFault settings fault left left' = IsBeginFault fault left left'
-    ⊎ IsPieceFault settings fault left left'
-    ⊎ IsLimitFault settings fault left left'
+abbrev pub IsFaultOfCapture : ImportSettings → CaptureFault → (left left' : Option (List ℕ)) → Type 0
+IsFaultOfCapture settings fault left left' = IsFaultOfBegin fault left left'
+    ⊎ IsFaultOfPiece settings fault left left'
+    ⊎ IsFaultOfLimit settings fault left left'
 
 -- The recording of a whole capture wasn't written to its end: the sink took a front of it.
 pub record IsRecordingTorn (settings : ImportSettings) (left left' held held' : Option (List ℕ)) : Type 0 where
   pub hold : Hold
   pub all : IsAllHeld settings hold left left'
-  pub written : Tears held held' (uplink_file (frames_of hold))
+  pub written : Tears held held' (uplink_file (recorded_frames hold))

@@ -1,7 +1,7 @@
 -- What is held of a slot: the bursts that were placed, and the silences between them.
 use Rattle.std.specs.Prelude.{◌≡◌, ℕ, ◌-◌, ◌≤◌, List, [], ◌∷◌, ◌++◌, Option, Some, None, length, replicate}
 use Rattle.dmr_record.specs.Uplink.{UplinkSlot}
-use Rattle.dmr_dmrd.specs.Placing.{frame_asked, frames_behind, no_places, places_behind}
+use Rattle.dmr_dmrd.specs.Placing.{frame_asked, frames_up_to, no_places, places_behind}
 use Rattle.dmr_dmrd.specs.declared.packet.HotspotPacket.{HotspotPacket}
 use Rattle.dmr_dmrd.specs.declared.placing.Asked.{Asked}
 use Rattle.dmr_dmrd.specs.declared.placing.SlotPlaces.{SlotPlaces}
@@ -34,7 +34,7 @@ no_slot = record { places = no_places; line = [] }
 -- A slot has as many frames as one more than the last place, no more than a recording has, and each burst and each number that was
 -- left out takes one.
 pub record IsSlotHeld (slot : HeldSlot) : Type 0 where
-  pub count : length slot.line ≡ frames_behind slot.places.last
+  pub count : length slot.line ≡ frames_up_to slot.places.last
   pub few : length slot.line ≤ 1048576
   pub bursts : slot.places.bursts ≤ length slot.line
   pub lost : slot.places.lost ≤ length slot.line

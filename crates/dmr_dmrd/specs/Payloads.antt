@@ -34,8 +34,8 @@ abbrev pub burst_said : List ℕ → List ℕ
 burst_said payload = take 33 (drop 20 payload)
 
 -- The number of a packet stands at 4, its repeater at 11, the flags at 15, its stream at 16, and its burst at 20.
-abbrev pub packet_said : List ℕ → HotspotPacket
-packet_said payload = record {
+abbrev pub hotspot_packet_said : List ℕ → HotspotPacket
+hotspot_packet_said payload = record {
   number = slice_index payload 4;
   repeater = big_number 4 (drop 11 payload);
   slot = slot_said (slice_index payload 15);
@@ -45,5 +45,5 @@ packet_said payload = record {
 }
 
 -- the packet that a payload says
-abbrev pub packet_in : List ℕ → Option HotspotPacket
-packet_in payload = if is_dmrd payload then Some (packet_said payload) else None
+abbrev pub hotspot_packet_in : List ℕ → Option HotspotPacket
+hotspot_packet_in payload = if is_dmrd payload then Some (hotspot_packet_said payload) else None

@@ -114,9 +114,9 @@ places_behind places p time (GoesOn frame lost) = record places {
 }
 
 -- how many frames a slot has: one more than the frame of its last packet
-abbrev pub frames_behind : Option LastPlaced → ℕ
-frames_behind None = 0
-frames_behind (Some last) = last.frame + 1
+abbrev pub frames_up_to : Option LastPlaced → ℕ
+frames_up_to None = 0
+frames_up_to (Some last) = last.frame + 1
 
 -- in front of a recording
 abbrev pub no_places : SlotPlaces

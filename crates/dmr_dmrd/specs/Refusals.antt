@@ -6,11 +6,11 @@ use Rattle.dmr_dmrd.specs.declared.import.Halt.{Halt}
 use Rattle.dmr_dmrd.specs.declared.import.Halt.TheVariants as halt
 
 -- something holds where the packet asks for a frame past the limit
-abbrev pub IfPast : Refused → Type 0 → Type 0
-IfPast refused.Past holds = holds
-IfPast refused.Memory holds = Unit {0}
+abbrev pub IfPastLimit : Refused → Type 0 → Type 0
+IfPastLimit refused.Past holds = holds
+IfPastLimit refused.Memory holds = Unit {0}
 
 -- something holds of the fault, where the capture is at fault
-abbrev pub IfCapture : Halt → (CaptureFault → Type 0) → Type 0
-IfCapture (halt.Capture fault) Holds = Holds fault
-IfCapture halt.Memory Holds = Unit {0}
+abbrev pub IfStoppedAtFault : Halt → (CaptureFault → Type 0) → Type 0
+IfStoppedAtFault (halt.Capture fault) Holds = Holds fault
+IfStoppedAtFault halt.Memory Holds = Unit {0}

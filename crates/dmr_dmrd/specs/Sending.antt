@@ -60,9 +60,9 @@ pub record FollowsInSlot (last next : SentPacket) : Type 0 where
   pub stream : last.p.stream ≡ next.p.stream → GoesOnBy last.p next.p frames
 
 -- the same, where there is one before
-abbrev pub MayFollow : Option SentPacket → SentPacket → Type 0
-MayFollow None next = Unit {0}
-MayFollow (Some last) next = FollowsInSlot last next
+abbrev pub MayBeNext : Option SentPacket → SentPacket → Type 0
+MayBeNext None next = Unit {0}
+MayBeNext (Some last) next = FollowsInSlot last next
 
 -- the last packet of a slot, behind this one
 abbrev pub last_of_one : Slot → SentPacket → Option SentPacket → Option SentPacket
@@ -78,11 +78,11 @@ abbrev pub last_in : Slot → Option SentPacket → Option SentPacket → Option
 last_in One one two = one
 last_in Two one two = two
 
--- Packets stand in the order of sending, behind these last ones of both slots. Their delays differ by less than 30 milliseconds, and
--- none is of a frame before this one.
+-- Packets stand in the order of sending, behind these last ones of both slots. Their delays differ by less than 30 milliseconds,
+-- and none is of a frame before this one.
 abbrev pub AreSentFrom : ℕ → ℕ → (one two : Option SentPacket) → List SentPacket → Type 0
 AreSentFrom least first one two [] = Unit {0}
-AreSentFrom least first one two (s ∷ rest) = IsCaptured least s × (first ≤ s.frame) × MayFollow (last_in s.p.slot one two) s
+AreSentFrom least first one two (s ∷ rest) = IsCaptured least s × (first ≤ s.frame) × MayBeNext (last_in s.p.slot one two) s
     × AreSentFrom least first (last_of_one s.p.slot s one) (last_of_two s.p.slot s two) rest
 
 -- in which frames packets are placed that are taken

@@ -3,7 +3,7 @@ use Rattle.std.specs.Prelude.{ℕ, ◌==◌, if◌then◌else◌, Bool, true, Li
 use Rattle.dmr_capture.specs.Links.{ipv4_carried}
 use Rattle.dmr_capture.specs.Udp.{UdpDatagram, udp_carried}
 use Rattle.dmr_capture.specs.declared.link.Link.{Link}
-use Rattle.dmr_dmrd.specs.Payloads.{packet_in}
+use Rattle.dmr_dmrd.specs.Payloads.{hotspot_packet_in}
 use Rattle.dmr_dmrd.specs.declared.packet.HotspotPacket.{HotspotPacket}
 use Rattle.dmr_dmrd.specs.declared.taking.Ports.{Ports}
 use Rattle.dmr_dmrd.specs.declared.taking.Ports.TheVariants.{To, From}
@@ -15,7 +15,7 @@ is_that_way (From port) datagram = datagram.source == port
 
 abbrev pub packet_of_udp : Ports → Option UdpDatagram → Option HotspotPacket
 packet_of_udp ports None = None
-packet_of_udp ports (Some datagram) = if is_that_way ports datagram then packet_in datagram.payload else None
+packet_of_udp ports (Some datagram) = if is_that_way ports datagram then hotspot_packet_in datagram.payload else None
 
 abbrev pub packet_of_ipv4 : Ports → Option (List ℕ) → Option HotspotPacket
 packet_of_ipv4 ports None = None

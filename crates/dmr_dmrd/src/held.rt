@@ -63,7 +63,7 @@ fn put_burst(
 impl SlotHeld {
     ghost use Rattle.dmr_dmrd.specs.Lines.{IsSlotHeld, no_slot, slot_behind};
     ghost use Rattle.dmr_dmrd.specs.Placing.{asked_behind as asked_by, frame_asked};
-    ghost use Rattle.dmr_dmrd.specs.Refusals.{IfPast};
+    ghost use Rattle.dmr_dmrd.specs.Refusals.{IfPastLimit};
 
     /// In front of a recording.
     pub(crate) fn none(alloc: Global) -> SlotHeld
@@ -103,7 +103,7 @@ impl SlotHeld {
             (asked_by self.old.places.last start packet.now time)) }
         ensures held { OnOk result (IsSlotHeld self.new) }
         ensures late { OnOk result (self.new.places.late ≤ self.old.places.late + 1) }
-        ensures past { IfErr result (λ e. IfPast e ((frame : ℕ) × (1048576 ≤ frame)
+        ensures past { IfErr result (λ e. IfPastLimit e ((frame : ℕ) × (1048576 ≤ frame)
             × (frame_asked (asked_by self.old.places.last start packet.now time) ≡ Some frame))) }
     {
         let asked = asked_behind(&self.places.last, start, packet, time);

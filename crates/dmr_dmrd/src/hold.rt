@@ -3,7 +3,7 @@ ghost use Rattle.std.specs.Prelude.{◌≡◌, ◌+◌, ◌≤◌, ◌<◌, ◌^
 ghost use Rattle.dmr_capture.specs.State.{captured_packet};
 ghost use Rattle.dmr_dmrd.specs.Holding as spec;
 ghost use Rattle.dmr_dmrd.specs.Placing.{frame_asked};
-ghost use Rattle.dmr_dmrd.specs.Refusals.{IfPast};
+ghost use Rattle.dmr_dmrd.specs.Refusals.{IfPastLimit};
 
 use crate::held::{Refused, SlotHeld};
 use crate::packet::{HotspotPacket, Slot};
@@ -71,12 +71,12 @@ impl Hold {
         packet: &HotspotPacket,
         time: u128,
     ) -> Result<(), Refused>
-        requires held { spec.IsHeld self.old }
+        requires held { spec.AreSlotsHeld self.old }
         requires few { spec.late_or_other self.old < 2 ^ 63 }
         ensures taken { OnOk result (self.new ≡ spec.hold_with_taken settings.now self.old time (Some packet.now)) }
-        ensures held { OnOk result (spec.IsHeld self.new) }
+        ensures held { OnOk result (spec.AreSlotsHeld self.new) }
         ensures few { OnOk result (spec.late_or_other self.new ≤ spec.late_or_other self.old + 1) }
-        ensures past { IfErr result (λ e. IfPast e ((frame : ℕ) × (1048576 ≤ frame)
+        ensures past { IfErr result (λ e. IfPastLimit e ((frame : ℕ) × (1048576 ≤ frame)
             × (frame_asked (spec.asked_of self.old packet.now time) ≡ Some frame))) }
     {
         let burst = held_burst(settings.as_uplink, &packet.burst);
@@ -100,12 +100,13 @@ impl Hold {
         packet: Packet,
         octets: &[u8],
     ) -> Result<(), Refused>
-        requires held { spec.IsHeld self.old }
+        requires held { spec.AreSlotsHeld self.old }
         requires few { spec.late_or_other self.old < 2 ^ 63 }
         ensures taken { OnOk result (self.new ≡ spec.hold_with settings.now self.old (captured_packet packet octets.now)) }
-        ensures held { OnOk result (spec.IsHeld self.new) }
+        ensures held { OnOk result (spec.AreSlotsHeld self.new) }
         ensures few { OnOk result (spec.late_or_other self.new ≤ spec.late_or_other self.old + 1) }
-        ensures past { IfErr result (λ e. IfPast e (spec.IsPastLimit settings.now self.old (captured_packet packet octets.now))) }
+        ensures past { IfErr result (λ e. IfPastLimit e
+            (spec.IsPastRecording settings.now self.old (captured_packet packet octets.now))) }
     {
         match taken_packet(settings.ports, self.repeater, packet.link, octets) {
             Some(taken) => self.take_packet(settings, &taken, packet.time),

@@ -2,10 +2,10 @@
 ghost use Rattle.std.specs.Prelude.{◌≡◌, ◌≤◌, ◌<◌, ◌^◌, true, false, length, IfOk, IfErr, OnOk};
 ghost use Rattle.std.specs.Io.KnownBytes.{IsAtEnd};
 ghost use Rattle.dmr_capture.specs.Reading.{is_of_capture_end, is_capture_read};
-ghost use Rattle.dmr_dmrd.specs.Ends.{IfCaptureAtFault, IfRecordingUnwritten, IfImportMemory};
-ghost use Rattle.dmr_dmrd.specs.Holding.{IsHeld, late_or_other, no_hold};
-ghost use Rattle.dmr_dmrd.specs.Imports.{IsAllHeld, IsCaptureImported, IsCountOf, IsImportFault, IsRecordingTorn};
-ghost use Rattle.dmr_dmrd.specs.Refusals.{IfCapture};
+ghost use Rattle.dmr_dmrd.specs.Ends.{IfHotspotFault, IfUnrecorded, IfUnheld};
+ghost use Rattle.dmr_dmrd.specs.Holding.{AreSlotsHeld, late_or_other, no_hold};
+ghost use Rattle.dmr_dmrd.specs.Imports.{IsAllHeld, IsCaptureRecorded, IsCountOf, IsFaultOfCapture, IsRecordingTorn};
+ghost use Rattle.dmr_dmrd.specs.Refusals.{IfStoppedAtFault};
 
 use crate::counts::{ImportEnd, ImportedBursts};
 use crate::held::Refused;
@@ -35,12 +35,12 @@ fn take_packets<S: Source>(
     requires room { 262144 ≤ length room.old }
     requires begin { hold.old ≡ no_hold settings.now }
     ensures all { OnOk result (IsAllHeld settings.now hold.new (S.left source.old) (S.left source.new)) }
-    ensures held { OnOk result (IsHeld hold.new) }
+    ensures held { OnOk result (AreSlotsHeld hold.new) }
     ensures few { OnOk result (late_or_other hold.new < 2 ^ 63) }
-    ensures fault { IfErr result (λ e. IfCapture e (λ fault. IsImportFault settings.now fault
+    ensures fault { IfErr result (λ e. IfStoppedAtFault e (λ fault. IsFaultOfCapture settings.now fault
         (S.left source.old) (S.left source.new))) }
-    ensures cut { IfErr result (λ e. IfCapture e (λ fault. is_of_capture_end fault ≡ true → IsAtEnd (S.left source.new))) }
-    ensures source { IfErr result (λ e. IfCapture e (λ fault. S.has_failed source.new ≡ is_capture_read fault)) }
+    ensures cut { IfErr result (λ e. IfStoppedAtFault e (λ fault. is_of_capture_end fault ≡ true → IsAtEnd (S.left source.new))) }
+    ensures source { IfErr result (λ e. IfStoppedAtFault e (λ fault. S.has_failed source.new ≡ is_capture_read fault)) }
 {
     let mut capture = match Capture::begin(source) {
         Ok(capture) => capture,
@@ -66,7 +66,7 @@ fn take_packets<S: Source>(
 
 /// What is counted of what is held.
 fn counts_of(hold: &Hold) -> ImportedBursts
-    requires held { IsHeld hold.now }
+    requires held { AreSlotsHeld hold.now }
     requires few { late_or_other hold.now < 2 ^ 63 }
     ensures counts { IsCountOf hold.now result }
 {
@@ -100,21 +100,21 @@ pub fn import_dmrd<S: Source, K: Sink>(
     requires source { S.has_failed source.old ≡ false }
     requires sink { K.has_failed sink.old ≡ false }
     // The whole capture was read, and the recording of its packets written.
-    ensures whole { IfOk result (λ counted. IsCaptureImported settings.now counted
+    ensures whole { IfOk result (λ counted. IsCaptureRecorded settings.now counted
         (S.left source.old) (S.left source.new) (K.held sink.old) (K.held sink.new)) }
     // Or it is at fault, which the octets behind the packets that are held show.
-    ensures fault { IfErr result (λ e. IfCaptureAtFault e (λ fault. IsImportFault settings.now fault
+    ensures fault { IfErr result (λ e. IfHotspotFault e (λ fault. IsFaultOfCapture settings.now fault
         (S.left source.old) (S.left source.new))) }
-    ensures cut { IfErr result (λ e. IfCaptureAtFault e (λ fault. is_of_capture_end fault ≡ true → IsAtEnd (S.left source.new))) }
+    ensures cut { IfErr result (λ e. IfHotspotFault e (λ fault. is_of_capture_end fault ≡ true → IsAtEnd (S.left source.new))) }
     // Then nothing is written, and nothing where there is no memory.
-    ensures unwritten { IfErr result (λ e. IfCaptureAtFault e (λ fault. sink.new ≡ sink.old)) }
-    ensures memory { IfErr result (λ e. IfImportMemory e (sink.new ≡ sink.old)) }
+    ensures unwritten { IfErr result (λ e. IfHotspotFault e (λ fault. sink.new ≡ sink.old)) }
+    ensures memory { IfErr result (λ e. IfUnheld e (sink.new ≡ sink.old)) }
     // Or a front of the recording was.
-    ensures torn { IfErr result (λ e. IfRecordingUnwritten e (IsRecordingTorn settings.now
+    ensures torn { IfErr result (λ e. IfUnrecorded e (IsRecordingTorn settings.now
         (S.left source.old) (S.left source.new) (K.held sink.old) (K.held sink.new))) }
     // `Read` is told exactly where the source failed, and `Output` where the sink did.
-    ensures source { IfErr result (λ e. IfCaptureAtFault e (λ fault. S.has_failed source.new ≡ is_capture_read fault)) }
-    ensures sink { IfErr result (λ e. IfRecordingUnwritten e (K.has_failed sink.new ≡ true)) }
+    ensures source { IfErr result (λ e. IfHotspotFault e (λ fault. S.has_failed source.new ≡ is_capture_read fault)) }
+    ensures sink { IfErr result (λ e. IfUnrecorded e (K.has_failed sink.new ≡ true)) }
     ensures well { OnOk result (K.has_failed sink.new ≡ false) }
 {
     let Ok(mut room) = vec![in alloc; 0u8; PACKET_LIMIT] else {

@@ -83,7 +83,7 @@ fn burst_said(payload: &[u8]) -> [u8; 33]
 /// The packet that a payload says. The protocol is that of Homebrew repeaters, whose payloads have two octets more where MMDVMHost
 /// wrote them.
 pub(crate) fn packet_in(payload: &[u8]) -> Option<HotspotPacket>
-    ensures value { result ≡ spec.packet_in payload.now }
+    ensures value { result ≡ spec.hotspot_packet_in payload.now }
 {
     if !is_dmrd(payload) {
         return None;

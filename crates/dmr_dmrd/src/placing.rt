@@ -190,7 +190,7 @@ pub(crate) fn asked_behind(
     time: u128,
 ) -> Asked
     ensures value { result ≡ spec.asked_behind last.now start packet.now time }
-    ensures least { spec.IsFromOn (spec.frames_behind last.now) result }
+    ensures least { spec.IsFromOn (spec.frames_up_to last.now) result }
 {
     match last {
         None => Asked::Begins {

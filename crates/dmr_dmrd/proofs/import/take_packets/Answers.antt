@@ -2,7 +2,7 @@ use Rattle.std.proofs.Common.{rules, [], ◌∷◌, ◌++◌, sym, ap, ◌∙◌
 use Rattle.dmr_capture.proofs.ReadTo.{read_to_end, read_to_more, read_to_none}
 use Rattle.dmr_capture.specs.State.{CapturedPacket, captured_packet}
 use Rattle.dmr_dmrd.proofs.InTurn.{few_frames, held_more, none_held}
-use Rattle.dmr_dmrd.specs.Holding.{IsHeld, hold_with, late_or_other}
+use Rattle.dmr_dmrd.specs.Holding.{AreSlotsHeld, hold_with, late_or_other}
 use Rattle.dmr_dmrd.proofs.import.take_packets.Goals as goal
 
 pub loop-packet-init : goal.loop-packet-init
@@ -13,7 +13,7 @@ loop-packet-init g c =
     record {
       source = search rules;
       room = search rules;
-      held = subst IsHeld (sym begin) (none_held c.args.settings.now);
+      held = subst AreSlotsHeld (sym begin) (none_held c.args.settings.now);
       far = search rules;
       few = omega (arith, none);
       so_far = ([], begin, read_to_none c.in-Ok.capture head _ _ begins took);
@@ -29,7 +29,7 @@ returns-in-Ok-None-clause-all g c =
       packets = list;
       each = record {
         read = read_to_end c.loop-packet.capture c.next_packet.new.self list octets _ _ _ so_far read took;
-        few = few_frames _ (subst IsHeld behind inv.held);
+        few = few_frames _ (subst AreSlotsHeld behind inv.held);
       };
       end = rw c.in-Ok-None.field-0-is at c.in-Ok-None.ensures.done;
       held = behind;
