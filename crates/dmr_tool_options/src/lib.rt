@@ -8,6 +8,7 @@
 mod carrying;
 mod comparing;
 mod damaging;
+mod hotspot;
 mod logging;
 mod showing;
 mod texts;
