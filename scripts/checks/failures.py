@@ -10,6 +10,7 @@ import tempfile
 from checks import recordings as it
 from checks.bursts import CONTROL_BLOCK, data_burst, information_of, sealed
 from checks.captures import CAPTURED
+from checks.hotspots import CAPTURED as HOTSPOT
 from checks.make import SCENE
 from checks.program import Room, summary
 from checks.text_lines import text_of
@@ -44,6 +45,7 @@ ANSWERED = [
     ["import", "text", "nowhere", "made"], ["import", "text", "one.txt", "one.txt"], ["import", "--help"], ["export", "text"],
     ["import", "datagrams", "one.pcap", "made", "--slot", 1], ["import", "datagrams", "one.dmru", "made", "--slot", 1],
     ["export", "datagrams", "long.dmri", "made"], ["export", "datagrams", "one.dmru", "-"],
+    ["import", "dmrd", "hotspot.pcap", "made", "--as-uplink"], ["import", "dmrd", "one.dmru", "made"],
     ["show", "--help"], ["show", "-", "--slot", 3], ["slot", it.IDLE], ["--help"], ["help"], ["run", "--help"],
     [], ["run", "--colours", 1], ["run", "--colour", 16],
 ]
@@ -205,6 +207,7 @@ def check_answers(report, shim):
         (room.path / "one.txt").write_bytes(text)
         (room.path / "one.pcap").write_bytes(CAPTURED)
         (room.path / "scene.txt").write_text(SCENE)
+        (room.path / "hotspot.pcap").write_bytes(HOTSPOT)
         (room.path / "cut.txt").write_bytes(text[:-9])
         for words in ANSWERED:
             expect_answer(report, shim, words, room.path)

@@ -290,6 +290,7 @@ Usage: dmrgate import <COMMAND>
 Commands:
   text       Makes any of the four files from lines of text
   datagrams  Makes an outgoing list of the datagrams of a capture
+  dmrd       Makes a recording of the packets of hotspots in a capture
   help       Print this message or the help of the given subcommand(s)
 
 Options:
@@ -363,6 +364,45 @@ Example:
   dmrgate import datagrams hosts.pcap outgoing.dmro --slot 1 --confirmed
 
 The list is described in docs/protocol.md.
+""",
+    "import dmrd": """Makes a recording of the packets of hotspots in a capture
+
+Usage: dmrgate import dmrd [OPTIONS] <CAPTURE> <OUT>
+
+Arguments:
+  <CAPTURE>  The capture, pcap or pcapng; - is standard input
+  <OUT>      The uplink recording to make of it; - is standard output
+
+Options:
+      --port <PORT>       The packets go to this port of UDP [default: 62031]
+      --from-port <PORT>  They come from this port instead
+      --repeater <N>      Those of this repeater; else those of the first one
+      --as-uplink         Makes the syncs of a base station those of mobiles
+  -h, --help              Print help
+
+A capture is pcap or pcapng, told by its first octets, of link type 1, 101, 113,
+228 or 276. Taken are packets of UDP that begin with DMRD: the protocol by which
+hotspots and repeaters carry bursts to their network, port 62031, and back. Each
+becomes a burst of an uplink recording. Those of other repeaters are counted, and
+left out.
+
+Each slot is placed alone, by streams, numbers and times. What was lost, and
+silence on the air, is silence. A packet behind a later one of its stream is
+late, and dropped. The counts are frames, bursts in each slot, numbers that were
+left out, late packets, and other packets. Nothing is written before the whole
+capture was read.
+
+What a duplex repeater sends to its network has the sync words of a base station,
+of which a run repeats nothing. With --as-uplink they become those of a mobile.
+
+Status 0: done, and the counts are in a line on standard output, or on standard
+error where the recording goes to standard output; 1: a fault, which is told on
+standard error, and nothing is written; 2: the command line.
+
+Example:
+  dmrgate import dmrd hotspot.pcap uplink.dmru --as-uplink
+
+The rule is described in docs/protocol.md.
 """,
     "export": """Writes a file of a run in another format
 
@@ -485,7 +525,7 @@ def check_manual(report, wanted, version):
     report.expect("the manual's options", options_in(plain) == wanted, options_in(plain) ^ wanted)
     report.expect("the manual's version", f'"{version}"' in text, version)
     told = dict(re.findall(r"^\.BI (--[a-z-]+) .*\n.*; (\d+) where it is left out\.$", plain, re.MULTILINE))
-    helps = (report.call(*name.split(), "--help").out.decode() for name in ("run", "damage", "import datagrams"))
+    helps = (report.call(*name.split(), "--help").out.decode() for name in ("run", "damage", "import datagrams", "import dmrd"))
     defaults = {option: value for text in helps for option, value in defaults_in(text).items()}
     report.expect("the manual's defaults", told == defaults, told)
     if shutil.which("groff"):
@@ -500,7 +540,7 @@ def offered(report, *words):
     return set(ran.stdout.split())
 
 
-def check_completions(report, top, run, slot, show, log, make, damage, compare, carrying, listing, capturing):
+def check_completions(report, top, run, slot, show, log, make, damage, compare, carrying, listing, capturing, hotspot):
     commands = {"run", "slot", "show", "log", "make", "damage", "compare", "import", "export"}
     for words, wanted in (
         (["dmrgate", ""], {*commands, "help"} | top),
@@ -551,8 +591,11 @@ def check_completions(report, top, run, slot, show, log, make, damage, compare, 
         (["dmrgate", "compare", "--", "READ"], {"README.md"}),
         (["dmrgate", "help", ""], commands),
         (["dmrgate", "help", "show", ""], set()),
-        (["dmrgate", "help", "import", ""], {"text", "datagrams"}),
-        (["dmrgate", "import", ""], {"text", "datagrams", "help"} | carrying),
+        (["dmrgate", "help", "import", ""], {"text", "datagrams", "dmrd"}),
+        (["dmrgate", "help", "export", ""], {"text", "datagrams"}),
+        (["dmrgate", "import", ""], {"text", "datagrams", "dmrd", "help"} | carrying),
+        (["dmrgate", "import", "dmrd", "-"], hotspot),
+        (["dmrgate", "import", "dmrd", "--repeater", ""], set()),
         (["dmrgate", "import", "datagrams", "-"], listing),
         (["dmrgate", "import", "datagrams", "READ"], {"README.md"}),
         (["dmrgate", "import", "datagrams", "--slot", ""], {"1", "2"}),
@@ -573,9 +616,9 @@ def check_completions(report, top, run, slot, show, log, make, damage, compare, 
     later = r"^    (?:slot|show|log|make|damage|compare|import|export|help)\)$"
     parts = [text[:begin], *re.split(later, text[begin:], flags=re.MULTILINE)]
     names = "the program", "run", "slot", "show", "log", "make", "damage", "compare", "import", "export"
-    for name, part, wanted in zip(names, parts, (top, run, slot, show, log, make, damage, compare, listing, capturing)):
+    for name, part, wanted in zip(names, parts, (top, run, slot, show, log, make, damage, compare, listing | hotspot, capturing)):
         report.expect(f"zsh's options of {name}", options_in(part) == wanted, options_in(part) ^ wanted)
-        kinds = 2 if name in ("import", "export") else 1
+        kinds = {"import": 3, "export": 2}.get(name, 1)
         is_so = name == "the program" or part.count("_arguments -S ") == kinds
         report.expect(f"zsh offers no option of {name} behind --", is_so, part)
         without = re.findall(r"(--[a-z-]+)\[[^]]*\]:", part)
@@ -587,6 +630,7 @@ def check_completions(report, top, run, slot, show, log, make, damage, compare, 
         ("log", "from log'", log), ("make", "from make'", make), ("damage", "from damage'", damage),
         ("compare", "from compare'", compare),
         ("import datagrams", "from import; and __fish_seen_subcommand_from datagrams'", listing),
+        ("import dmrd", "from import; and __fish_seen_subcommand_from dmrd'", hotspot),
         ("export datagrams", "from export; and __fish_seen_subcommand_from datagrams'", capturing),
     )
     for name, mark, wanted in marks:
@@ -705,13 +749,14 @@ def check(report):
     options = check_help(report)
     commands = "", "run", "slot", "show", "log", "make", "damage", "compare", "import text", "import datagrams", "export datagrams"
     top, run, slot, show, log, make, damage, compare, carrying, listing, capturing = (options[it] for it in commands)
+    hotspot = options["import dmrd"]
     ran = report.call("--version")
     version = ran.out.decode().strip()
     is_version = re.fullmatch(r"dmrgate \d+\.\d+\.\d+", version) and ran.status == 0 and ran.err == b""
     report.expect("the version", is_version, ran)
     short = report.call("-V")
     report.expect("-V is --version", (short.status, short.out, short.err) == (ran.status, ran.out, ran.err), short)
-    check_manual(report, top | run | slot | show | log | make | damage | compare | listing | capturing, version)
+    check_manual(report, top | run | slot | show | log | make | damage | compare | listing | capturing | hotspot, version)
     check_examples(report)
-    check_completions(report, top, run, slot, show, log, make, damage, compare, carrying, listing, capturing)
+    check_completions(report, top, run, slot, show, log, make, damage, compare, carrying, listing, capturing, hotspot)
     check_readme(report)

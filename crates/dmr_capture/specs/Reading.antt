@@ -1,5 +1,7 @@
 -- The pieces of a capture, one after the other.
-use Rattle.std.specs.Prelude.{◌≡◌, ◌≢◌, ℕ, ◌<◌, ◌≤◌, ◌⊎◌, Bool, true, false, List, [], ◌∷◌, ◌++◌, length, take}
+use Rattle.std.specs.Prelude.{◌≡◌, ◌≢◌, ℕ, ◌<◌, ◌≤◌, ◌⊎◌, Bool, true, false, List, [], ◌∷◌, ◌++◌, Option, length}
+use Rattle.std.specs.Prelude.{take}
+use Rattle.std.specs.Io.KnownBytes.{Consumes}
 use Rattle.std.specs.List.{flat_map}
 use Rattle.dmr_capture.specs.Blocks.{IsCaptureBlock, ShowsFaultInBlock, section_type}
 use Rattle.dmr_capture.specs.Links.{link_number}
@@ -158,3 +160,12 @@ pub record IsCapture (octets : List ℕ) (packets : List CapturedPacket) : Type 
   pub parts : octets ≡ head ++ rest
   pub begins : BeginsCapture head first
   pub read : AreRead first rest last packets
+
+-- A capture was read up to this state, and held these packets so far.
+pub record IsReadTo (state : CaptureState) (packets : List CapturedPacket) (left left' : Option (List ℕ)) : Type 0 where
+  pub head : List ℕ
+  pub rest : List ℕ
+  pub first : CaptureState
+  pub begins : BeginsCapture head first
+  pub pieces : AreRead first rest state packets
+  pub read : Consumes left left' (head ++ rest)

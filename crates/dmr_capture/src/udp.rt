@@ -1,6 +1,6 @@
 //! What UDP carries in an IPv4 packet.
-ghost use Rattle.std.specs.Prelude.{ℕ, List, IfSome, IfNone};
-ghost use Rattle.dmr_capture.specs.Udp.{CarriesUdp};
+ghost use Rattle.std.specs.Prelude.{◌≡◌, Some, None, IfSome, IfNone};
+ghost use Rattle.dmr_capture.specs.Udp.{udp_carried};
 
 use byteorder::{BigEndian, ByteOrder};
 
@@ -19,9 +19,9 @@ pub struct Udp<'a> {
 ///
 /// There is none in a fragment, in a packet of another protocol, and where less is there than the heads say. UDP is RFC 768.
 pub fn udp_in(packet: &[u8]) -> Option<Udp<'_>>
-    ensures some { IfSome result (λ udp. CarriesUdp packet.now udp.source udp.destination udp.payload.now) }
-    ensures none { IfNone result ((source destination : ℕ) (payload : List ℕ)
-        → ¬ CarriesUdp packet.now source destination payload) }
+    ensures some { IfSome result (λ udp. udp_carried packet.now
+        ≡ Some (record { source = udp.source; destination = udp.destination; payload = udp.payload.now })) }
+    ensures none { IfNone result (udp_carried packet.now ≡ None) }
 {
     if packet.len() < 20 || packet[9] != 17 {
         return None;

@@ -13,10 +13,10 @@ use Rattle.dmr_record.proofs.Torn.{Tears_after}
 use Rattle.dmr_record.specs.Head.{head_octets, outgoing_magic, record_limit}
 use Rattle.dmr_record.specs.Outgoing.{AreInFrameOrder, IsSending, Sending, last_frame, outgoing_file, sending_octets}
 use Rattle.dmr_record.specs.Outgoing.{sendings_octets}
-use Rattle.dmr_capture.proofs.InARow.{read_none, read_on}
+use Rattle.dmr_capture.proofs.ReadTo.{read_to_more, read_to_none}
 use Rattle.dmr_capture.specs.Reading.{AreRead, BeginsCapture}
 use Rattle.dmr_capture.specs.State.{CaptureState, CapturedPacket}
-use Rattle.dmr_datagrams.specs.Imports.{AreImported, AreSendings, IsListTorn, IsReadTo}
+use Rattle.dmr_datagrams.specs.Imports.{AreImported, AreSendings, IsListTorn}
 use Rattle.dmr_datagrams.specs.Sendings.{imported, next_frame, no_progress, progress_behind, progress_of, progress_of_found}
 use Rattle.dmr_datagrams.specs.Sendings.{sendings_from, sendings_of, sendings_of_found, to_radios}
 use Rattle.dmr_datagrams.specs.declared.progress.ImportSettings.{ImportSettings}
@@ -106,44 +106,6 @@ list_more settings packets next tells list fit few =
           (order_found settings p next.time (to_radios next.link next.octets) (imported settings packets) tells list.order);
       few = let e = further.records in omega (arith, e, few);
     }
-
--- the capture with a packet more
-pub read_to_more : (state new : CaptureState) (packets : List CapturedPacket) (next : CapturedPacket) (octets : List ℕ)
-    (a b c : Option (List ℕ)) → IsReadTo state packets a b → AreRead state octets new (next ∷ []) → Consumes b c octets
-    → IsReadTo new (packets ++ next ∷ []) a c
-read_to_more state new packets next octets a b c before read took = record {
-  head = before.head;
-  rest = before.rest ++ octets;
-  first = before.first;
-  begins = before.begins;
-  pieces = read_on before.first state new before.rest octets packets (next ∷ []) before.pieces read;
-  read = subst (Consumes a c) (append_assoc before.head before.rest octets) (Consumes-trans a b c _ _ before.read took);
-}
-
--- the same with no packet more
-pub read_to_end : (state new : CaptureState) (packets : List CapturedPacket) (octets : List ℕ) (a b c : Option (List ℕ))
-    → IsReadTo state packets a b → AreRead state octets new [] → Consumes b c octets → IsReadTo new packets a c
-read_to_end state new packets octets a b c before read took = record {
-  head = before.head;
-  rest = before.rest ++ octets;
-  first = before.first;
-  begins = before.begins;
-  pieces = subst (AreRead before.first (before.rest ++ octets) new) (append-nil packets)
-      (read_on before.first state new before.rest octets packets [] before.pieces read);
-  read = subst (Consumes a c) (append_assoc before.head before.rest octets) (Consumes-trans a b c _ _ before.read took);
-}
-
--- in front of the packets
-pub read_to_none : (state : CaptureState) (head : List ℕ) (a b : Option (List ℕ)) → BeginsCapture head state → Consumes a b head
-    → IsReadTo state [] a b
-read_to_none state head a b begins took = record {
-  head = head;
-  rest = [];
-  first = state;
-  begins = begins;
-  pieces = read_none state;
-  read = subst (Consumes a b) (sym (append-nil head)) took;
-}
 
 pub imported_none : (settings : ImportSettings) (state : CaptureState) (head : List ℕ) (a b d e : Option (List ℕ))
     → BeginsCapture head state → Consumes a b head → Appends d e (head_octets outgoing_magic)

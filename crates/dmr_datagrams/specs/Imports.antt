@@ -2,7 +2,7 @@
 use Rattle.std.specs.Prelude.{◌≡◌, ◌⊎◌, ℕ, ◌+◌, ◌≤◌, List, [], ◌∷◌, ◌++◌, Option, length}
 use Rattle.std.specs.Io.KnownBytes.{Appends, Consumes, IsAtEnd}
 use Rattle.std.specs.List.{AllByRecursion}
-use Rattle.dmr_capture.specs.Reading.{AreRead, BeginsCapture, ShowsBeginFault, ShowsFault}
+use Rattle.dmr_capture.specs.Reading.{AreRead, IsReadTo, ShowsBeginFault, ShowsFault}
 use Rattle.dmr_capture.specs.State.{CaptureState, CapturedPacket}
 use Rattle.dmr_capture.specs.declared.fault.CaptureFault.{CaptureFault}
 use Rattle.dmr_capture.specs.declared.fault.CaptureFault.TheVariants.{TooLong}
@@ -19,16 +19,7 @@ pub record AreSendings (sendings : List Sending) : Type 0 where
   pub order : AreInFrameOrder 0 sendings
   pub few : length sendings ≤ record_limit
 
--- A capture was read up to this state, and held these packets so far.
-pub record IsReadTo (state : CaptureState) (packets : List CapturedPacket) (left left' : Option (List ℕ)) : Type 0 where
-  pub head : List ℕ
-  pub rest : List ℕ
-  pub first : CaptureState
-  pub begins : BeginsCapture head first
-  pub pieces : AreRead first rest state packets
-  pub read : Consumes left left' (head ++ rest)
-
--- The same, and the list of these packets was written. It can be read.
+-- A capture was read up to this state, and the list of its packets so far was written. It can be read.
 pub record AreImported (settings : ImportSettings) (state : CaptureState) (packets : List CapturedPacket)
     (left left' held held' : Option (List ℕ)) : Type 0 where
   pub read : IsReadTo state packets left left'

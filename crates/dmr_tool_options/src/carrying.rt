@@ -1,5 +1,6 @@
 //! `import` and `export`, each with a command for each other format.
 
+use crate::hotspot::import_dmrd_command;
 use crate::showing::slot;
 use crate::texts::{
     ABOUT_EXPORTED_DATAGRAMS, ABOUT_EXPORTED_TEXTS, ABOUT_IMPORTED_DATAGRAMS, ABOUT_IMPORTED_TEXTS,
@@ -9,7 +10,7 @@ use dmr_options::{Listed, bare_command, frame, number, word};
 use std::alloc::{AllocError, Global};
 
 /// The file that is read, and the one that is written.
-fn files<'a>(
+pub(crate) fn files<'a>(
     alloc: Global,
     value: &'a str,
     input: &'a str,
@@ -77,20 +78,22 @@ fn sending_slot<'a>(alloc: Global) -> Arg<'a> {
     .required(true)
 }
 
+/// An option that takes no text.
+pub(crate) fn flag<'a>(alloc: Global, name: &'a str, help: &'a str) -> Arg<'a> {
+    Arg::new(alloc, name)
+        .long(name)
+        .help(help)
+        .action(ArgAction::SetTrue)
+}
+
 /// Whether packets are confirmed.
 fn confirmed<'a>(alloc: Global) -> Arg<'a> {
-    Arg::new(alloc, "confirmed")
-        .long("confirmed")
-        .help("As confirmed packets")
-        .action(ArgAction::SetTrue)
+    flag(alloc, "confirmed", "As confirmed packets")
 }
 
 /// Whether packets go out at rate 1.
 fn full_rate<'a>(alloc: Global) -> Arg<'a> {
-    Arg::new(alloc, "full-rate")
-        .long("full-rate")
-        .help("At rate 1, and not at rate 1/2")
-        .action(ArgAction::SetTrue)
+    flag(alloc, "full-rate", "At rate 1, and not at rate 1/2")
 }
 
 /// The frame in which the first one is to go out.
@@ -147,6 +150,7 @@ pub(crate) fn export_command<'a>(alloc: Global) -> Result<Command<'a>, AllocErro
 pub(crate) fn import_command<'a>(alloc: Global) -> Result<Command<'a>, AllocError> {
     let text = import_text_command(alloc)?;
     let datagrams = import_datagrams_command(alloc)?;
-    let formats = vec![in alloc; text, datagrams]?;
+    let dmrd = import_dmrd_command(alloc)?;
+    let formats = vec![in alloc; text, datagrams, dmrd]?;
     with_formats(alloc, Listed::Import, formats)
 }

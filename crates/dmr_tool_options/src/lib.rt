@@ -9,6 +9,7 @@
 mod carrying;
 mod comparing;
 mod damaging;
+mod hotspot;
 mod logging;
 mod making;
 mod showing;

@@ -4,6 +4,7 @@ pub mod Comparison
 pub mod Damaging
 pub mod Datagrams
 pub mod Filters
+pub mod Hotspot
 pub mod Listed
 pub mod LogRequest
 pub mod Making

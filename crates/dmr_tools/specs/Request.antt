@@ -14,6 +14,7 @@ use Rattle.dmr_tools.specs.Comparison.{IsComparisonOf, shares_input}
 use Rattle.dmr_tools.specs.Damaging.{IsDamageOf}
 use Rattle.dmr_tools.specs.Datagrams.{AreExportSettings, AreImportSettings}
 use Rattle.dmr_tools.specs.Filters.{IsFilterOf, is_backwards}
+use Rattle.dmr_tools.specs.Hotspot.{AreHotspotSettings}
 use Rattle.dmr_tools.specs.LogRequest.{AreLogSettings, ArePageSettings}
 use Rattle.dmr_tools.specs.Making.{AreMakePlaces, are_both_to_output, is_any_to_output}
 use Rattle.dmr_tools.specs.declared.comparison.Comparison.{Comparison}
@@ -50,6 +51,7 @@ pub record IsGivenFormat (given : ArgMatches) (format : Text) (found : Found) : 
 abbrev pub import_name : ImportFormat → Text
 import_name from.Text = codes "text"
 import_name (from.Datagrams settings) = codes "datagrams"
+import_name (from.Dmrd settings) = codes "dmrd"
 
 abbrev pub export_name : ExportFormat → Text
 export_name to.Text = codes "text"
@@ -59,6 +61,7 @@ export_name (to.Datagrams settings) = codes "datagrams"
 abbrev pub AreSettingsOfImport : Found → ImportFormat → Type 0
 AreSettingsOfImport found from.Text = Unit {0}
 AreSettingsOfImport found (from.Datagrams settings) = AreImportSettings found settings
+AreSettingsOfImport found (from.Dmrd settings) = AreHotspotSettings found settings
 
 abbrev pub AreSettingsOfExport : Found → ExportFormat → Type 0
 AreSettingsOfExport found to.Text = Unit {0}
@@ -83,10 +86,14 @@ pub record IsExportedTo (given : ArgMatches) (format : ExportFormat) (places : P
   pub are_settings : AreSettingsOfExport found format
   pub are_places : ArePairPlaces found places
 
--- A command that carries files was given the name of a format.
-abbrev pub NamesFormat : ArgMatches → Type 0
-NamesFormat given =
-    (subcommand_name_of given ≡ Some (codes "text")) ⊎ (subcommand_name_of given ≡ Some (codes "datagrams"))
+-- `import` was given the name of a format.
+abbrev pub NamesImport : ArgMatches → Type 0
+NamesImport given = (subcommand_name_of given ≡ Some (codes "text")) ⊎ (subcommand_name_of given ≡ Some (codes "datagrams"))
+    ⊎ (subcommand_name_of given ≡ Some (codes "dmrd"))
+
+-- `export` was given the name of a format.
+abbrev pub NamesExport : ArgMatches → Type 0
+NamesExport given = (subcommand_name_of given ≡ Some (codes "text")) ⊎ (subcommand_name_of given ≡ Some (codes "datagrams"))
 
 -- What a command with these options asks for: `show` for a listing, which is refused where it begins beyond its end; `log` for a
 -- log, for its page, or for one that is refused; `make` for the files of a script, which are refused where both would be standard
@@ -143,8 +150,8 @@ IsAskedOfTools (Some command) NoStart =
 IsAskedOfTools (Some command) (Elsewhere name) =
     (command.0 ≡ codes "show" → ⊥) × (command.0 ≡ codes "log" → ⊥) × (command.0 ≡ codes "make" → ⊥)
     × (command.0 ≡ codes "damage" → ⊥) × (command.0 ≡ codes "compare" → ⊥)
-    × (command.0 ≡ codes "import" → NamesFormat command.1 → ⊥)
-    × (command.0 ≡ codes "export" → NamesFormat command.1 → ⊥)
+    × (command.0 ≡ codes "import" → NamesImport command.1 → ⊥)
+    × (command.0 ≡ codes "export" → NamesExport command.1 → ⊥)
     × (name.now ≡ command.0)
 
 -- A file is to be listed, or what is repeated of it.

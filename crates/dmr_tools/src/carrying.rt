@@ -11,6 +11,7 @@ use crate::request::{ExportFormat, ImportFormat, PairPlaces};
 use dmr_capture::CaptureFault;
 use dmr_damage::{Damage, DamageEnd, DamageSettings, Damaged, SettingsFault, damage_recording};
 use dmr_datagrams::{ExportedDatagrams, ImportedDatagrams, export_datagrams, import_datagrams};
+use dmr_dmrd::{ImportedBursts, import_dmrd};
 use dmr_files::{BufferedPair, PairFault, System, is_sent_to_terminal, open_buffered, write_out};
 use dmr_lines::{FAILURE, SUCCESS, ToldName};
 use dmr_record::{Sink, Source};
@@ -106,6 +107,16 @@ impl From<dmr_datagrams::ImportEnd> for CarryFault {
     }
 }
 
+impl From<dmr_dmrd::ImportEnd> for CarryFault {
+    fn from(end: dmr_dmrd::ImportEnd) -> CarryFault {
+        match end {
+            dmr_dmrd::ImportEnd::Capture(fault) => CarryFault::Capture(fault),
+            dmr_dmrd::ImportEnd::Output => CarryFault::Write,
+            dmr_dmrd::ImportEnd::Memory => CarryFault::Memory,
+        }
+    }
+}
+
 impl From<DamageEnd> for CarryFault {
     fn from(end: DamageEnd) -> CarryFault {
         match end {
@@ -147,6 +158,8 @@ pub(crate) enum Done {
     ImportedDatagrams(ImportedDatagrams),
     /// A capture was made of a list.
     ExportedDatagrams(ExportedDatagrams),
+    /// A recording was made of a capture.
+    ImportedBursts(ImportedBursts),
 }
 
 impl fmt::Display for Done {
@@ -156,6 +169,7 @@ impl fmt::Display for Done {
             Done::Damaged(damaged) => damaged.fmt(f),
             Done::ImportedDatagrams(imported) => imported.fmt(f),
             Done::ExportedDatagrams(exported) => exported.fmt(f),
+            Done::ImportedBursts(imported) => imported.fmt(f),
         }
     }
 }
@@ -211,6 +225,10 @@ fn carry_between<S: Source, K: Sink>(
             }
             let imported = import_datagrams(alloc, settings, source, sink)?;
             Ok(Done::ImportedDatagrams(imported))
+        }
+        Direction::Import(ImportFormat::Dmrd(settings)) => {
+            let imported = import_dmrd(alloc, &settings, source, sink)?;
+            Ok(Done::ImportedBursts(imported))
         }
         Direction::Export(ExportFormat::Text) => {
             Ok(Done::Carried(export_text(alloc, source, sink)?))

@@ -11,6 +11,7 @@ ghost use Rattle.dmr_tools.specs.Request.{ArePairPlaces};
 use crate::comparison::Comparison;
 use crate::damaging::{damage_of, seed_of};
 use crate::datagrams::{exported_slot_of, import_settings_of, start_of};
+use crate::hotspot::hotspot_settings_of;
 use crate::make_places::MakePlaces;
 use clap::{ArgMatches, Error};
 use dmr_damage::Damage;
@@ -31,6 +32,8 @@ pub enum ImportFormat {
     Text,
     /// A capture of packets, whose datagrams become an outgoing list.
     Datagrams(ImportSettings),
+    /// A capture of packets of a hotspot, whose bursts become a recording.
+    Dmrd(dmr_dmrd::ImportSettings),
 }
 
 /// A format in which a file of a run is written.
@@ -311,6 +314,10 @@ fn import_request<'a>(import: &ArgMatches<'a>) -> Request<'a>
         },
         Some(("datagrams", files)) => Request::Import {
             format: ImportFormat::Datagrams(import_settings_of(files)),
+            places: places_of(files),
+        },
+        Some(("dmrd", files)) => Request::Import {
+            format: ImportFormat::Dmrd(hotspot_settings_of(files)),
             places: places_of(files),
         },
         // Not reached, since a format is required, and there is no other.

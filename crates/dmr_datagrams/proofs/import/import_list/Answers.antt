@@ -5,11 +5,12 @@ use Rattle.std.specs.List.{AllByRecursion}
 use Rattle.dmr_record.specs.Devices.{Tears}
 use Rattle.dmr_record.specs.Head.{record_limit}
 use Rattle.dmr_record.specs.Outgoing.{IsSending, sendings_octets}
+use Rattle.dmr_capture.proofs.ReadTo.{read_to_end}
 use Rattle.dmr_capture.specs.State.{CapturedPacket, captured_packet}
 use Rattle.dmr_datagrams.specs.Imports.{AreSendings}
 use Rattle.dmr_datagrams.specs.Sendings.{imported, no_progress, progress_behind, progress_of, sendings_of}
 use Rattle.dmr_datagrams.proofs.Imported.{Tells, head_torn, imported_more, imported_none, imported_torn, list_more, progress_more}
-use Rattle.dmr_datagrams.proofs.Imported.{read_to_end, tells_more}
+use Rattle.dmr_datagrams.proofs.Imported.{tells_more}
 use Rattle.dmr_datagrams.proofs.Puts.{failed_holds, well_holds}
 use Rattle.dmr_datagrams.proofs.import.import_list.Goals as goal
 

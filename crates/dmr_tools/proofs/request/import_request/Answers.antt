@@ -35,3 +35,20 @@ returns-in-Some-datagrams-default c =
         },
       );
     }
+
+pub returns-in-Some-dmrd-default : goal.returns-in-Some-dmrd-default
+returns-in-Some-dmrd-default c =
+    let capture = c.in-Some-dmrd-default in record {
+      asked = (
+        refl,
+        record {
+          found = found_of capture.files.now;
+          of_format = record {
+            name = sym capture.ensures.name ∙ ap Some capture.is-dmrd;
+            rows = sym capture.ensures.rows;
+          };
+          are_settings = c.hotspot_settings_of.ensures.settings;
+          are_places = c.places_of-in-Some-dmrd-default.ensures.places;
+        },
+      );
+    }

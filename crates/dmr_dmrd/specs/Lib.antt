@@ -1,0 +1,11 @@
+pub mod Ends
+pub mod Holding
+pub mod Imports
+pub mod Lines
+pub mod Payloads
+pub mod Placing
+pub mod Refusals
+pub mod Sending
+pub mod Standing
+pub mod Syncs
+pub mod Taking

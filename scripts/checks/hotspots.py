@@ -1,0 +1,297 @@
+"""Captures of hotspots: what is made of packets that are written here, in order, late, lost and of others, bent and cut ones."""
+
+import random
+
+from checks import bursts
+from checks import recordings as it
+from checks.capture_files import HEAD, as_pcapng, capture_head, packet
+from checks.program import UNWRITTEN, Room
+
+# A voice header from 2 to 1, an A, a C to an F, and a terminator, with silence between them: nine frames of slot 1.
+GAPS = [
+    bytes.fromhex(digits) if digits else None
+    for digits in (
+        "0010015E028812380E304440046D5D7F77FD757E322C0328019007A005410D0055", "",
+        "8000028000028000028000028007F7D5DD57DFD002800002800002800002800002", "",
+        "800004800004800004800004800170009000074004800004800004800004800004",
+        "800005800005800005800005800170300060A74005800005800005800005800005",
+        "80000680000680000680000680015030F060C07006800006800006800006800006",
+        "8000078000078000078000078001100000000E2007800007800007800007800007",
+        "007F018A023812400E4044E004AD5D7F77FD75796738001006F00BE00D41140066",
+    )
+]
+
+VOICE_HEADER, TERMINATOR, CONTROL_BLOCK = 1, 2, 3
+FRAME, HALF = 60_000_000, 30_000_000
+
+
+def udp(payload, source=62000, destination=62031):
+    """A datagram of UDP without a checksum, from 192.0.2.10 to 198.51.100.1."""
+    udp = b"".join(number.to_bytes(2, "big") for number in (source, destination, 8 + len(payload))) + b"\0\0" + payload
+    head = bytes.fromhex("4500") + (20 + len(udp)).to_bytes(2, "big") + bytes.fromhex("0000 4000 4011 0000 C000020A C6336401")
+    return head[:10] + (0xFFFF - it.sum_of_words(head)).to_bytes(2, "big") + head[12:] + udp
+
+
+def flags_of(kind, slot=1):
+    """The octet of flags: a data type by its number, and a voice burst by its letter."""
+    what = 0x20 | kind if isinstance(kind, int) else 0x10 if kind == "A" else "ABCDEF".index(kind)
+    return what | (0x80 if slot == 2 else 0)
+
+
+def payload(kind, burst, number=0, stream=0xFF7121F5, slot=1, repeater=0x0003FF71, tail=b"\0\0"):
+    return (
+        b"DMRD" + bytes([number % 256]) + bytes.fromhex("000002 000001") + repeater.to_bytes(4, "big")
+        + bytes([flags_of(kind, slot)]) + stream.to_bytes(4, "big") + burst + tail
+    )
+
+
+def at(time, octets):
+    """A packet of a capture at a time in microseconds."""
+    return packet(time // 1_000_000, time % 1_000_000, octets)
+
+
+def recording(*slots):
+    """An uplink of these bursts in slot 1, or of pairs of bursts."""
+    pairs = [slot if isinstance(slot, tuple) else (slot, None) for slot in slots]
+    return it.UPLINK_HEAD + b"".join(b"\0" if burst is None else b"\1" + burst for pair in pairs for burst in pair)
+
+
+def counts(frames=0, slot_1=0, slot_2=0, lost=0, late=0, other=0):
+    return f"frames {frames} slot-1 {slot_1} slot-2 {slot_2} lost {lost} late {late} other {other}\n"
+
+
+def station_burst(burst):
+    """The burst with the sync word of a base station in place of a mobile's."""
+    bits, words = int.from_bytes(burst, "big"), bursts.SYNC
+    for kind in ("voice", "data"):
+        if bits >> 108 & (1 << 48) - 1 == words[f"MS {kind}"]:
+            return (bits ^ (words[f"MS {kind}"] ^ words[f"BS {kind}"]) << 108).to_bytes(33, "big")
+    return burst
+
+
+def kinds_of(slots):
+    """What each burst of a call is: a data type, or the letter of a voice burst."""
+    kinds, letter = [], 0
+    for burst in slots:
+        centre = int.from_bytes(burst, "big") >> 108 & (1 << 48) - 1 if burst else None
+        if centre == bursts.SYNC["MS data"]:
+            golay = (int.from_bytes(burst, "big") >> 156 & 0x3FF) << 10 | int.from_bytes(burst, "big") >> 98 & 0x3FF
+            kinds.append(golay >> 12 & 15)
+        else:
+            letter = 0 if centre == bursts.SYNC["MS voice"] else letter + 1
+            kinds.append("ABCDEF"[letter % 6] if burst else None)
+    return kinds
+
+
+def call_of(report, sample):
+    """The bursts in slot 1 of a sample, frame by frame up to the last."""
+    octets = (report.top / "samples" / sample / "uplink.dmru").read_bytes()
+    slots, place = [], 8
+    while place < len(octets):
+        size = 34 if octets[place] else 1
+        slots.append(octets[place + 1 : place + size] or None)
+        place += size
+    call = slots[::2]
+    while call[-1] is None:
+        call.pop()
+    return call
+
+
+def call_packets(slots, numbers=None, slot=1, delay=lambda frame: 0, change=lambda burst: burst):
+    """A packet for each burst of a slot, numbered one after the other, or as these numbers say."""
+    packets = []
+    for frame, (burst, kind) in enumerate(zip(slots, kinds_of(slots))):
+        if burst:
+            number = numbers[frame] if numbers else len(packets)
+            time = 60_000 * frame + (30_000 if slot == 2 else 0) + delay(frame)
+            packets.append((time, udp(payload(kind, change(burst), number, slot=slot))))
+    return packets
+
+
+def captured(packets):
+    return HEAD + b"".join(at(1_000_000 + time, octets) for time, octets in packets)
+
+
+def expect(report, name, octets, wanted, line, *words):
+    ran = report.call("import", "dmrd", "-", "-", *words, given=octets)
+    report.expect(name, (ran.status, ran.out, ran.err.decode()) == (0, wanted, line), ran)
+
+
+ONE = udp(payload(CONTROL_BLOCK, it.CSBK))
+CAPTURED = HEAD + at(1_000_000, ONE)
+
+
+def check_cases(report):
+    """One packet, and what stands beside it."""
+    one, none = recording(it.CSBK), recording()
+    expect(report, "one packet", CAPTURED, one, counts(1, 1))
+    expect(report, "without bit errors and RSSI", HEAD + at(5, udp(payload(CONTROL_BLOCK, it.CSBK, tail=b""))), one, counts(1, 1))
+    expect(report, "as pcapng", as_pcapng([(1_000_000, ONE)]), one, counts(1, 1))
+    expect(report, "the packet twice", CAPTURED + at(1_000_001, ONE), one, counts(1, 1, late=1))
+    fragment = ONE[:6] + b"\x20\0" + ONE[8:]
+    for name, octets in (
+        ("to another port", udp(payload(CONTROL_BLOCK, it.CSBK), destination=62032)),
+        ("54 octets", udp(payload(CONTROL_BLOCK, it.CSBK, tail=b"\0"))),
+        ("other octets", udp(b"DMRA" + payload(CONTROL_BLOCK, it.CSBK)[4:])),
+        ("a fragment", fragment),
+        ("TCP", ONE[:9] + b"\6" + ONE[10:]),
+        ("no IPv4", b"\x65" + ONE[1:]),
+        ("one between masters", udp(payload(CONTROL_BLOCK, it.CSBK, tail=bytes(20)))),
+    ):
+        expect(report, name, HEAD + at(1_000_000, octets), none, counts(other=1))
+    there = HEAD + at(0, udp(payload(CONTROL_BLOCK, it.CSBK), 1, 9))
+    expect(report, "to a port that is named", there, one, counts(1, 1), "--port", 9)
+    back = HEAD + at(0, udp(payload(CONTROL_BLOCK, it.CSBK), 62031, 40000)) + at(60_000, ONE)
+    expect(report, "from a port", back, one, counts(1, 1, other=1), "--from-port", 62031)
+    second = udp(payload(CONTROL_BLOCK, it.CSBK, slot=2))
+    expect(report, "slot 2", HEAD + at(0, second), recording((None, it.CSBK)), counts(1, 0, 1))
+    # Slot 2 of a frame begins half a frame later, and its packet may come in front of slot 1 of the next frame.
+    expect(report, "both slots", HEAD + at(0, ONE) + at(30_000, second), recording((it.CSBK, it.CSBK)), counts(1, 1, 1))
+    pair = recording((None, it.CSBK), (it.CSBK, None))
+    expect(report, "slot 2 first", HEAD + at(30_000, second) + at(60_000, ONE), pair, counts(2, 1, 1))
+
+
+def check_numbers(report):
+    """Numbers and times behind one packet: late ones, lost ones, much later ones, other repeaters, and the end of a recording."""
+    def with_number(number, time, stream=0xFF7121F5, repeater=0x0003FF71):
+        return CAPTURED + at(1_000_000 + time, udp(payload(CONTROL_BLOCK, it.CSBK, number, stream, repeater=repeater)))
+
+    def apart(frames):
+        return recording(it.CSBK, *[None] * (frames - 2), it.CSBK)
+
+    expect(report, "much later", with_number(0x80, 3_840_000), apart(65), counts(65, 2))
+    expect(report, "not much later", with_number(0x80, 3_839_999), recording(it.CSBK), counts(1, 1, late=1))
+    expect(report, "127 numbers on", with_number(0x7F, 7_620_000), apart(128), counts(128, 2, lost=126))
+    expect(report, "data a frame late", with_number(1, 120_000), apart(2), counts(2, 2))
+    expect(report, "data two frames late", with_number(1, 180_000), apart(4), counts(4, 2))
+    expect(report, "another stream in the same frame", with_number(0, 0, 1), apart(2), counts(2, 2))
+    expect(report, "rounded up from the half", with_number(0, 90_000, 1), apart(3), counts(3, 2))
+    expect(report, "rounded down below it", with_number(0, 89_999, 1), apart(2), counts(2, 2))
+    others = with_number(0, 60_000, 0xFF7121F6, 0x0003FF72)
+    others += at(1_120_000, udp(payload(CONTROL_BLOCK, it.CSBK, 2)))
+    expect(report, "another repeater", others, apart(3), counts(3, 2, lost=1, other=1))
+    expect(report, "that repeater", others, recording(it.CSBK), counts(1, 1, other=2), "--repeater", 262002)
+    expect(report, "no repeater", others, recording(), counts(other=3), "--repeater", 1)
+    expect(report, "the last frame", with_number(0, 62_914_529_999, 0xFF7121F6), apart(it.LIMIT), counts(it.LIMIT, 2))
+    with Room(report) as room:
+        out = room.path / "out"
+        ran = report.call("import", "dmrd", "-", out, given=with_number(0, 62_914_530_000, 0xFF7121F6))
+        report.expect("past the last frame", ran.is_error("-: too long at octet 123"), ran)
+        report.expect("nothing is written", out.read_bytes() == b"", ran)
+
+
+def check_calls(report):
+    """Calls of samples, with gaps, jitter, lost packets, and the syncs of a base station."""
+    expect(report, "a call with gaps", captured(call_packets(GAPS)), recording(*GAPS), counts(9, 7))
+    one = call_of(report, "call_with_gap")
+    ran_counts = counts(len(one), sum(burst is not None for burst in one))
+    expect(report, "a call with a gap", captured(call_packets(one)), recording(*one), ran_counts)
+    call = call_of(report, "talker_alias")
+    numbers = [*range(len(call))]
+    lost = [None if frame in (9, 10) else burst for frame, burst in enumerate(call)]
+    kept = call_packets(call, numbers, delay=lambda frame: frame * 7_919 % 20_000, change=station_burst)
+    kept = [sent for frame, sent in enumerate(kept) if frame not in (9, 10)]
+    expect(report, "lost packets, as an uplink", captured(kept), recording(*lost), counts(20, 18, lost=2), "--as-uplink")
+    wanted = recording(*(station_burst(burst) if burst else None for burst in lost))
+    expect(report, "lost packets, as they came", captured(kept), wanted, counts(20, 18, lost=2))
+    # Three wrong bits in a sync are undone with it, and four leave the burst as it is.
+    for wrong in (0, 1, 3, 4):
+        turned = sum(1 << 108 + 11 * place for place in range(wrong))
+        burst = (int.from_bytes(station_burst(it.CSBK), "big") ^ turned).to_bytes(33, "big")
+        wanted = it.CSBK if wrong < 4 else burst
+        octets = HEAD + at(0, udp(payload(CONTROL_BLOCK, burst)))
+        expect(report, f"{wrong} wrong bits in a sync", octets, recording(wanted), counts(1, 1), "--as-uplink")
+
+
+def check_drawn(report):
+    """Streams in both slots with gaps, delays below 30 milliseconds, and lost packets: all come back to their frames."""
+    for seed in range(40):
+        drawn = random.Random(seed)
+        sent = {1: [], 2: []}
+        for slot in (1, 2):
+            frame = drawn.randrange(3)
+            for stream in range(1, 9):
+                number = drawn.randrange(256)
+                for kind in [VOICE_HEADER] * drawn.randrange(1, 4) + [*"ABCDEF" * drawn.randrange(4)] + [TERMINATOR]:
+                    burst = drawn.randbytes(33)
+                    if drawn.random() > (0.0, 0.1, 0.5)[seed % 3]:
+                        sent[slot].append((frame, kind, burst, number, 1000 * slot + stream))
+                    number += 1
+                    frame += 1 if isinstance(kind, str) or drawn.random() < 0.9 else 3
+                frame += drawn.choice((0, 0, 1, 2, 70))
+        in_order = sorted((frame, slot, *rest) for slot in (1, 2) for frame, *rest in sent[slot])
+        keep, before = [], {}
+        for frame, slot, kind, burst, number, stream in in_order:
+            last = before.get(slot)
+            # One frame alone left out in front of data is what no number tells.
+            if last and last[2] == stream and isinstance(kind, int) and frame - last[0] == number - last[1] + 1:
+                continue
+            before[slot] = frame, number, stream
+            keep.append((frame, slot, kind, burst, number, stream))
+        begin = keep[0][0]
+        packets = [
+            (60_000 * frame + 30_000 * (slot - 1) + drawn.randrange(30_000), udp(payload(kind, burst, number, stream, slot)))
+            for frame, slot, kind, burst, number, stream in keep
+        ]
+        frames = keep and 1 + max(frame for frame, *_ in keep) - begin
+        pairs = [[None, None] for _ in range(frames)]
+        for frame, slot, _, burst, *_ in keep:
+            pairs[frame - begin][slot - 1] = burst
+        ran = report.call("import", "dmrd", "-", "-", given=captured(packets))
+        report.expect(f"drawn streams {seed}", (ran.status, ran.out) == (0, recording(*map(tuple, pairs))), ran)
+
+
+def check_bent(report):
+    """Each front of a capture, and each with an octet bent, is a recording or a named fault."""
+    named = (
+        "no capture", "cut head at octet", "cut packet at octet", "cut block at octet", "bad block at octet",
+        "too many interfaces at octet", "link type", "too long at octet",
+    )
+    two = CAPTURED + at(1_060_000, udp(payload(CONTROL_BLOCK, it.CSBK, 1)))
+    for kind, octets in (("pcap", two), ("pcapng", as_pcapng([(1_000_000, ONE)]))):
+        fronts = [octets[:count] for count in range(len(octets))]
+        places = [(place, turned) for place in range(len(octets)) for turned in (1, 0x80)]
+        bent = [octets[:place] + bytes([octets[place] ^ turned]) + octets[place + 1 :] for place, turned in places]
+        for name, given in [*enumerate(fronts), *enumerate(bent, len(fronts))]:
+            ran = report.call("import", "dmrd", "-", "-", given=given)
+            told = ran.err.decode().removeprefix("error: -: ")
+            is_fault = (ran.status, ran.out) == (1, b"") and told.startswith(named) and told.count("\n") == 1
+            is_recording = ran.status == 0 and it.uplink_fault(ran.out) is None
+            report.expect(f"{kind} {name} of a hotspot", is_fault or is_recording, ran)
+    for count, told in ((3, "cut head at octet 0"), (23, "cut head at octet 0"), (30, "cut packet at octet 24")):
+        ran = report.call("import", "dmrd", "-", "-", given=CAPTURED[:count])
+        report.expect(f"{count} octets of a hotspot", ran.is_error(f"-: {told}"), ran)
+    ran = report.call("import", "dmrd", "-", "-", given=capture_head(105) + CAPTURED[24:])
+    report.expect("another link type of a hotspot", ran.is_error("-: link type 105"), ran)
+    block = as_pcapng([(1_000_000, ONE)])
+    ran = report.call("import", "dmrd", "-", "-", given=block[:-1])
+    report.expect("a cut block of a hotspot", ran.is_error("-: cut block at octet 48"), ran)
+
+
+def check_words(report):
+    with Room(report) as room:
+        out, capture = room.path / "out", room.path / "capture"
+        capture.write_bytes(CAPTURED)
+        for words in (
+            ["--port", 65_536], ["--port", "x"], ["--from-port", 1, "--port", 2], ["--repeater", 2**32], ["--as-uplink=1"],
+        ):
+            ran = report.call("import", "dmrd", capture, out, *words)
+            report.expect(f"import dmrd {words}", (ran.status, ran.out, bool(ran.err)) == (2, b"", True), ran)
+        report.expect("none is made of these", not out.exists())
+        ran = report.call("import", "dmrd", capture, capture)
+        report.expect("a capture as its recording", ran.is_error(f"{capture}: cannot open"), ran)
+        ran = report.call("import", "dmrd", capture, out)
+        report.expect("a named recording", (ran.status, ran.out.decode(), ran.err) == (0, counts(1, 1), b""), ran)
+        report.expect("its octets", out.read_bytes() == it.ONE_CSBK)
+        with open("/dev/full", "wb") as full:
+            ran = report.call("import", "dmrd", capture, out, stdout=full)
+            report.expect("counts have no room", (ran.status, ran.err) == (1, UNWRITTEN), ran)
+
+
+def check(report):
+    check_cases(report)
+    check_numbers(report)
+    check_calls(report)
+    check_drawn(report)
+    check_bent(report)
+    check_words(report)
