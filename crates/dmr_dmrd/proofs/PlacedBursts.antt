@@ -9,7 +9,7 @@ use Rattle.std.proofs.Math.Seq.{get_or-append_seam}
 use Rattle.dmr_record.specs.Uplink.{UplinkSlot}
 use Rattle.dmr_capture.specs.State.{CapturedPacket}
 use Rattle.dmr_dmrd.specs.Holding.{held_burst, held_of_capture, hold_behind, hold_with, hold_with_taken, no_hold, slot_held}
-use Rattle.dmr_dmrd.specs.Holding.{slot_in, start_of, with_slot}
+use Rattle.dmr_dmrd.specs.Holding.{slot_in, start_of, hold_with_slot}
 use Rattle.dmr_dmrd.specs.Lines.{HeldSlot, line_behind, line_with, slot_behind}
 use Rattle.dmr_dmrd.specs.Placing.{asked_behind, asked_in_stream, frame_in_stream, frame_of_first, frame_on, frames_up_to}
 use Rattle.dmr_dmrd.specs.Placing.{frame_asked, is_much_later, IsFromOn, next_placed, numbers_on, places_behind}
@@ -209,7 +209,7 @@ abbrev asked_at : Slot → Hold → HotspotPacket → ℕ → Asked
 asked_at slot hold p time = asked_behind (slot_held slot hold).places.last (start_of hold.start slot time) p time
 
 abbrev held_at : Slot → ImportSettings → Hold → HotspotPacket → ℕ → Hold
-held_at slot settings hold p time = with_slot slot
+held_at slot settings hold p time = hold_with_slot slot
     (slot_behind (slot_held slot hold) p time (held_burst settings.as_uplink p.burst) (asked_at slot hold p time))
     (record hold { repeater = Some p.repeater; start = Some (start_of hold.start slot time) })
 

@@ -2,7 +2,7 @@
 use Rattle.std.proofs.Common.{◌≡◌, ◌≢◌, ℕ, ◌+◌, ◌-◌, ◌*◌, ◌/◌, ◌%◌, ◌<◌, ◌≤◌, ◌==◌, ◌||◌, max, nat_le, if◌then◌else◌}
 use Rattle.std.proofs.Common.{Bool, true, false, List, [], ◌∷◌, Option, Some, None, refl, sym, ap, ◌∙◌, subst, arith}
 use Rattle.std.proofs.lemmas.Bool.Decides.{nat_tests}
-use Rattle.dmr_dmrd.specs.Holding.{held_burst, no_hold, slot_held, start_of, with_slot}
+use Rattle.dmr_dmrd.specs.Holding.{held_burst, no_hold, slot_held, start_of, hold_with_slot}
 use Rattle.dmr_dmrd.specs.Lines.{slot_behind}
 use Rattle.dmr_dmrd.specs.Placing.{asked_behind, asked_in_stream, first_placed, frame_asked, frame_from_start, frame_in_stream}
 use Rattle.dmr_dmrd.specs.Placing.{frame_of_first, frame_on, is_much_later, later_than_start, nearest_by_six, numbers_on}
@@ -256,7 +256,7 @@ abbrev asked_in : Slot → Hold → SentPacket → Asked
 asked_in slot hold s = asked_behind (slot_held slot hold).places.last (start_of hold.start slot s.time) s.p s.time
 
 abbrev held_in : Slot → ImportSettings → Hold → SentPacket → Hold
-held_in slot settings hold s = with_slot slot
+held_in slot settings hold s = hold_with_slot slot
     (slot_behind (slot_held slot hold) s.p s.time (held_burst settings.as_uplink s.p.burst) (asked_in slot hold s))
     (record hold { repeater = Some s.p.repeater; start = Some (start_of hold.start slot s.time) })
 

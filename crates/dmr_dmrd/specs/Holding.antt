@@ -31,9 +31,9 @@ slot_held One hold = hold.one
 slot_held Two hold = hold.two
 
 -- the same with this of a slot
-abbrev pub with_slot : Slot → HeldSlot → Hold → Hold
-with_slot One slot hold = record hold { one = slot }
-with_slot Two slot hold = record hold { two = slot }
+abbrev pub hold_with_slot : Slot → HeldSlot → Hold → Hold
+hold_with_slot One slot hold = record hold { one = slot }
+hold_with_slot Two slot hold = record hold { two = slot }
 
 -- what a packet asks for that is taken, and came at this time
 abbrev pub asked_of : Hold → HotspotPacket → ℕ → Asked
@@ -47,7 +47,7 @@ slot_with settings hold p time =
 -- what is held behind a packet, where it is taken: its slot, its repeater and where the recording begins. Others are counted.
 abbrev pub hold_with_taken : ImportSettings → Hold → ℕ → Option HotspotPacket → Hold
 hold_with_taken settings hold time None = record hold { other = hold.other + 1 }
-hold_with_taken settings hold time (Some p) = with_slot p.slot (slot_with settings hold p time)
+hold_with_taken settings hold time (Some p) = hold_with_slot p.slot (slot_with settings hold p time)
     (record hold { repeater = Some p.repeater; start = Some (start_of hold.start p.slot time) })
 
 -- what is held behind a packet of a capture
