@@ -1,4 +1,4 @@
-//! Tests of `dmr_capture` and `dmr_datagrams`: captures of others, what is written, and devices that fail.
+//! Tests of `dmr_capture`, `dmr_datagrams` and `dmr_dmrd`: captures of others, what is written, and devices that fail.
 #![tactic(auto)]
 
 #[cfg(test)]
@@ -7,3 +7,5 @@ mod capture_tests;
 mod captures;
 #[cfg(test)]
 mod datagram_tests;
+#[cfg(test)]
+mod hotspot_tests;
