@@ -51,7 +51,13 @@ fn expect_recording(
 
 #[test]
 fn captures_of_hotspots_as_recordings(rt: HostRuntime) -> Result<(), Fail> {
-    expect_recording(&rt, &TO_NETWORK, HOTSPOT, Ok(counted(1, 1, 0, 0)), ONE_FRAME)?;
+    expect_recording(
+        &rt,
+        &TO_NETWORK,
+        HOTSPOT,
+        Ok(counted(1, 1, 0, 0)),
+        ONE_FRAME,
+    )?;
     let blocks = HOTSPOT_IN_BLOCKS;
     expect_recording(&rt, &TO_NETWORK, blocks, Ok(counted(1, 1, 0, 0)), ONE_FRAME)?;
     let from = ImportSettings {
@@ -112,6 +118,9 @@ fn counts_of_a_recording_as_words(rt: HostRuntime) -> Result<(), Fail> {
         other: 7,
     };
     let told = format!(in alloc; "{counted}")?;
-    assert_eq!(rt; told.as_str(), "frames 20 slot-1 18 slot-2 0 lost 2 late 0 other 7");
+    assert_eq!(rt;
+        told.as_str(),
+        "frames 20 slot-1 18 slot-2 0 lost 2 late 0 other 7"
+    );
     Ok(())
 }
