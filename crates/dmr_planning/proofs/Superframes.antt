@@ -106,7 +106,8 @@ HasOne : List Superframe → Type 0
 HasOne [] = ⊥
 HasOne (s ∷ ss) = Unit {0}
 
-some_from : (call : Call) (fields : ℕ → List ℕ) (n : ℕ) (b : Bool) (bs : List Bool) → HasOne (superframes_from call fields n (b ∷ bs))
+some_from : (call : Call) (fields : ℕ → List ℕ) (n : ℕ) (b : Bool) (bs : List Bool)
+    → HasOne (superframes_from call fields n (b ∷ bs))
 unfolding HasOne
 some_from call fields n a [] = tt
 some_from call fields n a (b ∷ []) = tt
