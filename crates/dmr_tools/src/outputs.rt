@@ -49,7 +49,7 @@ fn open_output<'a, S: System>(
     standard: &StandardFiles,
 ) -> Result<Output<'a, S::Output>, OutputsFault<'a>>
     ensures apart { IfOk result (λ output. IsApartFrom script.now standard.now output.file.identity) }
-    ensures fault { IfErr result (λ e. e ≡ OutputsFault.Unopened place) }
+    ensures fault { IfErr result (λ e. e ≡ OutputsFault.Unopened place.entry) }
 {
     match open_apart(system, place, script, standard) {
         Ok(file) => Ok(Output { place, file }),
