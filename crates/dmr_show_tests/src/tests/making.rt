@@ -166,8 +166,8 @@ fn files_of_scripts_to_a_terminal(rt: HostRuntime) {
         let mut errors = ToWrite::new(Vec::new(alloc));
         let system = Scripts { is_terminal: true };
         let ended = obey(alloc, &words, &system, &mut output, &mut errors);
-        let refused = b"error: -: standard output is a terminal\n";
-        assert!(rt; ended == 1 && output.into_inner().as_slice() == b"");
-        assert!(rt; errors.into_inner().as_slice() == refused);
+        let refused = "error: -: standard output is a terminal\n";
+        assert!(rt; ended == 1 && output.into_inner().is_empty());
+        assert!(rt; errors.into_inner().as_slice() == refused.as_bytes());
     }
 }
