@@ -13,6 +13,7 @@ const SCRIPT: &[u8] = b"slot 1\nopcode 0, fid 0, 0000000000000000\nsend at 5, oc
 const REFUSED: &[u8] = b"slot 1\n\ngrup\n";
 
 /// A system with two scripts, of which the first has a second name, and a few files that may be written.
+#[derive(Drop)]
 struct Scripts {
     is_terminal: bool,
 }
