@@ -383,8 +383,8 @@ Options:
 A capture is pcap or pcapng, told by its first octets, of link type 1, 101, 113,
 228 or 276. Taken are packets of UDP that begin with DMRD: the protocol by which
 hotspots and repeaters carry bursts to their network, port 62031, and back. Each
-becomes a burst of an uplink recording. Those of other repeaters are counted, and
-left out.
+becomes a burst of an uplink recording. Those of other repeaters are counted,
+and left out.
 
 Each slot is placed alone, by streams, numbers and times. What was lost, and
 silence on the air, is silence. A packet behind a later one of its stream is
@@ -392,8 +392,9 @@ late, and dropped. The counts are frames, bursts in each slot, numbers that were
 left out, late packets, and other packets. Nothing is written before the whole
 capture was read.
 
-What a duplex repeater sends to its network has the sync words of a base station,
-of which a run repeats nothing. With --as-uplink they become those of a mobile.
+What a duplex repeater sends to its network has the sync words of a base
+station, of which a run repeats nothing. With --as-uplink they become those of a
+mobile.
 
 Status 0: done, and the counts are in a line on standard output, or on standard
 error where the recording goes to standard output; 1: a fault, which is told on

@@ -164,15 +164,16 @@ pub(crate) const ABOUT_IMPORTED_PACKETS: &str =
     "A capture is pcap or pcapng, told by its first octets, of link type 1, 101, 113,\n\
 228 or 276. Taken are packets of UDP that begin with DMRD: the protocol by which\n\
 hotspots and repeaters carry bursts to their network, port 62031, and back. Each\n\
-becomes a burst of an uplink recording. Those of other repeaters are counted, and\n\
-left out.\n\n\
+becomes a burst of an uplink recording. Those of other repeaters are counted,\n\
+and left out.\n\n\
 Each slot is placed alone, by streams, numbers and times. What was lost, and\n\
 silence on the air, is silence. A packet behind a later one of its stream is\n\
 late, and dropped. The counts are frames, bursts in each slot, numbers that were\n\
 left out, late packets, and other packets. Nothing is written before the whole\n\
 capture was read.\n\n\
-What a duplex repeater sends to its network has the sync words of a base station,\n\
-of which a run repeats nothing. With --as-uplink they become those of a mobile.\n\n\
+What a duplex repeater sends to its network has the sync words of a base\n\
+station, of which a run repeats nothing. With --as-uplink they become those of a\n\
+mobile.\n\n\
 Status 0: done, and the counts are in a line on standard output, or on standard\n\
 error where the recording goes to standard output; 1: a fault, which is told on\n\
 standard error, and nothing is written; 2: the command line.\n\n\
