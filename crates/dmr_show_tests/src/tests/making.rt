@@ -44,9 +44,10 @@ impl System for Scripts {
     fn open_output(&self, place: Place<'_>) -> io::Result<Open<Output>> {
         match place {
             Place::Path("scene") => Ok(regular(Output::Open, 1)),
-            Place::Path("up") | Place::Standard => Ok(regular(Output::Open, 3)),
+            Place::Path("up") => Ok(regular(Output::Open, 3)),
             Place::Path("list") => Ok(regular(Output::Open, 4)),
             Place::Path("full") => Ok(regular(Output::Full, 5)),
+            Place::Standard => Ok(regular(Output::Open, 6)),
             Place::Path(_) => Err(io::Error::from(ErrorKind::NotFound)),
         }
     }
