@@ -53,17 +53,18 @@ def free_memory():
 
 class Built:
     """What was built of a crate, a library or a program, and the sum of what it was built from. A library serves one kit alone, and
-    only beside those builds of the libraries below that it was built over; a program stands by itself."""
+    only beside those builds of the libraries below that it was built over; a program and a static library stand by themselves."""
 
     def __init__(self, crate, kit=None, below=()):
-        self.crate, self.below = crate, [] if crate.is_program else below
-        self.sum = sum_of(crate.name) + ("" if crate.is_program else f" {kit.identity}")
-        self.made = crate.out / "program" if crate.is_program else crate.out / f"rlib/{crate.name}.rlib"
-        self.built_of = crate.out / ("program.sources" if crate.is_program else "rlib/sources")
+        self.crate, self.below = crate, [] if crate.is_linked else below
+        self.sum = sum_of(crate.name) + ("" if crate.is_linked else f" {kit.identity}")
+        linked = "program" if crate.is_program else "archive"
+        self.made = crate.out / (linked if crate.is_linked else f"rlib/{crate.name}.rlib")
+        self.built_of = crate.out / (f"{linked}.sources" if crate.is_linked else "rlib/sources")
         # The file of a library that has the sum of all its others.
-        self.whole = self.made if crate.is_program else self.made / "format"
+        self.whole = self.made if crate.is_linked else self.made / "format"
         # A program is made beside its place, so that one that runs goes on with its own.
-        self.new = crate.out / "program.new" if crate.is_program else self.made
+        self.new = crate.out / f"{linked}.new" if crate.is_linked else self.made
 
     def said(self):
         """What was kept of the last build: its sum, and the libraries that it was built over."""
@@ -88,22 +89,23 @@ class Built:
 
     def clear(self):
         """Makes room for what is built anew. A program stays until another takes its place."""
-        if not self.crate.is_program:
+        if not self.crate.is_linked:
             self.built_of.unlink(missing_ok=True)
             shutil.rmtree(self.made.parent, ignore_errors=True)
         self.made.parent.mkdir(parents=True, exist_ok=True)
 
     def keep(self):
         """Puts in its place what was made."""
-        if self.crate.is_program:
+        if self.crate.is_linked:
             # A program never stands beside the sum of another's sources.
             self.built_of.unlink(missing_ok=True)
             self.new.replace(self.made)
         self.built_of.write_text("".join(f"{line}\n" for line in [self.sum, *(it.identity for it in self.below)]))
 
     def take_over(self):
-        """Takes over the program that the gate built of these sources, which it leaves under the crate's name."""
-        built = self.crate.out / self.crate.name
+        """Takes over what the kit built of these sources: it leaves a program under the crate's name, and a static library as C has
+        it."""
+        built = self.crate.out / (self.crate.name if self.crate.is_program else f"lib{self.crate.name}.a")
         if built.is_file():
             self.clear()
             shutil.copy(built, self.new)

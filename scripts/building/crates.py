@@ -20,12 +20,16 @@ def is_of_an_editor(name):
 class Crate:
     """A crate of crates.txt: the crates here that it stands on, and the libraries of the kit that it names."""
 
-    def __init__(self, name, below, of_kit):
+    def __init__(self, name, below, of_kit, is_archive=False):
         self.name, self.below, self.of_kit = name, below, of_kit
         self.folder = TOP / "crates" / name
         self.out = self.folder / "out"
         self.is_program = (self.folder / "src/main.rt").is_file()
         self.root = "src/main.rt" if self.is_program else "src/lib.rt"
+        # A static library, for programs that are written in C.
+        self.is_archive = is_archive
+        # What holds all the code that it needs, and stands by itself.
+        self.is_linked = self.is_program or is_archive
 
     def folders(self):
         """Each folder of its sources, with the names of the files in it."""
@@ -41,10 +45,16 @@ class Crate:
 def all_crates():
     """Every crate by its name, as crates.txt has them."""
     lines = (TOP / "crates.txt").read_text().splitlines()
-    said = dict(re.fullmatch(r"(\w+)[^:]*:(.*)", line).groups() for line in lines if re.match(r"\w", line))
-    words = {name: libraries.split() for name, libraries in said.items()}
+    said = [re.fullmatch(r"(\w+)([^:]*):(.*)", line).groups() for line in lines if re.match(r"\w", line)]
+    kinds = {name: kind.split() for name, kind, _ in said}
+    words = {name: libraries.split() for name, _, libraries in said}
     return {
-        name: Crate(name, [it for it in libraries if it in said], [it for it in libraries if it not in said])
+        name: Crate(
+            name,
+            [it for it in libraries if it in words],
+            [it for it in libraries if it not in words],
+            "staticlib" in kinds[name],
+        )
         for name, libraries in words.items()
     }
 

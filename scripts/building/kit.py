@@ -1,4 +1,4 @@
-"""The Rattle kit: where it is, and the words of its compiler for a library and for a program."""
+"""The Rattle kit: where it is, and the words of its compiler and its linker for libraries and programs."""
 
 import pathlib
 import shutil
@@ -53,11 +53,13 @@ class Kit:
         yield from ("--antt-project", f"{self.folder}/rattle/logic/antt-project.json")
         yield from ("--logic-built", f"{self.folder}/logic_built")
         yield from ("--links", f"{crate.name}=", "--jobs", str(jobs))
-        if crate.is_program:
+        if crate.is_linked:
             yield from ("--toolchain", f"{self.folder}/toolchain", "--backend", "llvm")
+        if crate.is_archive:
+            yield from ("--crate-type", "staticlib")
         if keeps:
             yield from ("--incremental", "out/incremental")
-        elif not crate.is_program:
+        elif not crate.is_linked:
             yield "--statements"
         yield from ("-o", made)
 
@@ -65,3 +67,12 @@ class Kit:
         """The words that make a program of what was compiled."""
         yield from (self.folder / "bin/rattle-link", "--target", TARGET, "--toolchain", f"{self.folder}/toolchain")
         yield from ("-o", made, compiled, f"{self.folder}/c/libos_c.a", f"{self.folder}/c/liblibc_c.a")
+
+    def archive(self, archives, made):
+        """The words that make one static library of others, with what they take memory by."""
+        yield from (self.folder / "toolchain/bin/llvm-ar", "qcL", made, *archives, self.folder / "c/liblibc_c.a")
+
+    def share(self, archive, made):
+        """The words that make a shared library of a static one."""
+        yield from (self.folder / "toolchain/bin/ld.lld", "-shared", "-o", made, "-soname", made.name)
+        yield from ("--whole-archive", archive, "--no-whole-archive", self.folder / "toolchain/lib/libc.so.6")

@@ -73,18 +73,18 @@ def alone():
         yield ending, held
 
 
-def states():
-    """How the sources of each program stand now."""
+def states(crates=PROGRAMS):
+    """How the sources of each program, or of these crates, stand now."""
     forget()
-    return {it: [sum_of(it), *(seen(crate) for crate in with_all_below(it))] for it in PROGRAMS}
+    return {it: [sum_of(it), *(seen(crate) for crate in with_all_below(it))] for it in crates}
 
 
 def take_over(before):
-    """Takes over the programs that the gate built, where the sources stand as they did when it began, and did so all the time."""
+    """Takes over what the kit built of these crates, where the sources stand as they did when it began, and did so all the time."""
     with alone():
-        for program, now in states().items():
-            if now == before[program]:
-                Built(all_crates()[program]).take_over()
+        for crate, now in states(before).items():
+            if now == before[crate]:
+                Built(all_crates()[crate]).take_over()
 
 
 def build(programs):

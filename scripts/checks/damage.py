@@ -5,6 +5,7 @@ import subprocess
 
 from checks import recordings as it
 from checks.compare import BURST, distance, is_voice, slots_of
+from checks.make import SCENE
 from checks.pipes import OF_UPLINK, in_frames
 from checks.program import UNWRITTEN, Room
 from checks.text import expect_live
@@ -116,6 +117,24 @@ def check_parts(report):
     report.expect("each kind of part has wrong bits", parts == wanted, parts)
 
 
+def check_scene(report):
+    """Of what a script says compare finds wrong bits in each kind of part over ten seeds, and the strips are the same."""
+    with Room(report) as room:
+        octets = report.call("make", "-", "-", given=SCENE.encode()).out
+        room.uplink.write_bytes(octets)
+        strip = report.call("show", room.uplink, "--strip").out
+        parts = set()
+        for seed in SEEDS:
+            made = damaged(report, octets, "--seed", seed)
+            ran = report.call("compare", room.uplink, "-", given=made)
+            report.expect(f"seed {seed} differs", ran.status == (octets != made) and ran.err == b"", ran)
+            for bits in re.findall(r"\[wrong: ([^]]*)\]", ran.out.decode()):
+                parts |= set(re.findall(r"([A-Za-z][A-Za-z ]*) \d+", bits))
+            drawn = report.call("show", "-", "--strip", given=made).out
+            report.expect(f"the strip of the scene by seed {seed}", drawn == strip)
+        report.expect("each kind of part differs", parts == {"sync", "slot type", "EMB", "information"}, parts)
+
+
 def check_rates(report):
     """At a rate the file is the one that protocol.md makes."""
     for name in ("one_csbk", "talker_alias", "mixed_hostile"):
@@ -219,6 +238,7 @@ def check_longest(report):
 def check(report):
     check_samples(report)
     check_parts(report)
+    check_scene(report)
     check_rates(report)
     check_clean(report)
     check_files(report)

@@ -6,6 +6,9 @@ from checks.standin import WORDS, in_trees
 
 SHARED = "man/man1/dmrgate.1", "bash-completion/completions/dmrgate", "zsh/site-functions/_dmrgate"
 BRIDGE = "bin/dmrgate-bridge"
+# What is for programs that call dmrgate, with what the stand-in makes of it.
+LIBRARIES = {"lib/libdmrgate.a": "low\ndmr_c\nmemory\n", "lib/libdmrgate.so": "shared\nlow\ndmr_c\nmemory\n"}
+TEXTS = {"include/dmrgate.h": "dmrgate.h", "lib/pkgconfig/dmrgate.pc": "dmrgate.pc"}
 
 
 def install(tree, *words, **environment):
@@ -48,7 +51,7 @@ def check_install(tree):
     told = ran.stdout.splitlines()
     tree.expect("installed", ran.returncode == 0 and told[:1] == [f"dmrgate is in {prefix}/bin"], ran)
     tree.expect("how to get it on the path", told[1:] == [f"which isn't on the path: PATH='{prefix}/bin':$PATH"], ran)
-    wanted = {"bin/dmrgate", BRIDGE, *(f"share/{it}" for it in SHARED)}
+    wanted = {"bin/dmrgate", BRIDGE, *(f"share/{it}" for it in SHARED), *LIBRARIES, *TEXTS}
     wanted |= {f"libexec/dmrgate/{it}" for it in ("dmrgate", "dmrgate_tools", "installed")}
     tree.expect("what is there", files_below(prefix) == wanted, files_below(prefix) ^ wanted)
     same = all((prefix / "share" / it).read_text() == f"{it}\n" for it in SHARED)
@@ -56,6 +59,10 @@ def check_install(tree):
     modes = [(prefix / it).stat().st_mode & 0o777 for it in files]
     tree.expect("the texts, and who may do what", same and modes == [0o755, 0o755, 0o755, 0o644], modes)
     tree.expect("the script is as it was", (prefix / BRIDGE).read_text() == "a script\n")
+    made = {it: (prefix / it).read_text() for it in LIBRARIES}
+    tree.expect("the libraries", made == LIBRARIES, made)
+    same = all((prefix / it).read_text() == (tree.top / "share/c" / name).read_text() for it, name in TEXTS.items())
+    tree.expect("what is read of the libraries", same)
     expect_commands(tree, "installed", prefix / "bin/dmrgate")
     link, second = tree.folder / "link", tree.folder / "second"
     link.symlink_to(prefix / "bin/dmrgate")

@@ -30,8 +30,8 @@ class Report:
 
     def __init__(self, top):
         self.top, self.passed, self.failed, self.skipped = top, 0, 0, 0
-        # What the gate took most time for, line by line.
-        self.longest = []
+        # What the gate took most time for, line by line, and whether it has just proved everything.
+        self.longest, self.is_proved = [], False
         self.script, self.programs = top / "dmrgate", {}
         self.by_script = False
 
@@ -60,6 +60,12 @@ class Report:
         """So many can't be tried here."""
         self.skipped += count
         print(f"skipped: {why}", flush=True)
+
+    def add(self, passed, failed, skipped):
+        """So many more, which were counted apart."""
+        self.passed += passed
+        self.failed += failed
+        self.skipped += skipped
 
     def counted(self):
         """All counts in a line, with what was skipped where anything was."""

@@ -97,6 +97,8 @@ for word; do
 done
 if [ -e src/main.rt ]; then
     program out/text* src/main.rt >"$made"
+elif [ "${*#*--crate-type staticlib}" != "$*" ]; then
+    cat out/text* src/* >"$made" || exit 5
 else
     mkdir "$made" && cat src/* >"$made/text" && echo "$FORMAT" >"$made/format" || exit 5
 fi
@@ -112,7 +114,17 @@ while [ "$1" != -o ]; do shift; done
 cp "$3" "$2" && chmod +x "$2"
 """
 
-# Two crates stand on the lowest one, and have nothing else in common.
+# A static library of several has their texts, and a shared one that of a static one.
+ARCHIVER = """#!/bin/sh
+made=$2
+shift 2
+cat "$@" >"$made"
+"""
+SHARER = """#!/bin/sh
+[ "$1 $2 $4 $6" = "-shared -o -soname --whole-archive" ] && { echo shared && cat "$7"; } >"$3"
+"""
+
+# Two crates stand on the lowest one, and have nothing else in common. A static library is for programs that call it.
 CRATES = """# Lowest first.
 unused:
 low: kit
@@ -121,6 +133,7 @@ right: low kit
 dmrgate: left right
 side: low
 dmrgate_tools: side
+dmr_c staticlib: low
 """
 LIBRARIES = {"dmrgate": ["low", "left", "right"], "dmrgate_tools": ["low", "side"]}
 
@@ -166,15 +179,18 @@ class Tree:
         self.script = self.top / "dmrgate"
         for name in ("dmrgate", "install", "check"):
             self.put(name, (report.top / name).read_text(), is_program=True)
-        for name in ("scripts", "share/bridge"):
+        for name in ("scripts", "share/bridge", "share/c"):
             shutil.copytree(report.top / name, self.top / name, ignore=shutil.ignore_patterns("__pycache__"))
         with (self.top / "scripts/building/building.py").open("a") as it:
             it.write(ROOM)
         self.put("crates.txt", CRATES)
-        for crate in ALL:
+        for crate in [*ALL, "dmr_c"]:
             self.edit(crate, f"{crate}\n")
         for name, text in (("rt", RT), ("rattle", RATTLE), ("rattle-link", LINK)):
             self.put(self.kit / "bin" / name, text.replace("KIT", str(self.kit)), is_program=True)
+        for name, text in (("llvm-ar", ARCHIVER), ("ld.lld", SHARER)):
+            self.put(self.kit / "toolchain/bin" / name, text, is_program=True)
+        self.put(self.kit / "c/liblibc_c.a", "memory\n")
 
     def put(self, name, text, is_program=False):
         """Puts a file into the repository, or elsewhere."""

@@ -97,6 +97,7 @@ written_number m w e =
 abbrev number_in : List ℕ → ℕ
 number_in words = ((get_or words 0 0 * 2 ^ 64 + get_or words 1 0) * 2 ^ 64 + get_or words 2 0) * 2 ^ 4 + get_or words 3 0
 
+-- the entry of the table for an octet of this value at this place
 abbrev pub entry : ℕ → ℕ → List ℕ
 entry p n = get_or (get_or WRITTEN p []) n []
 

@@ -121,6 +121,7 @@ section_alone (NewInterface link) state head b octet kept says section = refl
 section_alone (Captured link time) state head b octet kept says section = absurd (says.0.begins.begins.typed.other section)
 section_alone Passed state head b octet kept says section = refl
 
+-- A section header holds no packet.
 pub section_holds_none : (state : CaptureState) (head : List ℕ) (b : BlockHead) (octet : ℕ) (kept : List ℕ)
     → IsBlockHead state head b → take 4 head ≡ section_type → packets_in b.block octet kept ≡ []
 section_holds_none state head b octet kept begins section = section_alone b.block state head b octet kept begins.0 section

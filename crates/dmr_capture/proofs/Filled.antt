@@ -12,9 +12,11 @@ abbrev pub Filled : (old new : Option (List ℕ)) → List ℕ → ℕ → List 
 Filled old new front from buffer at = (more : List ℕ) × Consumes old new more × (take at buffer ≡ front ++ more)
     × (at ≡ from + length more)
 
+-- Nothing is filled where nothing was read.
 pub filled_none : (a : Option (List ℕ)) (from : ℕ) (buffer : List ℕ) → Filled a a (take from buffer) from buffer from
 filled_none a from buffer = ([], Consumes-nil a, sym (append-nil (take from buffer)), omega arith)
 
+-- What was read behind the filled part is filled too.
 pub filled_more : (a b c : Option (List ℕ)) (at k n from : ℕ) (xs ys front : List ℕ) → at ≤ length xs → n ≤ length ys
     → Filled a b front from xs at → Consumes b c (take n ys) → Filled a c front from (put_mid at k xs ys) (at + n)
 filled_more a b c at k n from xs ys front within fits (more, took, stands, count) next = (

@@ -36,5 +36,6 @@ taken_of_none (suc n) (x ∷ xs) none = absurd (omega arith)
 pub joined : (front a b : List ℕ) → front ++ a ++ b ≡ front ++ (a ++ b)
 joined front a b = append_assoc front a b
 
+-- Three parts behind a front are one part behind it.
 pub joined_more : (front a b c : List ℕ) → front ++ a ++ b ++ c ≡ front ++ (a ++ b ++ c)
 joined_more front a b c = ap (λ l. l ++ c) (append_assoc front a b) ∙ append_assoc front (a ++ b) c

@@ -14,7 +14,7 @@ use Rattle.dmr_compare.specs.Counting.{different_places}
 use Rattle.dmr_compare.specs.Kept.{KeptBurst, cach_bits, compared_bits, compared_cach, differing_in_burst, differing_in_cach}
 use Rattle.dmr_compare.specs.Kept.{is_same, is_voice, kept}
 use Rattle.dmr_compare.specs.Slots.{ListedSlot, lines_of, bare_slots}
-use Rattle.dmr_compare.specs.declared.listed.ListedBurst.{ListedBurst}
+use Rattle.dmr_listing.specs.declared.listed_burst.ListedBurst.{ListedBurst}
 use Rattle.dmr_compare.specs.declared.settings.Ignored.{Ignored}
 use Rattle.dmr_listing.specs.ListingRules.{Lists, ListingTurn, turn_after, turn_passed}
 use Rattle.dmr_reading.specs.Reading.{IsReadAs}

@@ -4,7 +4,7 @@ use Rattle.dmr_bits.specs.Bits.{bits_of_octets, distance, part}
 use Rattle.dmr_reading.specs.declared.reading.Reading.{Reading}
 use Rattle.dmr_reading.specs.declared.reading.Reading.TheVariants.{VoiceSync, Voice}
 use Rattle.dmr_compare.specs.Slots.{ListedSlot}
-use Rattle.dmr_compare.specs.declared.listed.ListedBurst.{ListedBurst}
+use Rattle.dmr_listing.specs.declared.listed_burst.ListedBurst.{ListedBurst}
 use Rattle.dmr_compare.specs.declared.settings.Ignored.{Ignored}
 
 -- 1. What isn't ignored.

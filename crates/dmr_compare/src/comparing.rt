@@ -9,7 +9,7 @@ use crate::reader::SlotReader;
 use crate::settings::{CompareSettings, slots_in_front_of_first, slots_in_front_of_second};
 use crate::taking::take_found;
 use crate::trouble::Trouble;
-use dmr_record::{Sink, Source};
+use dmr_record::{NextSlot, Sink, Source};
 use dmr_recording::Recording;
 
 /// Compares two recordings behind their heads, as far as both can be read, and prints the two lines of each difference.
@@ -49,7 +49,7 @@ pub(crate) fn compare_recordings<S: Source, T: Source, K: Sink>(
             Ok(found) => found,
             Err(fault) => return Err(Trouble::Second(fault)),
         };
-        if of_first.is_none() && of_second.is_none() {
+        if let (NextSlot::End, NextSlot::End) = (&of_first, &of_second) {
             return Ok(counts);
         }
         if take_found(settings, place, &of_first, &of_second, &mut counts, sink).is_err() {

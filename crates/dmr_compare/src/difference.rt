@@ -7,10 +7,11 @@ ghost use Rattle.dmr_record.specs.Devices.{failed_after};
 
 use crate::differing::Differing;
 use crate::line::Line;
-use crate::listed::{ListedBurst, SlotText};
+use crate::listed::SlotText;
 use crate::settings::Ignored;
 use arrayvec::ArrayString;
 use dmr_lines::{SUCCESS, line_of, print_line};
+use dmr_listing::ListedBurst;
 use dmr_record::{DeviceFault, Sink, put};
 use dmr_recording::Place;
 use std::fmt::{self, Display, Write};

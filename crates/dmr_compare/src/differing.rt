@@ -5,9 +5,9 @@ ghost use Rattle.dmr_compare.specs.Kept.{cach_bits, differing_in_burst, differin
 ghost use Rattle.dmr_compare.specs.Printed.{differing_text};
 
 use crate::line::Line;
-use crate::listed::ListedBurst;
 use crate::settings::Ignored;
 use dmr_bits::Bits;
+use dmr_listing::ListedBurst;
 use dmr_reading::Reading;
 
 /// How many bits differ of what is compared of two bursts.

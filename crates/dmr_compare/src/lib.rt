@@ -3,8 +3,8 @@
 //! `compare` reads two files in constant memory. It prints two lines for each place that differs and a last line with the
 //! `PlaceCounts`, and answers an exit status as `cmp` does (`SAME`, `DIFFERENT`, `TROUBLE`). `CompareSettings` say which frames of
 //! recordings are compared with one another (`Shift`), what is left out of their bursts (`Ignored`), and whether differences are
-//! counted alone. Why files weren't compared (`Trouble`) is told by their names (`FileNames`). A `ListedBurst` is a burst with the
-//! line that a listing has of it, and `Differing` is how many bits differ of two of them. A `RecordHead` is a record of a list
+//! counted alone. Why files weren't compared (`Trouble`) is told by their names (`FileNames`). Of bursts it compares what a
+//! `ListedBurst` of dmr_listing has, and `Differing` is how many bits differ of two of them. A `RecordHead` is a record of a list
 //! (`ListKind`) without its octets; all of these are compared. What a line shows of a burst or a record is dmr_listing's.
 //!
 //! Contracts say what was read of two files and what was printed (`specs/Files.antt`). What both kinds of files have stands in
@@ -54,7 +54,6 @@ pub use counts::PlaceCounts;
 pub use differing::Differing;
 pub use files::compare;
 pub use list_record::{ListKind, RecordHead};
-pub use listed::ListedBurst;
 pub use settings::{CompareSettings, Ignored, Shift};
 pub use status::{DIFFERENT, SAME, TROUBLE};
 pub use telling::FileNames;

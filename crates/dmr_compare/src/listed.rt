@@ -1,19 +1,10 @@
 //! Bursts that are compared.
 ghost use Rattle.std.specs.Prelude.{◌≡◌, ◌-◌, ◌^◌, ◌<◌};
-ghost use Rattle.dmr_compare.specs.Slots.{IsListedAt, bare_slot};
+ghost use Rattle.dmr_compare.specs.Slots.{IsListedAt, bare_slot, slot_text};
 
-use dmr_listing::{BurstLine, BurstText, RecordingView};
+use dmr_listing::{BurstText, ListedBurst, RecordingView};
 use dmr_recording::RecordedBurst;
 use std::fmt;
-
-/// A burst of a recording, and what a listing shows of it.
-#[derive(Clone, Copy, Drop)]
-pub struct ListedBurst {
-    /// The burst.
-    pub burst: RecordedBurst,
-    /// Its line.
-    pub line: BurstLine,
-}
 
 /// The next slot of a recording, and what a listing shows of it.
 pub(crate) fn list_slot(
@@ -41,6 +32,8 @@ pub(crate) fn list_slot(
 pub(crate) struct SlotText<'a>(pub(crate) &'a Option<ListedBurst>);
 
 impl fmt::Display for SlotText<'_> {
+    ghost output = { λ slot. slot_text slot.0.now };
+
     fn fmt<W: fmt::Write>(&self, f: &mut fmt::Formatter<W>) -> fmt::Result {
         match self.0 {
             Some(ListedBurst { line, .. }) => write!(f, "{}", BurstText(line)),

@@ -5,13 +5,14 @@ ghost use Rattle.std.specs.Io.KnownBytes.{IsAtEnd};
 ghost use Rattle.dmr_listing.specs.ListingRules.{IsReadUpToFault};
 ghost use Rattle.dmr_recording.specs.Places.{place_by_number};
 ghost use Rattle.dmr_record.specs.Faults.{is_device_fault, is_of_end};
+ghost use Rattle.dmr_record.specs.NextSlot.{slot_if_any};
 ghost use Rattle.dmr_compare.specs.Reading.{HasRead, slots_to_come};
 ghost use Rattle.dmr_compare.specs.Slots.{ListedSlot, lines_of, bare_slots};
 ghost use Rattle.dmr_compare.specs.Taking.{found_next};
 
-use crate::listed::{ListedBurst, list_slot};
-use dmr_listing::RecordingView;
-use dmr_record::{RecordFault, Source};
+use crate::listed::list_slot;
+use dmr_listing::{ListedBurst, RecordingView};
+use dmr_record::{NextSlot, RecordFault, Source};
 use dmr_recording::{FaultLine, HEAD_OCTETS, Place, Recording, read_recording, record_octets};
 
 /// Where the reading of a recording stands.
@@ -66,17 +67,19 @@ impl SlotReader {
     pub(crate) fn next<S: Source>(
         &mut self,
         source: &mut S,
-    ) -> Result<Option<Option<ListedBurst>>, FaultLine>
+    ) -> Result<NextSlot<ListedBurst>, FaultLine>
         requires source { S.has_failed source.old ≡ false }
         requires stands { (slots : List ListedSlot) × (start : Option (List ℕ)) × HasRead self.old slots start (S.left source.old) }
         // The slot that is found stands behind those that were read.
         ensures read { IfOk result (λ found. (slots : List ListedSlot) (start : Option (List ℕ))
             → HasRead self.old slots start (S.left source.old)
-            → HasRead self.new (slots ++ found_next found) start (S.left source.new)) }
+            → HasRead self.new (slots ++ found_next (slot_if_any found)) start (S.left source.new)) }
         // There is one exactly where the end wasn't and isn't seen.
-        ensures some { IfOk result (λ found. IfSome found (λ slot. (self.old.is_over ≡ false) × (self.new.is_over ≡ false))) }
-        ensures none { IfOk result (λ found. IfNone found (self.new.is_over ≡ true)) }
-        ensures fewer { IfOk result (λ found. slots_to_come self.new + length (found_next found) ≤ slots_to_come self.old) }
+        ensures some { IfOk result (λ found. IfSome (slot_if_any found)
+            (λ slot. (self.old.is_over ≡ false) × (self.new.is_over ≡ false))) }
+        ensures none { IfOk result (λ found. IfNone (slot_if_any found) (self.new.is_over ≡ true)) }
+        ensures fewer { IfOk result (λ found.
+            slots_to_come self.new + length (found_next (slot_if_any found)) ≤ slots_to_come self.old) }
         ensures well { OnOk result (S.has_failed source.new ≡ false) }
         // Or the record behind them shows a fault.
         ensures fault { IfErr result (λ fault. (slots : List ListedSlot) (start : Option (List ℕ))
@@ -87,16 +90,16 @@ impl SlotReader {
         ensures same_recording { self.new.recording ≡ self.old.recording }
     {
         if self.is_over {
-            return Ok(None);
+            return Ok(NextSlot::End);
         }
         match read_recording(source, self.recording, self.view.slots()) {
-            Ok(Some(slot)) => {
+            Ok(NextSlot::Slot(slot)) => {
                 self.octet += record_octets(self.recording, &slot);
-                Ok(Some(list_slot(&mut self.view, slot)))
+                Ok(NextSlot::Slot(list_slot(&mut self.view, slot)))
             }
-            Ok(None) => {
+            Ok(NextSlot::End) => {
                 self.is_over = true;
-                Ok(None)
+                Ok(NextSlot::End)
             }
             Err(fault) => Err(self.fault_line(fault)),
         }

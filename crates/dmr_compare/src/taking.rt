@@ -4,12 +4,13 @@ ghost use Rattle.dmr_compare.specs.Kept.{is_same};
 ghost use Rattle.dmr_compare.specs.Printed.{PutsPlace};
 ghost use Rattle.dmr_compare.specs.Taking.{HasRoom, PutsFound, counted_found, counted_place};
 ghost use Rattle.dmr_record.specs.Devices.{failed_after};
+ghost use Rattle.dmr_record.specs.NextSlot.{slot_if_any};
 
 use crate::counts::PlaceCounts;
 use crate::difference::Difference;
-use crate::listed::ListedBurst;
 use crate::settings::CompareSettings;
-use dmr_record::{DeviceFault, Sink};
+use dmr_listing::ListedBurst;
+use dmr_record::{DeviceFault, NextSlot, Sink};
 use dmr_recording::Place;
 
 /// Counts a place that both recordings have, and prints its lines where it differs.
@@ -46,27 +47,31 @@ fn take_both<K: Sink>(
 pub(crate) fn take_found<K: Sink>(
     settings: &CompareSettings,
     place: Place,
-    first: &Option<Option<ListedBurst>>,
-    second: &Option<Option<ListedBurst>>,
+    first: &NextSlot<ListedBurst>,
+    second: &NextSlot<ListedBurst>,
     counts: &mut PlaceCounts,
     sink: &mut K,
 ) -> Result<(), DeviceFault>
     requires sink { K.has_failed sink.old ≡ false }
     requires room { HasRoom counts.old }
-    ensures counted { counts.new ≡ counted_found (is_same settings.now.ignored) first.now second.now counts.old }
-    ensures lines { OnOk result (PutsFound (PutsPlace settings.now) first.now second.now (K.held sink.old) (K.held sink.new)) }
+    ensures counted { counts.new ≡ counted_found (is_same settings.now.ignored)
+        (slot_if_any first.now) (slot_if_any second.now) counts.old }
+    ensures lines { OnOk result (PutsFound (PutsPlace settings.now)
+        (slot_if_any first.now) (slot_if_any second.now) (K.held sink.old) (K.held sink.new)) }
     ensures failed { K.has_failed sink.new ≡ failed_after (K.has_failed sink.old) result }
 {
     match (first, second) {
-        (Some(first), Some(second)) => take_both(settings, place, first, second, counts, sink),
-        (Some(_), None) => {
+        (NextSlot::Slot(first), NextSlot::Slot(second)) => take_both(
+            settings, place, first, second, counts, sink,
+        ),
+        (NextSlot::Slot(_), NextSlot::End) => {
             counts.only_in_first += 1;
             Ok(())
         }
-        (None, Some(_)) => {
+        (NextSlot::End, NextSlot::Slot(_)) => {
             counts.only_in_second += 1;
             Ok(())
         }
-        (None, None) => Ok(()),
+        (NextSlot::End, NextSlot::End) => Ok(()),
     }
 }

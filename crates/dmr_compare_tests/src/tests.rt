@@ -1,11 +1,11 @@
 //! What is printed of two recordings. The lines are worked out from docs/protocol.md, and so are the counts.
 use crate::recordings::{CALL, DOWNLINK_BEFORE, DOWNLINK_BEHIND, REPEATED, UPLINK};
 use dmr_compare::{
-    CompareSettings, DIFFERENT, Differing, FileNames, Ignored, ListedBurst, PlaceCounts, SAME,
-    Shift, TROUBLE, compare,
+    CompareSettings, DIFFERENT, Differing, FileNames, Ignored, PlaceCounts, SAME, Shift, TROUBLE,
+    compare,
 };
-use dmr_listing::RecordingView;
-use dmr_record::{FromRead, ToWrite};
+use dmr_listing::{ListedBurst, RecordingView};
+use dmr_record::{FromRead, NextSlot, ToWrite};
 use dmr_recording::{RecordedBurst, Recording, read_recording};
 use dmr_test_devices::{FailsAt, OneByOne};
 use std::process::Abort;
@@ -332,7 +332,7 @@ fn burst_of(rt: &(impl Abort + AllocGlobal), record: &str) -> Result<RecordedBur
     let octets = hex::decode(rt.alloc(), record.as_bytes())?;
     let mut source = FromRead::new(octets.as_slice());
     match read_recording(&mut source, Recording::Downlink, 0) {
-        Ok(Some(Some(burst))) => Ok(burst),
+        Ok(NextSlot::Slot(Some(burst))) => Ok(burst),
         _ => panic!(rt; "no burst"),
     }
 }

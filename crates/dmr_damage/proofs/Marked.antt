@@ -26,10 +26,12 @@ use Rattle.dmr_damage.specs.Bursts.{IsDamagedForeignVoice, IsDamagedUnheardData,
 pub same_sync : (sync : Sync) (a b : List Bool) → sync_field b ≡ sync_field a → HasSync sync a → HasSync sync b
 same_sync sync a b e has = subst (λ f. distance (sync_word sync.side sync.voice) f ≤ 3) (sym e) has
 
+-- A burst with the same slot type field has the same slot type.
 pub same_slot_type : (slot_type : SlotType) (a b : List Bool) → slot_type_field b ≡ slot_type_field a → HasSlotType slot_type a
     → HasSlotType slot_type b
 same_slot_type slot_type a b e has = (has.0, has.1, subst (λ f. distance has.0 f ≤ 3) (sym e) has.2, has.3)
 
+-- A burst with the same EMB field has the same EMB.
 pub same_emb : (emb : Emb) (a b : List Bool) → emb_field b ≡ emb_field a → HasEmb emb a → HasEmb emb b
 same_emb emb a b e has = (has.0, has.1, subst (λ f. distance has.0 f ≤ 2) (sym e) has.2, has.3)
 
@@ -129,9 +131,11 @@ not_found voice bits r e is has = let f = is.only voice has in clash f
     clash : r ≡ Some voice → ⊥
     clash f = cc
 
+-- One result holds one EMB.
 pub one_emb : (r : Option Emb) (a b : Emb) → r ≡ Some a → r ≡ Some b → a ≡ b
 one_emb r a b e f = cc
 
+-- A burst with no sync and the EMB of another colour code is damaged as such a voice burst.
 pub by_emb : (colour : ℕ) (old new : List Bool) (r : Option Bool) (found : Option Emb) (emb : Emb) → r ≡ None → IsSought old r
     → found ≡ Some emb → IfSome found (λ e. HasEmb e old) → emb.colour ≢ colour → IsDamagedForeignVoice old new
     → IsDamagedUnrepeated colour old new
@@ -142,6 +146,7 @@ by_emb colour old new r found emb e is f within apart damaged = record {
   others = λ none all. absurd (apart (all emb (subst (λ x. IfSome x (λ e. HasEmb e old)) f within)));
 }
 
+-- A burst with no sync and no EMB of another colour code stays as it is.
 pub by_none : (colour : ℕ) (old new : List Bool) (r : Option Bool) → r ≡ None → IsSought old r
     → ((emb : Emb) → HasEmb emb old → emb.colour ≢ colour → ⊥) → new ≡ old → IsDamagedUnrepeated colour old new
 by_none colour old new r e is none same = record {

@@ -112,6 +112,7 @@ line_taken colour line taken slots outs slot e is =
     (first_and_rest taken.slots None (omega (arith, six)))
     (rw e (runs_more colour fresh_memory slots outs line.memory (drop 1 line.slots) (slot ∷ []) is.run))
 
+-- One more slot that goes out keeps the line five slots behind.
 pub line_decides : (colour : ℕ) (line taken new : LineState) (slots outs : List UplinkSlot) (slot out : UplinkSlot)
     → IsNext line taken new slot out → IsLineBehind colour 5 line slots outs
     → IsLineBehind colour 5 new (slots ++ slot ∷ []) (outs ++ out ∷ [])

@@ -12,11 +12,13 @@ pub put_same : (b new w : List Bool) (at to : ℕ) → new ≡ put_at b at w →
     → part new at to ≡ w
 put_same b new w at to e long wide inside = ap (λ x. part x at to) e ∙ part_put_same b at w to wide (omega arith)
 
+-- What stands in front of a part that is put stays.
 pub put_before : (b new w : List Bool) (at from to : ℕ) → new ≡ put_at b at w → length b ≡ 264 → at + length w ≤ 264 → from ≤ to
     → to ≤ at → part new from to ≡ part b from to
 put_before b new w at from to e long inside order before =
     ap (λ x. part x from to) e ∙ part_put_before b at w from to order before (omega arith)
 
+-- What stands behind a part that is put stays.
 pub put_behind : (b new w : List Bool) (at from to : ℕ) → new ≡ put_at b at w → length b ≡ 264 → at + length w ≤ from → from ≤ to
     → to ≤ 264 → part new from to ≡ part b from to
 put_behind b new w at from to e long behind order inside =
@@ -35,6 +37,7 @@ pub record IsPutTwice (b mid new w : List Bool) (at again half : ℕ) : Type 0 w
   pub order : at + half ≤ again
   pub inside : again + half ≤ 264
 
+-- A word that is put in two halves is read back from both.
 pub twice_written : (b mid new w : List Bool) (at again half : ℕ) → IsPutTwice b mid new w at again half
     → part new at (at + half) ++ part new again (again + half) ≡ w
 twice_written b mid new w at again half is =
@@ -47,6 +50,7 @@ twice_written b mid new w at again half is =
     (put_same mid new (part w half (half + half)) again (again + half) is.second is.kept (omega (arith, is.second_wide)) is.inside)
     ∙ parts_join w half (half + half) (omega arith) is.wide
 
+-- What stands in front of both halves stays.
 pub twice_front : (b mid new w : List Bool) (at again half : ℕ) → IsPutTwice b mid new w at again half
     → (from to : ℕ) → from ≤ to → to ≤ at → part new from to ≡ part b from to
 twice_front b mid new w at again half is from to order front =
@@ -54,6 +58,7 @@ twice_front b mid new w at again half is from to order front =
     (omega (arith, is.order))
     ∙ put_before b mid (part w 0 half) at from to is.first is.long (omega (arith, is.first_wide, is.order, is.inside)) order front
 
+-- What stands between both halves stays.
 pub twice_between : (b mid new w : List Bool) (at again half : ℕ) → IsPutTwice b mid new w at again half
     → (from to : ℕ) → at + half ≤ from → from ≤ to → to ≤ again → part new from to ≡ part b from to
 twice_between b mid new w at again half is from to behind order before =
@@ -62,6 +67,7 @@ twice_between b mid new w at again half is from to behind order before =
     ∙ put_behind b mid (part w 0 half) at from to is.first is.long (omega (arith, is.first_wide)) order
     (omega (arith, is.inside))
 
+-- What stands behind both halves stays.
 pub twice_behind : (b mid new w : List Bool) (at again half : ℕ) → IsPutTwice b mid new w at again half
     → (from to : ℕ) → again + half ≤ from → from ≤ to → to ≤ 264 → part new from to ≡ part b from to
 twice_behind b mid new w at again half is from to behind order inside =

@@ -1,4 +1,5 @@
 pub mod Bursts
+pub mod CountTexts
 pub mod Counts
 pub mod Fitting
 pub mod Frames

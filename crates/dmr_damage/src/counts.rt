@@ -1,6 +1,7 @@
 //! What damaging a recording did.
-ghost use Rattle.std.specs.Prelude.{◌≡◌, ◌*◌, ◌+◌, ◌<◌, ◌≤◌};
+ghost use Rattle.std.specs.Prelude.{◌≡◌, ◌*◌, ◌+◌, ◌<◌, ◌≤◌, Some};
 ghost use Rattle.dmr_bits.specs.Bits.{bits_of_octets, distance};
+ghost use Rattle.dmr_damage.specs.CountTexts.{damaged_text};
 
 use dmr_bits::Bits;
 use std::fmt;
@@ -21,6 +22,8 @@ pub struct Damaged {
 }
 
 impl fmt::Display for Damaged {
+    ghost output = { λ damaged. Some (damaged_text damaged) };
+
     /// `frames 40 bursts 21 changed 13 silenced 0 bits 84`
     fn fmt<W: fmt::Write>(&self, f: &mut fmt::Formatter<W>) -> fmt::Result {
         let Damaged {

@@ -7,7 +7,7 @@ ghost use Rattle.dmr_record.specs.Uplink.{IsFrame, IsSilenceOrBurst, frame_octet
 ghost use Rattle.dmr_damage.specs.Recordings.{IsFrameFault};
 
 use crate::frames::Frame;
-use dmr_record::{Source, read_uplink_slot};
+use dmr_record::{NextSlot, Source, read_uplink_slot};
 use dmr_recording::{FaultLine, Place};
 
 /// How many octets the record of a slot has.
@@ -47,8 +47,8 @@ pub(crate) fn read_pair<S: Source>(
     ensures device { IfErr result (λ fault. S.has_failed source.new ≡ is_device_fault fault.fault) }
 {
     let first = match read_uplink_slot(source, 2 * frames) {
-        Ok(Some(slot)) => slot,
-        Ok(None) => return Ok(None),
+        Ok(NextSlot::Slot(slot)) => slot,
+        Ok(NextSlot::End) => return Ok(None),
         Err(fault) => {
             let place = Some(Place::of_slot(2 * frames));
             return Err(FaultLine {
@@ -59,9 +59,9 @@ pub(crate) fn read_pair<S: Source>(
         }
     };
     match read_uplink_slot(source, 2 * frames + 1) {
-        Ok(Some(second)) => Ok(Some([first, second])),
+        Ok(NextSlot::Slot(second)) => Ok(Some([first, second])),
         // Behind slot 1 no recording is at its end.
-        Ok(None) => Ok(None),
+        Ok(NextSlot::End) => Ok(None),
         Err(fault) => {
             let place = Some(Place::of_slot(2 * frames + 1));
             let octet = octet + slot_length(&first);

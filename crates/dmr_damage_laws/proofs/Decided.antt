@@ -21,15 +21,19 @@ pub record Decided : Type 0 where
   pub carried : Option FullLc
   pub out : Option (List ℕ)
 
+-- the slots that came in
 abbrev pub slots_of : List Decided → List (Option (List ℕ))
 slots_of ds = map (λ (d : Decided). d.slot) ds
 
+-- what was heard in them
 abbrev pub heard_of : List Decided → List Heard
 heard_of ds = map (λ (d : Decided). d.heard) ds
 
+-- the link controls that they carry
 abbrev pub carried_of : List Decided → List (Option FullLc)
 carried_of ds = map (λ (d : Decided). d.carried) ds
 
+-- the slots that went out
 abbrev pub outs_of : List Decided → List (Option (List ℕ))
 outs_of ds = map (λ (d : Decided). d.out) ds
 

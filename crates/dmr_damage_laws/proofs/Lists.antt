@@ -30,6 +30,7 @@ data_plain kind information lc role = record { agrees = (role, refl); never = λ
 silent_plain : IsPlain (unsaid Silent)
 silent_plain = record { agrees = tt; never = λ v k old new e. e }
 
+-- Silences that mean nothing are plain.
 pub pause_plain : (n : ℕ) → AllByRecursion IsPlain (replicate n (unsaid Silent))
 pause_plain n = plain_again n (unsaid Silent) silent_plain
 

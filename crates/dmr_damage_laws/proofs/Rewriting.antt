@@ -71,6 +71,7 @@ pub goes_on : (c : Cell) (plain : IsPlain c) (vocoder : List Bool) (carried : Op
 goes_on c plain vocoder carried old new (inl e) = e
 goes_on c plain vocoder carried old new (inr n) = plain.never vocoder carried old new n
 
+-- Rows with the same first and the same rest are the same.
 pub both_same : (x y : Said) (xs ys : List Said) → x ≡ y → xs ≡ ys → x ∷ xs ≡ y ∷ ys
 both_same x y xs ys p q = cc
 
@@ -110,6 +111,7 @@ pub all_plain : (xs ys : List Cell) → AllByRecursion IsPlain xs → AllByRecur
 all_plain [] ys p q = q
 all_plain (x ∷ xs) ys p q = (p.0, all_plain xs ys p.1 q)
 
+-- A plain cell that is repeated is plain each time.
 pub plain_again : (n : ℕ) (c : Cell) → IsPlain c → AllByRecursion IsPlain (replicate n c)
 plain_again zero c p = tt
 plain_again (suc n) c p = (p, plain_again n c p)

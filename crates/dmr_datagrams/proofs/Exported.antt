@@ -64,6 +64,7 @@ packets_more settings receipts next =
     flat_map-append (exported_packets settings) receipts (next ∷ [])
     ∙ ap (λ l. exported settings receipts ++ l) (append-nil (exported_packets settings next))
 
+-- The packets of one more receipt are counted.
 pub count_more : (settings : ExportSettings) (receipts : List Receipt) (next : Receipt) (written more : ℕ)
     → written ≡ length (exported settings receipts) → more ≡ length (exported_packets settings next)
     → written + more ≡ length (exported settings (receipts ++ next ∷ []))
@@ -77,6 +78,7 @@ few_packets : (settings : ExportSettings) (r : Receipt) (wanted : Bool)
 few_packets settings r true = omega arith
 few_packets settings r false = omega arith
 
+-- A receipt is one packet at most.
 pub one_packet : (settings : ExportSettings) (r : Receipt) → length (exported_packets settings r) ≤ 1
 one_packet settings r = few_packets settings r (is_wanted settings r.kind r.slot)
 

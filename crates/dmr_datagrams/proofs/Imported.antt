@@ -7,7 +7,7 @@ use Rattle.std.proofs.lemmas.List.{length-append}
 use Rattle.std.proofs.lemmas.List.Concat.{flat_map-append}
 use Rattle.std.specs.Io.KnownBytes.{Appends, Consumes}
 use Rattle.std.specs.List.{AllByRecursion}
-use Rattle.std.proofs.KnownBytes.{Appends-trans, Consumes-trans}
+use Rattle.std.proofs.KnownBytes.{Appends-trans}
 use Rattle.dmr_record.specs.Devices.{Tears}
 use Rattle.dmr_record.proofs.Torn.{Tears_after}
 use Rattle.dmr_record.specs.Head.{head_octets, outgoing_magic, record_limit}
@@ -89,6 +89,7 @@ file_more sendings more =
     ap (λ l. head_octets outgoing_magic ++ l) (flat_map-append sending_octets sendings more)
     ∙ sym (append_assoc (head_octets outgoing_magic) (sendings_octets sendings) (sendings_octets more))
 
+-- The records of one more packet keep a list within its limits.
 pub list_more : (settings : ImportSettings) (packets : List CapturedPacket) (next : CapturedPacket)
     → Tells (progress_behind settings no_progress packets) (imported settings packets)
     → AreSendings (imported settings packets)
@@ -107,6 +108,7 @@ list_more settings packets next tells list fit few =
       few = let e = further.records in omega (arith, e, few);
     }
 
+-- With no packet yet, only the heads are read and written.
 pub imported_none : (settings : ImportSettings) (state : CaptureState) (head : List ℕ) (a b d e : Option (List ℕ))
     → BeginsCapture head state → Consumes a b head → Appends d e (head_octets outgoing_magic)
     → AreImported settings state [] a b d e
@@ -116,6 +118,7 @@ imported_none settings state head a b d e begins took put = record {
   written = subst (Appends d e) (sym (append-nil (head_octets outgoing_magic))) put;
 }
 
+-- A list can be torn in its head.
 pub head_torn : (settings : ImportSettings) (state : CaptureState) (head : List ℕ) (a b d e : Option (List ℕ))
     → BeginsCapture head state → Consumes a b head → Tears d e (head_octets outgoing_magic) → IsListTorn settings a b d e
 head_torn settings state head a b d e begins took torn = record {
@@ -134,6 +137,7 @@ written_more settings packets next =
     ap outgoing_file (sendings_more settings no_progress packets next)
     ∙ file_more (imported settings packets) (sendings_of settings (progress_behind settings no_progress packets) next)
 
+-- One more packet was read, and its records were written.
 pub imported_more : (settings : ImportSettings) (state new : CaptureState) (packets : List CapturedPacket) (next : CapturedPacket)
     (octets : List ℕ) (a b c d e f : Option (List ℕ)) → AreImported settings state packets a b d e
     → AreRead state octets new (next ∷ []) → Consumes b c octets → AreSendings (imported settings (packets ++ next ∷ []))
@@ -145,6 +149,7 @@ imported_more settings state new packets next octets a b c d e f before read too
   written = subst (Appends d f) (sym (written_more settings packets next)) (Appends-trans d e f _ _ before.written put);
 }
 
+-- One more packet was read, and its records were torn.
 pub imported_torn : (settings : ImportSettings) (state new : CaptureState) (packets : List CapturedPacket) (next : CapturedPacket)
     (octets : List ℕ) (a b c d e f : Option (List ℕ)) → AreImported settings state packets a b d e
     → AreRead state octets new (next ∷ []) → Consumes b c octets → AreSendings (imported settings (packets ++ next ∷ []))

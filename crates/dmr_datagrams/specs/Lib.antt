@@ -1,3 +1,4 @@
+pub mod CountTexts
 pub mod Ends
 pub mod Exports
 pub mod Halts

@@ -1,5 +1,6 @@
 //! How carrying datagrams ended.
-ghost use Rattle.std.specs.Prelude.{◌≤◌};
+ghost use Rattle.std.specs.Prelude.{◌≤◌, Some};
+ghost use Rattle.dmr_datagrams.specs.CountTexts.{exported_datagrams_text, imported_datagrams_text};
 
 use dmr_capture::CaptureFault;
 use dmr_recording::FaultLine;
@@ -15,6 +16,8 @@ pub struct ExportedDatagrams {
 }
 
 impl fmt::Display for ExportedDatagrams {
+    ghost output = { λ exported. Some (exported_datagrams_text exported) };
+
     /// `records 3 written 2 left-out 1`
     fn fmt<W: fmt::Write>(&self, f: &mut fmt::Formatter<W>) -> fmt::Result {
         let ExportedDatagrams { records, written } = *self;
@@ -44,6 +47,8 @@ pub struct ImportedDatagrams {
 }
 
 impl fmt::Display for ImportedDatagrams {
+    ghost output = { λ imported. Some (imported_datagrams_text imported) };
+
     /// `records 2 other 0`
     fn fmt<W: fmt::Write>(&self, f: &mut fmt::Formatter<W>) -> fmt::Result {
         let ImportedDatagrams { records, other } = *self;

@@ -1,4 +1,6 @@
 //! What is counted of a capture, and how importing one ended.
+ghost use Rattle.std.specs.Prelude.{Some};
+ghost use Rattle.dmr_dmrd.specs.CountTexts.{imported_bursts_text};
 
 use dmr_capture::CaptureFault;
 use std::fmt;
@@ -21,6 +23,8 @@ pub struct ImportedBursts {
 }
 
 impl fmt::Display for ImportedBursts {
+    ghost output = { λ imported. Some (imported_bursts_text imported) };
+
     /// `frames 20 slot-1 18 slot-2 0 lost 2 late 0 other 0`
     fn fmt<W: fmt::Write>(&self, f: &mut fmt::Formatter<W>) -> fmt::Result {
         let ImportedBursts {

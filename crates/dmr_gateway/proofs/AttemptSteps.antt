@@ -36,6 +36,7 @@ begun_at Ready h owing = begun_answer owing
 begun_at (Begun first) h owing = Some (try_of h first)
 begun_at (Awaits ended) h owing = begun_answer owing
 
+-- the answer or the try that has begun; an answer that begins goes first
 abbrev pub begun_by : Option Hand → Option Owing → Option Attempt
 begun_by None owing = begun_answer owing
 begun_by (Some h) owing = begun_at h.stage h owing

@@ -447,6 +447,7 @@ queued_somehow llid confirmed full count octets none small =
 pub burst_is_heard : (burst : Option Burst) → (h : Heard) × IsHeardByGateway burst h
 burst_is_heard burst = let (h, hearing) = hears_somehow burst in (h, hearing.is)
 
+-- A datagram that nothing refuses has a packet.
 pub datagram_is_sent : (llid : ℕ) (confirmed full : Bool) (octets : List ℕ)
     → offer_fault confirmed full (length octets) octets ≡ None → All (λ octet. octet < 256) octets
     → (q : Queued) × IsPacketFor llid confirmed full octets q

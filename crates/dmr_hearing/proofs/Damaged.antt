@@ -73,6 +73,7 @@ module _ (colour : ℕ) (bits : List Bool) (heard : Heard) (long : length bits �
   burst_heard ForeignData sends damaged = (no_own_data damaged, no_voice damaged.sync)
   burst_heard CutOff sends damaged = (no_sync_no_data damaged, no_sync_no_voice damaged)
 
+-- What is recorded within the limits and heard by its fields is heard as what was sent.
 pub recorded_is_heard : (colour : ℕ) (slot : Option (List ℕ)) (sent : SentSlot) (heard : Heard) → IsRecordedAs colour sent slot
     → Hears colour slot heard → IsHeardAs sent heard
 recorded_is_heard colour None sent heard recorded hears =

@@ -27,6 +27,7 @@ same_some a b e = cc
 same_ok : (a b : FullLc) → ◌≡◌ {A = Result FullLc LcFault} (Ok a) (Ok b) → a ≡ b
 same_ok a b e = cc
 
+-- Data bursts with equal parts are equal.
 pub data_burst_by : (k k' : ℕ) (i i' : List Bool) (l l' : Option FullLc) → k ≡ k' → i ≡ i' → l ≡ l'
     → ◌≡◌ {A = Option DataBurst} (Some (record { kind = k; information = i; link_control = l }))
     (Some (record { kind = k'; information = i'; link_control = l' }))

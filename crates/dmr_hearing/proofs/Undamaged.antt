@@ -36,6 +36,7 @@ payload_undamaged (LinkControl lc_use) information lc received same sends =
 payload_undamaged Raw information lc received same sends = same
 payload_undamaged Nothing information lc received same sends = absurd sends
 
+-- The encoding of a data burst records it, undamaged.
 pub data_recorded : (colour kind : ℕ) (information : List Bool) (lc : Option FullLc) (octets : List ℕ)
     → IsSentSlot colour (Data kind information lc)
     → IsEncoding (burst.Data colour kind information) Ms (bits_of_octets octets)

@@ -8,6 +8,7 @@ use Rattle.dmr_listing.specs.Lines.{IsCachAccessType, IsLine, SlotPast, after_bu
 use Rattle.dmr_recording.specs.Recordings.{IsSlotOf, ShowsSlotFaultOf, RecordedSlot, spelling}
 use Rattle.dmr_listing.specs.Summaries.{counted_line, none_counted}
 use Rattle.dmr_listing.specs.declared.burst_line.BurstLine.{BurstLine}
+use Rattle.dmr_listing.specs.declared.listed_burst.ListedBurst.{ListedBurst}
 use Rattle.dmr_recording.specs.declared.fault_line.FaultLine.{FaultLine}
 use Rattle.dmr_recording.specs.declared.recording.RecordedBurst.{RecordedBurst}
 use Rattle.dmr_recording.specs.declared.recording.Recording.{Recording}
@@ -51,6 +52,13 @@ Lists turn (None ∷ slots) lines end = Lists (turn_passed turn) slots lines end
 Lists turn (Some burst ∷ slots) [] end = ⊥
 Lists turn (Some burst ∷ slots) (line ∷ lines) end = IsLineAt turn burst line × Lists (turn_after line burst turn) slots lines end
 
+-- the bursts of slots with their lines, in order
+abbrev pub listed_bursts : List RecordedSlot → List BurstLine → List ListedBurst
+listed_bursts [] lines = []
+listed_bursts (None ∷ slots) lines = listed_bursts slots lines
+listed_bursts (Some burst ∷ slots) [] = []
+listed_bursts (Some burst ∷ slots) (line ∷ lines) = record { burst = burst; line = line } ∷ listed_bursts slots lines
+
 -- These were given to a taker in turn, each once: what it makes of one is how it stands behind that.
 abbrev pub GivenInTurn : {S X : Type 0} → (S → X → S → Type 0) → S → List X → S → Type 0
 GivenInTurn Takes old [] new = new ≡ old
@@ -81,24 +89,24 @@ pub record IsReadUpToFault (recording : Recording) (slots : List RecordedSlot) (
   pub octet : fault.octet ≡ octet_behind (spelling recording) slots
   pub place : fault.place ≡ Some (place_by_number (length slots))
 
--- These slots of a recording were read behind its head, and these octets of the next one, and a taker was given the lines of the
--- slots.
-pub record IsListed {L : Type 0} (Takes : L → BurstLine → L → Type 0) (recording : Recording) (slots : List RecordedSlot)
+-- These slots of a recording were read behind its head, and these octets of the next one, and a taker was given the bursts of the
+-- slots with their lines.
+pub record IsListed {L : Type 0} (Takes : L → ListedBurst → L → Type 0) (recording : Recording) (slots : List RecordedSlot)
     (part : List ℕ) (end : ListingTurn) (left_old left_new : Option (List ℕ)) (old new : L) : Type 0 where
   pub lines : List BurstLine
   pub read : IsRead recording slots lines part end left_old left_new
-  pub given : GivenInTurn Takes old lines new
+  pub given : GivenInTurn Takes old (listed_bursts slots lines) new
 
--- The recording was read up to a slot that shows this fault, and a taker was given the lines of the slots before it.
-pub record IsListedUpToFault {L : Type 0} (Takes : L → BurstLine → L → Type 0) (recording : Recording) (fault : FaultLine)
+-- The recording was read up to a slot that shows this fault, and a taker was given the bursts before it with their lines.
+pub record IsListedUpToFault {L : Type 0} (Takes : L → ListedBurst → L → Type 0) (recording : Recording) (fault : FaultLine)
     (left_old left_new : Option (List ℕ)) (old new : L) : Type 0 where
   pub slots : List RecordedSlot
   pub lines : List BurstLine
   pub read : IsReadUpToFault recording slots lines fault left_old left_new
-  pub given : GivenInTurn Takes old lines new
+  pub given : GivenInTurn Takes old (listed_bursts slots lines) new
 
--- The recording was read up to a burst whose line a taker refused, behind the lines of the slots before it.
-pub record IsListedUpToLine {L : Type 0} (Takes Refuses : L → BurstLine → L → Type 0) (recording : Recording)
+-- The recording was read up to a burst that a taker refused with its line, behind the bursts before it with their lines.
+pub record IsListedUpToLine {L : Type 0} (Takes Refuses : L → ListedBurst → L → Type 0) (recording : Recording)
     (left_old left_new : Option (List ℕ)) (old new : L) : Type 0 where
   pub slots : List RecordedSlot
   pub lines : List BurstLine
@@ -107,4 +115,4 @@ pub record IsListedUpToLine {L : Type 0} (Takes Refuses : L → BurstLine → L 
   pub read : IsRead recording slots lines (spelling recording (Some burst)) end left_old left_new
   pub line : BurstLine
   pub next : IsLineAt end burst line
-  pub given : IsRefusedBehind Takes Refuses old lines line new
+  pub given : IsRefusedBehind Takes Refuses old (listed_bursts slots lines) (record { burst = burst; line = line }) new

@@ -10,7 +10,7 @@
 //! counts line by line.
 //!
 //! `list_recording`, `list_outgoing` and `list_received` go through a whole file behind its head, and give the lines one by one to
-//! whoever takes them (`BurstLines`, `OutgoingLines`, `ReceivedLines`), in constant memory.
+//! whoever takes them (`Taker` of `ListedBurst`, `Outgoing` or `ReceivedRecord`), in constant memory.
 //!
 //! `strip_recording` gives the picture of a recording in place of its lines: a `Strip` has a `Mark` for each slot of 50 `Frames`,
 //! and prints a line for each slot (`StripLine`). The marks are those of the lines that the listing has.
@@ -44,6 +44,7 @@ mod fragments;
 mod frames;
 pub mod laws;
 mod link_control;
+mod listed_burst;
 mod listing;
 mod mark;
 mod outgoing_listing;
@@ -54,6 +55,7 @@ mod slot_view;
 mod strip;
 mod strips;
 mod summary;
+mod taker;
 mod voice_place;
 mod way;
 mod wrong;
@@ -65,16 +67,18 @@ pub use counted::Counted;
 pub use digits::Digits;
 pub use frames::Frames;
 pub use link_control::LinkControlName;
-pub use listing::{BurstLines, list_recording};
+pub use listed_burst::ListedBurst;
+pub use listing::list_recording;
 pub use mark::Mark;
-pub use outgoing_listing::{OutgoingLines, list_outgoing};
-pub use received_listing::{ReceivedLines, list_received};
+pub use outgoing_listing::list_outgoing;
+pub use received_listing::{ReceivedRecord, list_received};
 pub use record_line::{OutgoingLine, ReceivedLine, ReceivedText};
 pub use recording_view::RecordingView;
 pub use slot_view::SlotView;
 pub use strip::{Strip, StripLine};
-pub use strips::{StripLines, strip_recording};
+pub use strips::strip_recording;
 pub use summary::{BurstCounts, RecordingSummary};
+pub use taker::Taker;
 pub use voice_place::{VoicePlace, VoicePlaces};
 pub use way::Way;
 pub use wrong::Wrong;

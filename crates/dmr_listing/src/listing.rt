@@ -1,47 +1,23 @@
 //! A listing of a whole recording.
-ghost use Rattle.std.specs.Prelude.{◌≡◌, ◌*◌, [], ℕ, List, Bool, false, true, length, IfOk, IfErr, OnOk, OnErr};
+ghost use Rattle.std.specs.Prelude.{◌≡◌, ◌*◌, [], List, false, true, length, IfOk, IfErr, OnOk};
 ghost use Rattle.std.specs.Io.KnownBytes.{IsAtEnd};
-ghost use Rattle.dmr_record.specs.Devices.{failed_after};
 ghost use Rattle.dmr_record.specs.Faults.{is_of_end, is_device_fault};
 ghost use Rattle.dmr_recording.specs.Endings.{IfFile, IfNotWritten};
 ghost use Rattle.dmr_listing.specs.ListingRules.{IsListed, IsListedUpToFault, IsListedUpToLine, ListingTurn};
 ghost use Rattle.dmr_recording.specs.Recordings.{RecordedSlot};
-ghost use Rattle.dmr_listing.specs.declared.burst_line.BurstLine.{BurstLine as Line};
 
-use crate::burst_line::BurstLine;
+use crate::listed_burst::ListedBurst;
 use crate::recording_view::RecordingView;
 use crate::summary::RecordingSummary;
-use dmr_record::{DeviceFault, Source};
+use crate::taker::Taker;
+use dmr_record::{NextSlot, Source};
 use dmr_recording::{
-    FaultLine, HEAD_OCTETS, Place, RecordedBurst, Recording, Stop, read_recording, record_octets,
+    FaultLine, HEAD_OCTETS, Place, Recording, Stop, read_recording, record_octets,
 };
-
-/// Where the lines of a recording go.
-pub trait BurstLines {
-    /// What it makes of a line that it takes: how it was before, the line, and how it is after.
-    ghost Takes: { Self → Line → Self → Type 0 };
-
-    /// What becomes of it where it refuses a line: how it was before, the line, and how it is after.
-    ghost Refuses: { Self → Line → Self → Type 0 };
-
-    /// Whether it has failed.
-    ghost has_failed: { Self → Bool };
-
-    /// What no line changes of it, such as the name of a sink that it holds and prints to.
-    ghost kept: { Self → ℕ };
-
-    /// Takes the line of a burst. At an `Err` it didn't, and has failed from then on.
-    fn put(&mut self, burst: &RecordedBurst, line: &BurstLine) -> Result<(), DeviceFault>
-        requires well { has_failed self.old ≡ false }
-        ensures line { OnOk result (Takes self.old line.now self.new) }
-        ensures none { OnErr result (Refuses self.old line.now self.new) }
-        ensures failure { has_failed self.new ≡ failed_after (has_failed self.old) result }
-        ensures kept { kept self.new ≡ kept self.old };
-}
 
 /// Gives the line of each burst of a recording, in their order, as far as the recording can be read. The source stands behind the
 /// head. A fault tells the slot that shows it, and the octet at which its record begins.
-pub fn list_recording<S: Source, L: BurstLines>(
+pub fn list_recording<S: Source, L: Taker<ListedBurst>>(
     source: &mut S,
     recording: Recording,
     lines: &mut L,
@@ -71,8 +47,8 @@ pub fn list_recording<S: Source, L: BurstLines>(
     let mut octet = HEAD_OCTETS;
     loop {
         let slot = match read_recording(source, recording, view.slots()) {
-            Ok(Some(slot)) => slot,
-            Ok(None) => {
+            Ok(NextSlot::Slot(slot)) => slot,
+            Ok(NextSlot::End) => {
                 let frames = view.slots() / 2;
                 let bursts = view.bursts();
                 return Ok(RecordingSummary { frames, bursts });
@@ -91,7 +67,7 @@ pub fn list_recording<S: Source, L: BurstLines>(
             None => view.pass(),
             Some(burst) => {
                 let line = view.line(&burst);
-                if lines.put(&burst, &line).is_err() {
+                if lines.put(&ListedBurst { burst, line }).is_err() {
                     return Err(Stop::Output);
                 }
             }

@@ -1,45 +1,21 @@
 //! A listing of a whole outgoing list.
-ghost use Rattle.std.specs.Prelude.{◌≡◌, [], ℕ, List, Bool, false, true, length, IfOk, IfErr, OnOk, OnErr};
+ghost use Rattle.std.specs.Prelude.{◌≡◌, [], List, false, true, length, IfOk, IfErr, OnOk};
 ghost use Rattle.std.specs.Io.KnownBytes.{IsAtEnd};
-ghost use Rattle.dmr_record.specs.Devices.{failed_after};
 ghost use Rattle.dmr_record.specs.Faults.{is_of_end, is_device_fault};
 ghost use Rattle.dmr_record.specs.Outgoing.{Sending};
-ghost use Rattle.dmr_record.specs.declared.outgoing.Outgoing.{Outgoing as OutgoingRecord};
 ghost use Rattle.dmr_recording.specs.Endings.{IfFile, IfNotWritten};
 ghost use Rattle.dmr_listing.specs.OutgoingListings.{AreSendingsListed, AreSendingsListedUpToFault, AreSendingsListedUpToLine};
 
-use dmr_record::{DeviceFault, Outgoing, Source, read_outgoing};
+use crate::taker::Taker;
+use dmr_record::{Outgoing, Source, read_outgoing};
 use dmr_recording::{FaultLine, HEAD_OCTETS, Stop};
-
-/// Where the lines of an outgoing list go.
-pub trait OutgoingLines {
-    /// What it makes of a record that it takes: how it was before, the record, and how it is after.
-    ghost Takes: { Self → OutgoingRecord → Self → Type 0 };
-
-    /// What becomes of it where it refuses a record: how it was before, the record, and how it is after.
-    ghost Refuses: { Self → OutgoingRecord → Self → Type 0 };
-
-    /// Whether it has failed.
-    ghost has_failed: { Self → Bool };
-
-    /// What no line changes of it, such as the name of a sink that it holds and prints to.
-    ghost kept: { Self → ℕ };
-
-    /// Takes the line of a record. At an `Err` it didn't, and has failed from then on.
-    fn put(&mut self, outgoing: &Outgoing) -> Result<(), DeviceFault>
-        requires well { has_failed self.old ≡ false }
-        ensures line { OnOk result (Takes self.old outgoing.now self.new) }
-        ensures none { OnErr result (Refuses self.old outgoing.now self.new) }
-        ensures failure { has_failed self.new ≡ failed_after (has_failed self.old) result }
-        ensures kept { kept self.new ≡ kept self.old };
-}
 
 /// How many octets stand in a record before its datagram.
 const FIELD_OCTETS: u64 = 9;
 
 /// Gives the line of each record of an outgoing list, in their order, as far as the list can be read, and answers how many there
 /// are. The source stands behind the head. A fault tells the octet at which its record begins.
-pub fn list_outgoing<S: Source, L: OutgoingLines>(
+pub fn list_outgoing<S: Source, L: Taker<Outgoing>>(
     source: &mut S,
     lines: &mut L,
 ) -> Result<u32, Stop>

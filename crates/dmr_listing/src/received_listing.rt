@@ -1,36 +1,44 @@
 //! A listing of a whole received list.
-ghost use Rattle.std.specs.Prelude.{◌≡◌, ◌≤◌, [], ℕ, List, Bool, false, true, length, IfOk, IfErr, OnOk, OnErr};
+ghost use Rattle.std.specs.Prelude.{◌≡◌, ◌≤◌, [], List, false, true, length, take, IfOk, IfErr, OnOk};
 ghost use Rattle.std.specs.Io.KnownBytes.{IsAtEnd};
-ghost use Rattle.dmr_record.specs.Devices.{failed_after};
 ghost use Rattle.dmr_record.specs.Faults.{is_of_end, is_device_fault};
 ghost use Rattle.dmr_record.specs.Received.{Receipt, receipt_of};
 ghost use Rattle.dmr_recording.specs.Endings.{IfFile, IfNotWritten};
 ghost use Rattle.dmr_listing.specs.ReceivedListings.{AreReceiptsListed, AreReceiptsListedUpToFault, AreReceiptsListedUpToLine};
 
-use dmr_record::{DeviceFault, Received, Source, read_received};
+use crate::record_line::ReceivedLine;
+use crate::taker::Taker;
+use dmr_record::{Received, Source, read_received};
 use dmr_recording::{FaultLine, HEAD_OCTETS, Stop};
+use std::marker::Model;
 
-/// Where the lines of a received list go.
-pub trait ReceivedLines {
-    /// What it makes of a record that it takes: how it was before, the record, and how it is after.
-    ghost Takes: { Self → Receipt → Self → Type 0 };
+/// A record of a received list in the room into which it was read.
+#[derive(Drop)]
+pub struct ReceivedRecord<'r> {
+    received: Received,
+    /// Its octets stand in front.
+    room: &'r mut [u8],
+}
 
-    /// What becomes of it where it refuses a record: how it was before, the record, and how it is after.
-    ghost Refuses: { Self → Receipt → Self → Type 0 };
+impl<'r> Model for ReceivedRecord<'r> {
+    ghost Value = { Receipt };
 
-    /// Whether it has failed.
-    ghost has_failed: { Self → Bool };
+    ghost view = { λ r. receipt_of r.received (take r.received.length r.room.now) };
 
-    /// What no line changes of it, such as the name of a sink that it holds and prints to.
-    ghost kept: { Self → ℕ };
+    ghost invariant = { λ r. r.received.length ≤ length r.room.now };
+}
 
-    /// Takes the line of a record with these octets. At an `Err` it didn't, and has failed from then on.
-    fn put(&mut self, received: Received, octets: &[u8]) -> Result<(), DeviceFault>
-        requires well { has_failed self.old ≡ false }
-        ensures line { OnOk result (Takes self.old (receipt_of received octets.now) self.new) }
-        ensures none { OnErr result (Refuses self.old (receipt_of received octets.now) self.new) }
-        ensures failure { has_failed self.new ≡ failed_after (has_failed self.old) result }
-        ensures kept { kept self.new ≡ kept self.old };
+impl ReceivedRecord<'_> {
+    /// Its line.
+    pub fn line(&self) -> ReceivedLine<'_>
+        ensures value { receipt_of result.record result.octets.now ≡ self.now }
+        ensures length { length result.octets.now ≡ result.record.length }
+    {
+        ReceivedLine {
+            record: self.received,
+            octets: &self.room[..self.received.length as usize],
+        }
+    }
 }
 
 /// How many octets stand in a record before those that came.
@@ -39,9 +47,9 @@ const FIELD_OCTETS: u64 = 12;
 /// Gives the line of each record of a received list, in their order, as far as the list can be read, and answers how many there
 /// are. The source stands behind the head. `room` takes the octets of a record, and may hold anything. A fault tells the octet at
 /// which its record begins.
-pub fn list_received<S: Source, L: ReceivedLines>(
+pub fn list_received<'r, S: Source, L: Taker<ReceivedRecord<'r>>>(
     source: &mut S,
-    room: &mut [u8],
+    mut room: &'r mut [u8],
     lines: &mut L,
 ) -> Result<u32, Stop>
     requires source { S.has_failed source.old ≡ false }
@@ -81,12 +89,12 @@ pub fn list_received<S: Source, L: ReceivedLines>(
                 }));
             }
         };
-        if lines
-            .put(received, &room[..received.length as usize])
-            .is_err()
-        {
+        let record = ReceivedRecord { received, room };
+        if lines.put(&record).is_err() {
             return Err(Stop::Output);
         }
+        // The next one is read into the same room.
+        ReceivedRecord { room, .. } = record;
         count += 1;
         last = Some(received);
         octet += FIELD_OCTETS + u64::from(received.length);

@@ -1,5 +1,5 @@
 //! The strips of a whole recording.
-ghost use Rattle.std.specs.Prelude.{◌≡◌, ◌*◌, ◌<◌, [], ℕ, List, Bool, false, true, length};
+ghost use Rattle.std.specs.Prelude.{◌≡◌, ◌*◌, ◌<◌, [], List, false, true, length};
 ghost use Rattle.std.specs.Prelude.{IfOk, IfErr, OnOk, OnErr};
 ghost use Rattle.std.specs.Io.KnownBytes.{IsAtEnd};
 ghost use Rattle.dmr_record.specs.Devices.{failed_after};
@@ -8,43 +8,21 @@ ghost use Rattle.dmr_recording.specs.Endings.{IfFile, IfNotWritten};
 ghost use Rattle.dmr_listing.specs.ListingRules.{GivenInTurn, ListingTurn};
 ghost use Rattle.dmr_recording.specs.Recordings.{RecordedSlot};
 ghost use Rattle.dmr_listing.specs.Strips.{IsGivenWhereFull, IsStripped, IsStrippedUpToFault, IsStrippedUpToStrip};
-ghost use Rattle.dmr_listing.specs.Strips.{Picture, pushed_in, unless_empty};
+ghost use Rattle.dmr_listing.specs.Strips.{pushed_in, unless_empty};
 
 use crate::frames::Frames;
 use crate::mark::Mark;
 use crate::recording_view::RecordingView;
 use crate::strip::Strip;
 use crate::summary::RecordingSummary;
-use dmr_record::{DeviceFault, Source};
+use crate::taker::Taker;
+use dmr_record::{DeviceFault, NextSlot, Source};
 use dmr_recording::{
     FaultLine, HEAD_OCTETS, Place, Recording, Stop, read_recording, record_octets,
 };
 
-/// Where the strips of a recording go.
-pub trait StripLines {
-    /// What it makes of a strip that it takes: how it was before, the strip, and how it is after.
-    ghost Takes: { Self → Picture → Self → Type 0 };
-
-    /// What becomes of it where it refuses a strip: how it was before, the strip, and how it is after.
-    ghost Refuses: { Self → Picture → Self → Type 0 };
-
-    /// Whether it has failed.
-    ghost has_failed: { Self → Bool };
-
-    /// What no strip changes of it, such as the name of a sink that it holds and prints to.
-    ghost kept: { Self → ℕ };
-
-    /// Takes a strip. At an `Err` it didn't, and has failed from then on.
-    fn put_strip(&mut self, strip: &Strip) -> Result<(), DeviceFault>
-        requires well { has_failed self.old ≡ false }
-        ensures strip { OnOk result (Takes self.old strip.now self.new) }
-        ensures none { OnErr result (Refuses self.old strip.now self.new) }
-        ensures failure { has_failed self.new ≡ failed_after (has_failed self.old) result }
-        ensures kept { kept self.new ≡ kept self.old };
-}
-
 /// Adds the mark of a slot to a strip, where its frame is asked for. A strip that is full then is given, and begun anew.
-fn add<L: StripLines>(
+fn add<L: Taker<Strip>>(
     strip: &mut Strip,
     frames: Frames,
     place: Place,
@@ -68,13 +46,13 @@ fn add<L: StripLines>(
     if !strip.is_full() {
         return Ok(());
     }
-    lines.put_strip(strip)?;
+    lines.put(strip)?;
     *strip = Strip::new();
     Ok(())
 }
 
 /// Gives the strip of the last marks, unless there are none.
-fn put_rest<L: StripLines>(strip: &Strip, lines: &mut L) -> Result<(), DeviceFault>
+fn put_rest<L: Taker<Strip>>(strip: &Strip, lines: &mut L) -> Result<(), DeviceFault>
     requires well { L.has_failed lines.old ≡ false }
     ensures given { OnOk result (GivenInTurn L.Takes lines.old (unless_empty strip.now) lines.new) }
     ensures none { OnErr result ((0 < length strip.now.marks) × L.Refuses lines.old strip.now lines.new) }
@@ -84,12 +62,12 @@ fn put_rest<L: StripLines>(strip: &Strip, lines: &mut L) -> Result<(), DeviceFau
     if strip.is_empty() {
         return Ok(());
     }
-    lines.put_strip(strip)
+    lines.put(strip)
 }
 
 /// Gives the strips of a recording, in their order, as far as the recording can be read: what stands in both slots of each of these
 /// frames. The source stands behind the head. A fault tells the slot that shows it, and the octet at which its record begins.
-pub fn strip_recording<S: Source, L: StripLines>(
+pub fn strip_recording<S: Source, L: Taker<Strip>>(
     source: &mut S,
     recording: Recording,
     frames: Frames,
@@ -121,8 +99,8 @@ pub fn strip_recording<S: Source, L: StripLines>(
     let mut octet = HEAD_OCTETS;
     loop {
         let slot = match read_recording(source, recording, view.slots()) {
-            Ok(Some(slot)) => slot,
-            Ok(None) => {
+            Ok(NextSlot::Slot(slot)) => slot,
+            Ok(NextSlot::End) => {
                 if put_rest(&strip, lines).is_err() {
                     return Err(Stop::Output);
                 }

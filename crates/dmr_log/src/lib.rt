@@ -4,7 +4,7 @@
 //! dmr_listing, which tells how many bits are wrong. From both comes what the frame repeats (`Repeated`), and with that the open
 //! transmission goes on or ends (`Transmission`, `Ended`). A `Log` may have a gateway too. Then it gives the records that the
 //! gateway receives. `log_recording` goes through a whole recording, and gives what ends in each frame to whoever takes it
-//! (`LogLines`), in constant memory.
+//! (`Taker` of dmr_listing), in constant memory.
 //!
 //! Contracts cite `specs/Repeated.antt` for what a frame repeats, and `specs/Transmissions.antt` for which frames are one
 //! transmission and what is told of it. `specs/SlotTracks.antt` has what a slot remembers, and `specs/LogRules.antt` both slots,
@@ -26,7 +26,7 @@ pub use arrived::Came;
 pub use checks::Checks;
 pub use ear::FrameReceived;
 pub use log::{FrameTold, Log, LogCounts};
-pub use recording_log::{LogLines, LogSummary, log_recording};
+pub use recording_log::{LogSummary, log_recording};
 pub use repeated::{ControlKind, PacketHead, Repeated};
 pub use slot_log::SlotTold;
 pub use transmission::{Call, CallStage, Ended, EndedBy, Packet, Span, Subject, Transmission};

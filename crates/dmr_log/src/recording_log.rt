@@ -1,45 +1,23 @@
 //! The log of a whole recording.
-ghost use Rattle.std.specs.Prelude.{◌≡◌, ◌≤◌, ◌<◌, ◌+◌, ◌*◌, ℕ, Bool, false, true, length};
-ghost use Rattle.std.specs.Prelude.{◌⊎◌, [], IfOk, IfErr, OnOk, OnErr, IfSome, IfNone, ◌%◌, ◌^◌};
+ghost use Rattle.std.specs.Prelude.{◌≡◌, ◌≤◌, ◌<◌, ◌+◌, ◌*◌, ℕ, false, true, length};
+ghost use Rattle.std.specs.Prelude.{◌⊎◌, [], IfOk, IfErr, OnOk, OnErr, ◌%◌, ◌^◌};
 ghost use Rattle.std.specs.Io.KnownBytes.{Consumes, IsAtEnd};
 ghost use Rattle.dmr_log.specs.LogRules as spec;
 ghost use Rattle.dmr_log.specs.RecordingLogs.{AreFramesTaken, IsFaultOfSlot, IsLoggedUpToFault, IsRefusedIn};
 ghost use Rattle.dmr_log.specs.RecordingLogs.{IsRefusedInRest, IsRestTold, RecordedFrames, silent_frames};
-ghost use Rattle.dmr_log.specs.declared.log.FrameTold.{FrameTold as Told};
 ghost use Rattle.dmr_log.specs.declared.log.LogState.{LogState as State};
 ghost use Rattle.dmr_record.specs.Devices.{failed_after};
 ghost use Rattle.dmr_record.specs.Faults.{is_device_fault};
+ghost use Rattle.dmr_record.specs.NextSlot.{IfNoSlot, IfSlot};
 ghost use Rattle.dmr_recording.specs.Endings.{IfFile, IfNotWritten};
 ghost use Rattle.dmr_recording.specs.Recordings.{IsSlotOf, slot_limit_of, spelling};
 
 use crate::log::{FrameTold, Log, LogCounts};
-use dmr_record::{DeviceFault, Source};
+use dmr_listing::Taker;
+use dmr_record::{DeviceFault, NextSlot, Source};
 use dmr_recording::{
     FaultLine, HEAD_OCTETS, Place, RecordedBurst, Recording, Stop, read_recording, record_octets,
 };
-
-/// Where a log goes.
-pub trait LogLines {
-    /// What it makes of a frame of which it is told: how it was before, the frame, and how it is after.
-    ghost Takes: { Self → Told → Self → Type 0 };
-
-    /// What becomes of it where it refuses what is told of a frame: how it was before, the frame, and how it is after.
-    ghost Refuses: { Self → Told → Self → Type 0 };
-
-    /// Whether it has failed.
-    ghost has_failed: { Self → Bool };
-
-    /// What no frame changes of it, such as the name of a sink that it holds and prints to.
-    ghost kept: { Self → ℕ };
-
-    /// Takes what is told of a frame. At an `Err` it didn't, and has failed from then on.
-    fn put(&mut self, told: &FrameTold) -> Result<(), DeviceFault>
-        requires well { has_failed self.old ≡ false }
-        ensures told { OnOk result (Takes self.old told.now self.new) }
-        ensures none { OnErr result (Refuses self.old told.now self.new) }
-        ensures failure { has_failed self.new ≡ failed_after (has_failed self.old) result }
-        ensures kept { kept self.new ≡ kept self.old };
-}
 
 /// What a log ends with.
 #[derive(Clone, Copy, Debug, PartialEq, Eq, Drop)]
@@ -57,21 +35,21 @@ pub(crate) struct ReadAt {
     pub(crate) octet: u64,
 }
 
-/// Reads the next slot of an uplink. It answers `None` at the end of the source, behind whole frames, and a fault with the slot
+/// Reads the next slot of an uplink. It answers `End` at the end of the source, behind whole frames, and a fault with the slot
 /// that shows it.
 fn next_slot<S: Source>(
     source: &mut S,
     at: &mut ReadAt,
-) -> Result<Option<Option<RecordedBurst>>, FaultLine>
+) -> Result<NextSlot<RecordedBurst>, FaultLine>
     requires well { S.has_failed source.old ≡ false }
     requires few { at.old.slots ≤ slot_limit_of Recording.Uplink }
     requires room { at.old.octet ≤ 8 + 37 * at.old.slots }
-    ensures slot { IfOk result (λ found. IfSome found (λ slot. (at.old.slots < slot_limit_of Recording.Uplink)
+    ensures slot { IfOk result (λ found. IfSlot found (λ slot. (at.old.slots < slot_limit_of Recording.Uplink)
         × IsSlotOf Recording.Uplink slot × Consumes (S.left source.old) (S.left source.new) (spelling Recording.Uplink slot)
         × (at.new.slots ≡ at.old.slots + 1)
         × (at.new.octet ≡ at.old.octet + length (spelling Recording.Uplink slot)))) }
-    ensures room { IfOk result (λ found. IfSome found (λ slot. at.new.octet ≤ 8 + 37 * at.new.slots)) }
-    ensures end { IfOk result (λ found. IfNone found ((at.old.slots % 2 ≡ 0)
+    ensures room { IfOk result (λ found. IfSlot found (λ slot. at.new.octet ≤ 8 + 37 * at.new.slots)) }
+    ensures end { IfOk result (λ found. IfNoSlot found ((at.old.slots % 2 ≡ 0)
         × Consumes (S.left source.old) (S.left source.new) [] × IsAtEnd (S.left source.new))) }
     ensures well { OnOk result (S.has_failed source.new ≡ false) }
     ensures fault { IfErr result (λ fault. IsFaultOfSlot at.old fault (S.left source.old) (S.left source.new)) }
@@ -79,14 +57,14 @@ fn next_slot<S: Source>(
 {
     let ReadAt { slots, octet } = *at;
     match read_recording(source, Recording::Uplink, slots) {
-        Ok(Some(slot)) => {
+        Ok(NextSlot::Slot(slot)) => {
             *at = ReadAt {
                 slots: slots + 1,
                 octet: octet + record_octets(Recording::Uplink, &slot),
             };
-            Ok(Some(slot))
+            Ok(NextSlot::Slot(slot))
         }
-        Ok(None) => Ok(None),
+        Ok(NextSlot::End) => Ok(NextSlot::End),
         Err(fault) => Err(FaultLine {
             fault,
             octet,
@@ -106,7 +84,7 @@ fn burst_of(slot: &Option<RecordedBurst>) -> Option<[u8; 33]>
 }
 
 /// Takes the frames of a recording, and tells of each, as far as the recording can be read.
-fn take_frames<S: Source, L: LogLines>(
+fn take_frames<S: Source, L: Taker<FrameTold>>(
     source: &mut S,
     log: &mut Log,
     lines: &mut L,
@@ -135,14 +113,14 @@ fn take_frames<S: Source, L: LogLines>(
     };
     loop {
         let slot_1 = match next_slot(source, &mut at) {
-            Ok(Some(slot)) => slot,
-            Ok(None) => return Ok(()),
+            Ok(NextSlot::Slot(slot)) => slot,
+            Ok(NextSlot::End) => return Ok(()),
             Err(fault) => return Err(Stop::File(fault)),
         };
         let slot_2 = match next_slot(source, &mut at) {
-            Ok(Some(slot)) => slot,
+            Ok(NextSlot::Slot(slot)) => slot,
             // There is a fault where a recording ends behind slot 1.
-            Ok(None) => return Ok(()),
+            Ok(NextSlot::End) => return Ok(()),
             Err(fault) => return Err(Stop::File(fault)),
         };
         log.pass(&burst_of(&slot_1), &burst_of(&slot_2));
@@ -153,7 +131,7 @@ fn take_frames<S: Source, L: LogLines>(
 }
 
 /// Tells of the last five frames, and of what is open at the end of a recording.
-fn tell_rest<L: LogLines>(log: &mut Log, lines: &mut L) -> Result<(), DeviceFault>
+fn tell_rest<L: Taker<FrameTold>>(log: &mut Log, lines: &mut L) -> Result<(), DeviceFault>
     requires lines { L.has_failed lines.old ≡ false }
     requires few { log.old.taken ≤ 2 ^ 20 }
     ensures told { OnOk result (IsRestTold L.Takes log.old log.new lines.old lines.new) }
@@ -173,7 +151,7 @@ fn tell_rest<L: LogLines>(log: &mut Log, lines: &mut L) -> Result<(), DeviceFaul
 /// Tells of each frame of an uplink recording what ends in front of it, in order, as far as the recording can be read. The source
 /// stands behind the head, and the log is new. A fault tells the slot that shows it, and the octet at which its record begins. Then
 /// all is told of the whole frames before it, as at the end of a recording that has no more.
-pub fn log_recording<S: Source, L: LogLines>(
+pub fn log_recording<S: Source, L: Taker<FrameTold>>(
     source: &mut S,
     log: &mut Log,
     lines: &mut L,

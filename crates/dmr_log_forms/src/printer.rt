@@ -15,7 +15,8 @@ use crate::settings::LogForm;
 use crate::start_time::StartTime;
 use dmr_gateway::Received;
 use dmr_lines::{SUCCESS, line_of, print_line};
-use dmr_log::{Ended, FrameReceived, FrameTold, LogLines};
+use dmr_listing::Taker;
+use dmr_log::{Ended, FrameReceived, FrameTold};
 use dmr_record::{DeviceFault, Sink, put};
 use dmr_recording::Place;
 use dmr_show::Filter;
@@ -271,7 +272,7 @@ pub(crate) struct EntryPrinter<'a, K> {
     pub(crate) text: &'a mut String,
 }
 
-impl<K: Sink> LogLines for EntryPrinter<'_, K> {
+impl<K: Sink> Taker<FrameTold> for EntryPrinter<'_, K> {
     ghost Takes = { λ old told new. (new.printing ≡ old.printing)
         × spec.PutsEntries old.printing.form (spec.shown_of old.printing.filter old.printing.address told)
         (K.held old.sink.now) (K.held new.sink.now) };

@@ -40,6 +40,7 @@ pub record AreFollowedInTwo (current : Option Entry) (n : ℕ) (front rest : Lis
   pub second : AreFollowed going (n + length front) rest after last
   pub all : ended ≡ before ++ after
 
+-- What is followed over a front and a rest is followed in two.
 pub in_two : (current : Option Entry) (n : ℕ) (front rest : List RepeatedFrame) (ended : List Entry) (last : Option Entry)
     → AreFollowed current n (front ++ rest) ended last → AreFollowedInTwo current n front rest ended last
 in_two current n [] rest ended last followed =

@@ -79,6 +79,7 @@ pub record IsPushedBy (track : SlotTrack) (slots : List (Option (List ℕ))) (bu
   pub pushed : ArePushed track.line slots outs after.line
   pub same : bursts ≡ bursts_of_outs outs
 
+-- Slots that were passed were pushed, and gave these bursts.
 pub pushed_by : (track : SlotTrack) (n : ℕ) (slots : List (Option (List ℕ))) (told : List SlotTold) (bursts : List (Option Burst))
     (after : SlotTrack) → ArePassed track n slots told bursts after → IsPushedBy track slots bursts after
 pushed_by track n [] [] [] after same = record { outs = []; pushed = ap (λ (t : SlotTrack). t.line) same; same = refl }
@@ -261,6 +262,7 @@ entries_at_end : (current : Option Transmission) → entries_told (told_at_end (
 entries_at_end None = refl
 entries_at_end (Some t) = refl
 
+-- As much is told as slots were passed.
 pub passed_long : (track : SlotTrack) (n : ℕ) (slots : List (Option (List ℕ))) (told : List SlotTold) (bursts : List (Option Burst))
     (after : SlotTrack) → ArePassed track n slots told bursts after → length told ≡ length slots
 passed_long track n [] [] [] after p = refl

@@ -67,6 +67,7 @@ abbrev pub grown_call : Call → List Repeated → Call
 grown_call c [] = c
 grown_call c (r ∷ rs) = grown_call (call_with c r) rs
 
+-- the entry of a call
 abbrev pub call_entry : Span → Call → Entry
 call_entry span c = record { span = span; subject = subject.Call c }
 
@@ -142,6 +143,7 @@ IsNoCallSubject (subject.Call c) = ⊥
 IsNoCallSubject (subject.Packet p) = Unit {0}
 IsNoCallSubject (subject.Controls k) = Unit {0}
 
+-- There is no entry, or one that is no call.
 abbrev pub IsNoCall : Option Entry → Type 0
 IsNoCall None = Unit {0}
 IsNoCall (Some t) = IsNoCallSubject t.subject
@@ -212,6 +214,7 @@ abbrev pub IsQuiet : List RepeatedFrame → Type 0
 IsQuiet [] = Unit {0}
 IsQuiet (f ∷ fs) = f.0 ≡ repeated.Nothing
 
+-- The first of a list is in it.
 pub first_among : {X : Type 0} (x : X) (xs : List X) → Contains (x ∷ xs) x
 first_among x xs = (0, omega arith, refl)
 
@@ -239,6 +242,7 @@ places_in [] = 0
 places_in (repeated.Place lc is_filled ∷ rs) = 1 + places_in rs
 places_in (r ∷ rs) = places_in rs
 
+-- how many places were filled
 abbrev pub filled_in : List Repeated → ℕ
 filled_in [] = 0
 filled_in (repeated.Place lc is_filled ∷ rs) = cond is_filled 1 0 + filled_in rs

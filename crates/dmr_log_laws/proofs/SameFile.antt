@@ -82,6 +82,7 @@ handed_1 frames uplink same =
     ap (λ (l : List UplinkSlots). slots_in 0 (handed_frames l)) (sym (same_frames frames uplink same))
     ∙ ap (λ (l : List UplinkSlot). None ∷ l) (slots_1 frames)
 
+-- What is handed in slot 2 is what slot 2 recorded, behind one silence and before five.
 pub handed_2 : (frames : RecordedFrames) (uplink : List UplinkSlots) → IsSameFile frames uplink
     → slots_in 1 (handed_frames uplink) ≡ None ∷ (recorded_in_slot_2 frames ++ replicate 5 None)
 handed_2 frames uplink same =

@@ -196,6 +196,7 @@ terminators_shown colour lc information zero = tt
 terminators_shown colour lc information (suc n) =
     (terminator_shown colour lc information, terminators_shown colour lc information n)
 
+-- The end of a call is shown as it is repeated.
 pub ending_shown : (colour : ℕ) (lc : FullLc) (ending : Ending)
     → AreShownAs colour (ending_cells lc ending) (ending_repeats lc ending)
 ending_shown colour lc Silenced = tt
@@ -205,6 +206,7 @@ ending_shown colour lc (Terminated information more) = terminators_shown colour 
 abbrev pub known_behind : Option FullLc → Superframe → Option FullLc
 known_behind call s = option_or call (voice_of (if is_complete 4 (drop 1 s.places) then s.carries else None))
 
+-- what is repeated of the places of superframes
 abbrev pub place_repeats : Option FullLc → List Superframe → List Repeated
 place_repeats call [] = []
 place_repeats call (s ∷ ss) =
@@ -225,6 +227,7 @@ some_places_shown colour carries lc known (p ∷ ps) (y ∷ ys) few =
 abbrev pub AreShort : List Superframe → Type 0
 AreShort ss = AllByRecursion (λ (s : Superframe). length s.places ≤ 6) ss
 
+-- The places of superframes are shown as they are repeated.
 pub places_shown : (colour : ℕ) (call : Option FullLc) (ss : List Superframe) → AreShort ss
     → AreShownAs colour (superframe_cells colour call ss) (place_repeats call ss)
 places_shown colour call [] short = tt

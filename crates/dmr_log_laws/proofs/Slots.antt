@@ -29,6 +29,7 @@ ArePassed track n slots tolds bursts after = ⊥
 
 -- 2. What is counted.
 
+-- Received records change no count of repeated bursts.
 pub records_repeat : (rs : List (Option Received)) (c : LogCounts) → (with_records rs c).repeated ≡ c.repeated
 records_repeat [] c = refl
 records_repeat (r ∷ rs) c = records_repeat rs (with_one r c)
@@ -42,6 +43,7 @@ ended_repeats : (e : Option Ended) (c : LogCounts) → (with_ended e c).repeated
 ended_repeats None c = refl
 ended_repeats (Some e) c = subject_repeats e.transmission.subject c
 
+-- Ends of slots change no count of repeated bursts.
 pub ends_repeat : (a b : SlotTold) (c : LogCounts) → (with_ends a b c).repeated ≡ c.repeated
 ends_repeat a b c = ended_repeats b.ended (with_ended a.ended c) ∙ ended_repeats a.ended c
 

@@ -3,11 +3,12 @@ ghost use Rattle.dmr_log_laws.specs.CallEntries.{CallsAreTold};
 ghost use Rattle.dmr_log_laws.specs.TryEntries.{TriesAreTold};
 ghost use Rattle.dmr_log_laws.specs.WholeLogs.{AgreesWithRuns, EachBurstIsInOneEntry, TellsWholeLogs};
 
-use dmr_log::LogLines;
+use dmr_listing::Taker;
+use dmr_log::FrameTold;
 use dmr_log::laws::{all_bursts_are_told, each_burst_is_in_one};
 
 /// Where `log_recording` has logged a whole recording with a new log, the laws below speak of what it told.
-pub fn whole_recordings_are_told<L: LogLines>()
+pub fn whole_recordings_are_told<L: Taker<FrameTold>>()
     ensures law { TellsWholeLogs L L.Takes }
 {}
 

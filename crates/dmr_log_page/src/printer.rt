@@ -8,7 +8,8 @@ ghost use Rattle.dmr_log_page.specs.Rows.{PutsRow, PutsRows};
 
 use crate::minute::{Minute, MinuteEnd, MinuteHead, begins_minute};
 use crate::row::{TableRow, write_row};
-use dmr_log::{FrameTold, LogLines};
+use dmr_listing::Taker;
+use dmr_log::FrameTold;
 use dmr_log_forms::{LogFault, StartTime};
 use dmr_record::{DeviceFault, Sink, put};
 use std::fmt::{Display, Write};
@@ -163,7 +164,7 @@ impl<K: Sink> PagePrinter<'_, K> {
     }
 }
 
-impl<K: Sink> LogLines for PagePrinter<'_, K> {
+impl<K: Sink> Taker<FrameTold> for PagePrinter<'_, K> {
     ghost Takes = { λ old told new. (new.printing ≡ old.printing)
         × spec.TakesTold old.printing.address
         (record { held = K.held old.sink.now; entries = spec.entries_of old.minute.now.rows.items }) told

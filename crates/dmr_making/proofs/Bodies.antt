@@ -60,6 +60,7 @@ body_length_by p (body.Udp m) false e =
     then 5 + compressed_port_octets m.source_port + compressed_port_octets m.destination_port + length m.data.items
     else 28 + length m.data.items) (sym e)
 
+-- The octets of a packet are as many as its body says.
 pub body_length : (p : PacketTry) → length (packet_octets p) ≡ body_octets p.sap p.body
 body_length p = body_length_by p p.body (p.sap == 3) refl
 

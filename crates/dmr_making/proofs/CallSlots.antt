@@ -148,6 +148,7 @@ pub full_B : (colour frame : ℕ) (pi : Bool) (carried : Option FullLc) (fields 
 full_B colour frame pi carried fields octets b =
     fragment_at colour frame pi carried (get_or fields 0 0) 1 octets B (fragment_of_B carried) b
 
+-- Burst C of a superframe is made.
 pub full_C : (colour frame : ℕ) (pi : Bool) (carried : Option FullLc) (fields octets : List ℕ)
     → IsMobileBurst (burst.Voice (record { colour = colour; pi = pi; lcss = lcss_with carried 3 }) (get_or fields 1 0)
     (vocoder_of_frame frame)) octets
@@ -155,6 +156,7 @@ pub full_C : (colour frame : ℕ) (pi : Bool) (carried : Option FullLc) (fields 
 full_C colour frame pi carried fields octets b =
     fragment_at colour frame pi carried (get_or fields 1 0) 3 octets C (fragment_of_C carried) b
 
+-- Burst D of a superframe is made.
 pub full_D : (colour frame : ℕ) (pi : Bool) (carried : Option FullLc) (fields octets : List ℕ)
     → IsMobileBurst (burst.Voice (record { colour = colour; pi = pi; lcss = lcss_with carried 3 }) (get_or fields 2 0)
     (vocoder_of_frame frame)) octets
@@ -162,6 +164,7 @@ pub full_D : (colour frame : ℕ) (pi : Bool) (carried : Option FullLc) (fields 
 full_D colour frame pi carried fields octets b =
     fragment_at colour frame pi carried (get_or fields 2 0) 3 octets D (fragment_of_D carried) b
 
+-- Burst E of a superframe is made.
 pub full_E : (colour frame : ℕ) (pi : Bool) (carried : Option FullLc) (fields octets : List ℕ)
     → IsMobileBurst (burst.Voice (record { colour = colour; pi = pi; lcss = lcss_with carried 2 }) (get_or fields 3 0)
     (vocoder_of_frame frame)) octets
@@ -169,6 +172,7 @@ pub full_E : (colour frame : ℕ) (pi : Bool) (carried : Option FullLc) (fields 
 full_E colour frame pi carried fields octets b =
     fragment_at colour frame pi carried (get_or fields 3 0) 2 octets E (fragment_of_E carried) b
 
+-- Burst F of a superframe is made.
 pub full_F : (colour frame : ℕ) (pi : Bool) (carried : Option FullLc) (fields octets : List ℕ)
     → IsMobileBurst (burst.Voice (record { colour = colour; pi = pi; lcss = 0 }) 0 (vocoder_of_frame frame)) octets
     → HoldsAt (λ (slot : SentSlot). IsMade colour frame slot (Some octets)) (full_slots colour pi carried fields) 5

@@ -28,6 +28,7 @@ chosen b x y e = ap (λ (c : Bool). if c then x else y) e
 pub ok_of : {T E : Type 0} (r : Result T E) (x : T) → r ≡ Ok x → IsOk r
 ok_of r x e = ap is_ok e
 
+-- Where a part of a value is there, the value is.
 pub some_of : {T : Type 0} (o : Option T) (x : List ℕ) (f : T → List ℕ) → option_map f o ≡ Some x → IsSome o
 some_of None x f e = absurd (cc)
 some_of (Some y) x f e = refl

@@ -59,6 +59,7 @@ left_is [] k x e = absurd (cc)
 left_is (y ∷ xs) zero x e = let same : y ≡ x = cc in ap (λ (z : _). z ∷ xs) same
 left_is (y ∷ xs) (suc k) x e = left_is xs k x e
 
+-- Where a list has nothing at a place, nothing is left behind it.
 pub none_left : {X : Type 0} (xs : List X) (k : ℕ) → slice_get xs k ≡ None → drop k xs ≡ []
 none_left [] zero e = refl
 none_left [] (suc k) e = refl
@@ -189,6 +190,7 @@ ordered_ends : (from : ℕ) (ps : List PlacedTransmission) → IsOrdered from ps
 ordered_ends from [] o = tt
 ordered_ends from (p ∷ ps) o = let a = o.0 in let b = o.1 in omega (arith, a, b)
 
+-- Behind the end of a transmission, those that are left are still in order.
 pub ordered_over : (old new : Player) (frame : ℕ) (p : PlacedTransmission) (ps : List PlacedTransmission)
     → still_placed old ≡ p ∷ ps → still_placed new ≡ ps
     → new.from ≡ frame + 1 → frame + 1 ≡ p.start + p.length → IsOrdered old.from (still_placed old)
@@ -197,6 +199,7 @@ ordered_over old new frame p ps e left from ends o =
     let first : IsOrdered old.from (p ∷ ps) = subst (IsOrdered old.from) e o in
     subst (IsOrdered new.from) (sym left) (subst (λ (n : ℕ). IsOrdered n ps) (sym (from ∙ ends)) first.2)
 
+-- A player that goes on behind this frame stands in front of what is left.
 pub front_over : (new : Player) (frame : ℕ) → new.from ≡ frame + 1 → IsOrdered new.from (still_placed new)
     → IsInFront new (frame + 1)
 front_over new frame from o = record {

@@ -34,6 +34,7 @@ half_fits body packet rate written =
     subst (λ (r : Rate). All (λ block. FitsBlock r block.serial block.octets) packet.blocks) rate
     (packet_fits body packet (written_is_packet body packet written))
 
+-- Short data has one try.
 pub one_short_data : (s : ShortDataTry) (a b : SentTry) → IsShortDataTry s a → IsShortDataTry s b → a ≡ b
 one_short_data s a b u v =
     u.is
@@ -41,6 +42,7 @@ one_short_data s a b u v =
     (u.confirmed ∙ sym v.confirmed) u.written v.written)
     ∙ sym v.is
 
+-- A try of short data that fits its statement fits the channel.
 pub short_data_fits : (s : ShortDataTry) (t : SentTry) → FitsShortData s → IsShortDataTry s t
     → IsFitTry t s.shape.preambles s.shape.blocks.items
 short_data_fits s t fit u =
@@ -82,6 +84,7 @@ short_data_fits s t fit u =
       room = fit.shape.counted;
     })
 
+-- A try of a status that fits its statement fits the channel.
 pub status_fits : (s : StatusSent) → FitsStatus s → IsFitTry (status_try s) s.shape.preambles s.shape.blocks.items
 status_fits s fit = record {
   source = fit.header.source;
@@ -110,6 +113,7 @@ status_fits s fit = record {
   room = fit.shape.counted;
 }
 
+-- An answer has one try.
 pub one_answer : (a : Answer) (k : AnswerKind) (t u : SentTry) → IsAnswerOf a k t → IsAnswerOf a k u → t ≡ u
 one_answer a kind.Acknowledged t u p q = p ∙ sym q
 one_answer a kind.Failed t u p q = p ∙ sym q
@@ -166,6 +170,7 @@ answer_by a (kind.SelectiveRepeat w) t e fit p =
     (with_fits a (kind.SelectiveRepeat w) 2 0 packet.blocks e fit (omega arith) (omega arith) count (omega (arith, most))
     (half_fits (octets_of_flags w) packet p.1.rate p.1.written))
 
+-- A try of an answer that fits its statement fits the channel.
 pub answer_fits : (a : Answer) (t : SentTry) → FitsAnswer a → IsAnswerOf a a.kind t
     → IsFitTry t a.shape.preambles a.shape.blocks.items
 answer_fits a t fit p = answer_by a a.kind t refl fit p

@@ -5,6 +5,7 @@ use Rattle.dmr_hearing.specs.Damage.{IsSentSlot, IsRecordedAs}
 use Rattle.dmr_hearing.specs.Slots.{SentSlot, Silent, Data, VoiceSync, Voice, ForeignVoice, ForeignData, CutOff}
 use Rattle.dmr_making.specs.Made.{IsMade, vocoder_of_frame}
 
+-- What is made for a slot records it, undamaged.
 pub made_recorded : (colour frame : ℕ) (slot : SentSlot) (made : Option (List ℕ)) → IsSentSlot colour slot
     → IsMade colour frame slot made → IsRecordedAs colour slot made
 made_recorded colour frame Silent made may is =

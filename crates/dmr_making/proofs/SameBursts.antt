@@ -24,16 +24,19 @@ same_data colour kind octets a b e p = subst (λ (x : List Bool). IsMobileBurst 
 pub written_for : (m n information : List Bool) → m ≡ n → IsWritten m information → IsWritten n information
 written_for m n information e w = subst (λ (x : List Bool). IsWritten x information) e w
 
+-- The information of a link control is written.
 pub of_lc : (lc_use : LcUse) (lc : FullLc) (message information : List Bool) → IsLc lc_use lc message
     → IsLcInformation lc_use lc information → IsWritten message information
 of_lc lc_use lc message information p q =
     written_for q.message message information (same_lc lc_use lc q.message message q.sealed p) q.written
 
+-- The information of a control block is written.
 pub of_csbk : (csbk : Csbk) (message information : List Bool) → IsCsbk csbk message → IsCsbkInformation csbk information
     → IsWritten message information
 of_csbk csbk message information p q =
     written_for q.message message information (same_csbk csbk q.message message q.block p) q.written
 
+-- The information of a data header is written.
 pub of_header : (header : Header) (message information : List Bool) → IsWrittenForm header message
     → IsHeaderInformation header information → IsWritten message information
 of_header header message information p q =

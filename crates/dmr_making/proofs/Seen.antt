@@ -29,6 +29,7 @@ use Rattle.dmr_voice.specs.declared.place.Place.TheVariants.{A, B, C, D, E, F}
 
 -- 1. Lists.
 
+-- What holds of all of two lists holds of all of both.
 pub all_append : {X : Type 0} (P : X → Type 0) (xs ys : List X) → AllByRecursion P xs → AllByRecursion P ys
     → AllByRecursion P (xs ++ ys)
 all_append P [] ys p q = q
@@ -84,10 +85,12 @@ plain_sent colour (ForeignVoice emb) p = absurd p
 plain_sent colour ForeignData p = absurd p
 plain_sent colour CutOff p = absurd p
 
+-- Plain slots are seen as they are.
 pub all_seen : (colour : ℕ) (slots : List SentSlot) → AllByRecursion (IsPlain colour) slots → AllZip IsSeenAs slots slots
 all_seen colour [] p = tt
 all_seen colour (s ∷ slots) p = (plain_seen colour s p.0, all_seen colour slots p.1)
 
+-- Plain slots can be sent.
 pub all_sent : (colour : ℕ) (slots : List SentSlot) → AllByRecursion (IsPlain colour) slots
     → AllByRecursion (IsSentSlot colour) slots
 all_sent colour [] p = tt

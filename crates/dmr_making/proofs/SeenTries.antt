@@ -132,6 +132,7 @@ again_seen colour p (again.Full (Some shape)) sent s = try_seen colour s.0 shape
 again_seen colour p (again.Partial partial) sent s =
     try_seen colour s.0 partial.shape.preambles partial.shape.blocks.items sent s.2
 
+-- The slots of a transmission that may be sent are seen as what it means.
 pub all_seen_as : (colour : ℕ) (last : Option PacketTry) (t : Said) (sent : Transmitted) → IsSendable last t
     → SendsSaid colour last t sent
     → AreSeenAs colour sent

@@ -23,6 +23,7 @@ stands_left P Past [] ys k lt h = absurd (omega arith)
 stands_left P Past (x ∷ xs) ys zero lt h = h
 stands_left P Past (x ∷ xs) ys (suc k) lt h = stands_left P Past xs ys k (omega arith) h
 
+-- A place of the second list is a place of both, behind the first.
 pub stands_right : {X : Type 0} (P : X → Type 0) (Past : Type 0) (xs ys : List X) (j k : ℕ) → k ≡ length xs + j
     → StandsAt P Past ys j → StandsAt P Past (xs ++ ys) k
 stands_right P Past [] ys j k e h = let same : j ≡ k = omega arith in subst (StandsAt P Past ys) same h

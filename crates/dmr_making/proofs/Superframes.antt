@@ -52,6 +52,7 @@ abbrev pub place_index : ℕ → ℕ → ℕ
 place_index zero p = p
 place_index (suc n) p = suc (suc (suc (suc (suc (suc (place_index n p))))))
 
+-- Places are counted through, six a superframe.
 pub index_is : (n p : ℕ) → place_index n p ≡ 6 * n + p
 index_is zero p = omega arith
 index_is (suc n) p = let e = index_is n p in omega (arith, e)

@@ -62,11 +62,13 @@ header_by p pad blocks full false e fit few less =
 
 -- 2. Full tries.
 
+-- A packet has one full try.
 pub one_full_try : (p : PacketTry) (a b : SentTry) → IsFullTry p a → IsFullTry p b → a ≡ b
 one_full_try p a b u v =
     u.is ∙ ap (λ (packet : Packet). try_with p (packet_header p packet.pad true (length packet.blocks)) packet.blocks)
     (one_packet_in p u.packet v.packet u.packet_is v.packet_is) ∙ sym v.is
 
+-- A full try that fits its statement fits the channel.
 pub full_try_fits : (p : PacketTry) (t : SentTry) (preambles : ℕ) (presence : List Bool) → FitsPacket p → IsFullTry p t
     → length presence ≡ length p.shape.blocks.items → preambles + length presence ≤ 255 → IsFitTry t preambles presence
 full_try_fits p t preambles presence fit u count room =
@@ -106,6 +108,7 @@ picked_fit P blocks (s ∷ serials) [] all p = absurd p
 picked_fit P blocks (s ∷ serials) (x ∷ some) all p =
     All-cons P x some (fit_at P blocks s x all p.0) (picked_fit P blocks serials some all p.1)
 
+-- A packet has one partial try of these blocks.
 pub one_partial_try : (p : PacketTry) (partial : PartialTry) (a b : SentTry) → IsPartialTry p partial a → IsPartialTry p partial b
     → a ≡ b
 one_partial_try p partial a b u v =
@@ -118,6 +121,7 @@ one_partial_try p partial a b u v =
     ∙ ap (λ (l : List Block). try_with p (packet_header p v.packet.pad false (length partial.serials.items)) l) blocks
     ∙ sym v.is
 
+-- A partial try that fits its statement fits the channel.
 pub partial_try_fits : (p : PacketTry) (partial : PartialTry) (t : SentTry) → FitsPacket p → FitsPartial partial
     → IsPartialTry p partial t → IsFitTry t partial.shape.preambles partial.shape.blocks.items
 partial_try_fits p partial t fit shape u =

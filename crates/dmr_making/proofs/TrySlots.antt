@@ -129,6 +129,7 @@ pub copied : {X : Type 0} (found : Option (Bor X)) (read : Option X) (block : Bo
     → found ≡ Some block → read ≡ Some block.now
 copied found read block p q = sym p ∙ ap option_copied q
 
+-- Where nothing was found, nothing is read.
 pub copied_none : {X : Type 0} (found : Option (Bor X)) (read : Option X) → option_copied found ≡ read → found ≡ None
     → read ≡ None
 copied_none found read p q = sym p ∙ ap option_copied q

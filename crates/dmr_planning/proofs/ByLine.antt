@@ -59,6 +59,7 @@ step_by_line all own taken at line (statement.Send s) old new p f =
     one_more at old.sends new.sends (record { statement = at; slot = number_of_slot old.slot; frame = s.frame }) refl
     (ap (λ (x : Planned). x.sends) p.2) f
 
+-- What is planned to be sent stands in the order of its lines.
 pub are_by_line : (all : List NumberedStatement) (own : ℕ) (taken : Bool) (at : ℕ) (p : Planned)
     → ArePlanned all own taken at p → AreByLine at p.sends
 are_by_line all own taken zero p e = subst (λ (x : Planned). AreByLine 0 x.sends) (sym e) (record {

@@ -63,7 +63,7 @@ start_fits (start.Late tail) places f = f.0
 
 pub call_fits : (c : Call) → FitsCall c → IsFitCall c
 call_fits c f = record {
-  link_control = f.link_control;
+  link_control = f.link_control.flco;
   carried = f.carried;
   start = start_fits c.shape.start c.shape.places.items f.shape.start;
 }

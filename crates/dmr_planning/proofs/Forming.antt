@@ -10,8 +10,7 @@ use Rattle.dmr_making.specs.Controls.{csbk_control, lone_control}
 use Rattle.dmr_making.specs.Sends.{SendsAgain, SendsSaid, Transmitted, one_burst}
 use Rattle.dmr_making.specs.Tries.{blocks_with}
 use Rattle.dmr_planning.proofs.Superframes.{all_of_call, ending_by, ends_well, presence_is, within_of}
-use Rattle.dmr_planning.specs.WellFormed.{HasFitLinkControl, HasFitLinkControls}
-use Rattle.dmr_script.specs.Fits.{FitsTransmission}
+use Rattle.dmr_script.specs.Fits.{FitsCarried, FitsTransmission}
 use Rattle.dmr_script.specs.Shapes.{IsCallShape, IsStart, begins_there, is_unbroken, there_within}
 use Rattle.dmr_script.specs.declared.call.Call.{Call}
 use Rattle.dmr_script.specs.declared.control.LoneBurst.{LoneBurst}
@@ -46,7 +45,7 @@ record IsVoice (call : Call) (forms : CallForms) (bs : List Bool) : Type 0 where
 voice_well : (call : Call) (forms : CallForms) (b : Bool) (bs : List Bool) → begins_there (b ∷ bs) ≡ true
     → is_unbroken (nat_lt 0 call.shape.terminators) (b ∷ bs) ≡ true
     → (0 < call.shape.terminators → length (b ∷ bs) % 6 ≡ 0) → AreFormsOf call forms → FitsFullLc call.link_control
-    → All HasFitLinkControl call.carried.items → IsVoice call forms (b ∷ bs)
+    → All FitsCarried call.carried.items → IsVoice call forms (b ∷ bs)
 voice_well call forms b bs begins unbroken whole are own all = record {
   first = subst (Within 1) (sym (presence_is call forms.fields 0 (b ∷ bs))) (begins_within b bs begins);
   readable = all_of_call call forms.fields (b ∷ bs) are.fields own all;
@@ -58,7 +57,7 @@ voice_well call forms b bs begins unbroken whole are own all = record {
 headed_well : (colour : ℕ) (call : Call) (forms : CallForms) (h : Headers) (places : List Bool) → IsStart (start.Headers h) places
     → begins_there places ≡ true → is_unbroken (nat_lt 0 call.shape.terminators) places ≡ true
     → (0 < call.shape.terminators → length places % 6 ≡ 0) → AreFormsOf call forms → FitsFullLc call.link_control
-    → All HasFitLinkControl call.carried.items → IsTransmission colour (headed_call call forms h places)
+    → All FitsCarried call.carried.items → IsTransmission colour (headed_call call forms h places)
 headed_well colour call forms h [] s begins unbroken whole are own all = tt
 headed_well colour call forms h (b ∷ bs) s begins unbroken whole are own all =
     let v : IsVoice call forms (b ∷ bs) = voice_well call forms b bs begins unbroken whole are own all in
@@ -68,7 +67,7 @@ late_well : (colour : ℕ) (call : Call) (forms : CallForms) (tail places : List
     → there_within 5 false (drop 1 places) ≡ true → begins_there places ≡ true
     → is_unbroken (nat_lt 0 call.shape.terminators) places ≡ true
     → (0 < call.shape.terminators → length places % 6 ≡ 0) → AreFormsOf call forms → FitsFullLc call.link_control
-    → All HasFitLinkControl call.carried.items
+    → All FitsCarried call.carried.items
     → IsTransmission colour (LateCall call.link_control tail (superframes_from call forms.fields 0 places)
     (call_ending forms call.shape.terminators))
 late_well colour call forms tail [] le within begins unbroken whole are own all = absurd (cc)
@@ -82,7 +81,7 @@ late_well colour call forms tail (b ∷ bs) le within begins unbroken whole are 
     )
 
 started_well : (colour : ℕ) (call : Call) (forms : CallForms) (s : CallStart) → IsStart s call.shape.places.items
-    → IsCallShape call.shape → AreFormsOf call forms → FitsFullLc call.link_control → All HasFitLinkControl call.carried.items
+    → IsCallShape call.shape → AreFormsOf call forms → FitsFullLc call.link_control → All FitsCarried call.carried.items
     → IsTransmission colour (started_call call forms s)
 started_well colour call forms (start.Headers h) s shape are own all =
     headed_well colour call forms h call.shape.places.items s shape.first shape.unbroken shape.whole are own all
@@ -138,26 +137,27 @@ one_well colour control sent e w = subst (λ (x : Transmitted). IsTransmission c
 
 -- 4. All of them.
 
+-- A transmission that fits and whose link controls fit is well formed.
 pub said_well : (colour : ℕ) (last : Option PacketTry) (t : Said) (sent : Transmitted) → FitsTransmission t
-    → HasFitLinkControls t → SendsSaid colour last t sent → IsTransmission colour sent.transmission
-said_well colour last (said.Call c) sent fit lcs s =
+    → SendsSaid colour last t sent → IsTransmission colour sent.transmission
+said_well colour last (said.Call c) sent fit s =
     subst (λ (x : Transmitted). IsTransmission colour x.transmission) (sym s.is)
-    (started_well colour c s.forms c.shape.start fit.shape.start fit.shape s.forms_are lcs.0 lcs.1)
-said_well colour last (said.Packet p) sent fit lcs s =
+    (started_well colour c s.forms c.shape.start fit.shape.start fit.shape s.forms_are fit.link_control fit.carried)
+said_well colour last (said.Packet p) sent fit s =
     try_well colour sent s.2.forms.preambles s.2.forms.header s.0.rate p.shape.blocks.items s.2.forms.blocks
     (ap (λ (x : Transmitted). x.transmission) s.2.is)
-said_well colour None (said.Again a) sent fit lcs s = absurd s
-said_well colour (Some p) (said.Again a) sent fit lcs s = again_well colour p a sent s
-said_well colour last (said.ShortData d) sent fit lcs s =
+said_well colour None (said.Again a) sent fit s = absurd s
+said_well colour (Some p) (said.Again a) sent fit s = again_well colour p a sent s
+said_well colour last (said.ShortData d) sent fit s =
     try_well colour sent s.2.forms.preambles s.2.forms.header s.0.rate d.shape.blocks.items s.2.forms.blocks
     (ap (λ (x : Transmitted). x.transmission) s.2.is)
-said_well colour last (said.Status d) sent fit lcs s =
+said_well colour last (said.Status d) sent fit s =
     try_well colour sent s.forms.preambles s.forms.header Half d.shape.blocks.items s.forms.blocks
     (ap (λ (x : Transmitted). x.transmission) s.is)
-said_well colour last (said.Answer a) sent fit lcs s =
+said_well colour last (said.Answer a) sent fit s =
     try_well colour sent s.2.forms.preambles s.2.forms.header s.0.rate a.shape.blocks.items s.2.forms.blocks
     (ap (λ (x : Transmitted). x.transmission) s.2.is)
-said_well colour last (said.Control csbk) sent fit lcs s =
+said_well colour last (said.Control csbk) sent fit s =
     one_well colour (csbk_control s.0) sent s.2 ((2, omega arith, refl), tt)
-said_well colour last (said.Burst burst) sent fit lcs s =
+said_well colour last (said.Burst burst) sent fit s =
     one_well colour (lone_control burst s.0) sent s.2 (lone_well colour burst s.0)

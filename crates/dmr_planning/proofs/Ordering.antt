@@ -15,6 +15,7 @@ not_less m n le = grind arith
 abbrev in_frame : PlannedSend → ℕ
 in_frame s = s.slot * 18446744073709551616 + s.statement
 
+-- Two stable sorts, by slot and then by frame, give the order of a list.
 pub in_list_order : (xs ys zs : List PlannedSend) → IsPermutation xs ys → IsPermutation ys zs
     → All (λ (s : PlannedSend). s.statement < 18446744073709551616) xs
     → IsSortedByKey (λ (s : PlannedSend). s.statement) nat_cmp xs

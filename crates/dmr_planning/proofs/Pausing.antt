@@ -249,6 +249,7 @@ pausing all own taken (suc at) p q =
     (ap (λ (o : Option NumberedStatement). option_and_then (λ (x : NumberedStatement). transmit_of x.statement) o) q.2) q.4
     (pausing all own taken at q.0 q.3)
 
+-- The transmissions of a plan stand apart in both slots.
 pub pauses : (all : List NumberedStatement) (own : ℕ) (taken : Bool) (at : ℕ) (p : Planned) → ArePlanned all own taken at p
     → ArePausedBetween all own p.first.placed × ArePausedBetween all own p.second.placed
 pauses all own taken at p q = let f = pausing all own taken at p q in (f.first.apart, f.second.apart)

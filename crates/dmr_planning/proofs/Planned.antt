@@ -65,6 +65,7 @@ silenced_end s r count e = by (nat_lt (1048576 - stands s) count) e
         let same : record s { silences = Some (named_silences s.silences + count) } ≡ r = cc in
         ap (λ (x : SlotState). x.end) (sym same)
 
+-- Silences up to a frame leave the end of the last transmission where it is.
 pub silenced_to_end : (s r : SlotState) (frame : ℕ) → silenced_to s frame ≡ Ok r → r.end ≡ s.end
 silenced_to_end s r frame e = by (nat_lt frame (stands s)) e
   where
@@ -110,6 +111,7 @@ pub record IsNextThere (s : SlotState) (at count : ℕ) (one : PlacedTransmissio
   pub statement : one.statement ≡ at
   pub packet : one.packet ≡ s.packet
 
+-- A transmission that is placed is the next of its slot.
 pub next_there : (s : SlotState) (own : ℕ) (n : NumberedTransmit) (count : ℕ) (one : PlacedTransmission)
     → placed_behind s own n count ≡ Ok one → IsNextThere s n.statement count one
 next_there s own n count one e = by (paused s (needed s own n.transmit)) refl e
@@ -236,6 +238,7 @@ step_fits all own taken at line (statement.Send s) old new fits there p f =
       told = f.told;
     })
 
+-- All that is planned fits, where all statements do.
 pub planned_fits : (all : List NumberedStatement) (own : ℕ) (taken : Bool) (at : ℕ) (p : Planned) → All FitsNumbered all
     → ArePlanned all own taken at p → IsAllFit all p
 planned_fits all own taken zero p fits e = subst (IsAllFit all) (sym e) (record {

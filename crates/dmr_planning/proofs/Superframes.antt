@@ -9,7 +9,7 @@ use Rattle.dmr_hearing.specs.Fields.{IsCarrier, IsReceived}
 use Rattle.dmr_link.specs.FullLc.{FitsFullLc}
 use Rattle.dmr_link.specs.declared.full_lc.FullLc.{FullLc}
 use Rattle.dmr_making.specs.Calls.{AreFieldsOf, carried_by, carried_lc, places_with, six_fields, superframe_of, superframes_from}
-use Rattle.dmr_planning.specs.WellFormed.{HasFitLinkControl}
+use Rattle.dmr_script.specs.Fits.{FitsCarried}
 use Rattle.dmr_script.specs.Shapes.{is_unbroken, there_within}
 use Rattle.dmr_script.specs.declared.call.Call.{Call}
 use Rattle.dmr_script.specs.declared.call.Carried.{Carried}
@@ -33,6 +33,7 @@ part_there call fields n bs le =
     append-nil (map is_some (places_with call.pi (six_fields (fields n)) bs))
     ∙ there_all call.pi (six_fields (fields n)) bs (omega arith)
 
+-- The superframes of a call have the places that the call has.
 pub presence_is : (call : Call) (fields : ℕ → List ℕ) (n : ℕ) (bs : List Bool)
     → presence (superframes_from call fields n bs) ≡ bs
 presence_is call fields n [] = refl
@@ -49,6 +50,7 @@ presence_is call fields n (a ∷ b ∷ c ∷ d ∷ e ∷ f ∷ more) =
 
 -- 2. In a row.
 
+-- Where a place is there within so many, one stands within them.
 pub within_of : (n : ℕ) (bs : List Bool) → there_within n false bs ≡ true → Within n bs
 within_of zero bs e = absurd (cc)
 within_of (suc n) [] e = absurd (cc)
@@ -187,12 +189,12 @@ readable_with (Some lc) fields pi (a ∷ true ∷ true ∷ true ∷ true ∷ bs)
     subst (IsReceived lc) (sym (four_fields fields are.four)) (received lc fields fit are)
 
 -- what a call carries fits
-carried_fits : (own : FullLc) (c : Carried) → FitsFullLc own → HasFitLinkControl c → FitsCarriedLc (carried_lc own c)
+carried_fits : (own : FullLc) (c : Carried) → FitsFullLc own → FitsCarried c → FitsCarriedLc (carried_lc own c)
 carried_fits own carried.Own f h = f
 carried_fits own carried.Nothing f h = tt
 carried_fits own (carried.LinkControl lc) f h = h
 
-carried_by_fits : (own : FullLc) (cs : List Carried) (n : ℕ) → FitsFullLc own → All HasFitLinkControl cs
+carried_by_fits : (own : FullLc) (cs : List Carried) (n : ℕ) → FitsFullLc own → All FitsCarried cs
     → FitsCarriedLc (carried_by own cs n)
 carried_by_fits own [] n f all = f
 carried_by_fits own (c ∷ cs) n f all =
@@ -200,7 +202,7 @@ carried_by_fits own (c ∷ cs) n f all =
 
 all_readable : (call : Call) (fields : ℕ → List ℕ) (n : ℕ) (bs : List Bool)
     → ((k : ℕ) → AreFieldsOf (carried_by call.link_control call.carried.items k) (fields k))
-    → FitsFullLc call.link_control → All HasFitLinkControl call.carried.items
+    → FitsFullLc call.link_control → All FitsCarried call.carried.items
     → AllByRecursion IsReadableSuperframe (superframes_from call fields n bs)
 all_readable call fields n bs are own all = by n bs
   where
@@ -220,9 +222,10 @@ all_readable call fields n bs are own all = by n bs
 
 -- 5. All of it.
 
+-- Each superframe of a call whose link controls fit is readable.
 pub all_of_call : (call : Call) (fields : ℕ → List ℕ) (bs : List Bool)
     → ((k : ℕ) → AreFieldsOf (carried_by call.link_control call.carried.items k) (fields k))
-    → FitsFullLc call.link_control → All HasFitLinkControl call.carried.items
+    → FitsFullLc call.link_control → All FitsCarried call.carried.items
     → AllByRecursion IsReadableSuperframe (superframes_from call fields 0 bs)
 all_of_call call fields bs are own all = all_readable call fields 0 bs are own all
 

@@ -1,3 +1,4 @@
+pub mod CountTexts
 pub mod Counting
 pub mod Halts
 pub mod Pauses
@@ -9,4 +10,3 @@ pub mod Sending
 pub mod Slots
 pub mod Syncs
 pub mod Tries
-pub mod WellFormed

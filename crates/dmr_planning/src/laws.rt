@@ -3,7 +3,6 @@ ghost use Rattle.std.specs.Prelude.{ℕ, Bool, List, Option};
 ghost use Rattle.dmr_making.specs.Sends.{SendsSaid, Transmitted};
 ghost use Rattle.dmr_planning.specs.Pausing.{ArePausedBetween};
 ghost use Rattle.dmr_planning.specs.Planning.{ArePlanned, Planned};
-ghost use Rattle.dmr_planning.specs.WellFormed.{HasFitLinkControls};
 ghost use Rattle.dmr_script.specs.Fits.{FitsTransmission};
 ghost use Rattle.dmr_script.specs.declared.packet.PacketTry.{PacketTry};
 ghost use Rattle.dmr_script.specs.declared.statement.NumberedStatement.{NumberedStatement};
@@ -18,8 +17,8 @@ pub fn transmissions_pause()
         → ArePausedBetween all own planned.first.placed × ArePausedBetween all own planned.second.placed }
 {}
 
-/// What a transmission of a script is in a channel of its colour code is well formed, where its link controls fit their fields.
+/// What a transmission of a script is in a channel of its colour code is well formed.
 pub fn transmissions_are_well_formed()
     ensures law { (colour : ℕ) (last : Option PacketTry) (said : Transmission) (sent : Transmitted) → FitsTransmission said
-        → HasFitLinkControls said → SendsSaid colour last said sent → IsTransmission colour sent.transmission }
+        → SendsSaid colour last said sent → IsTransmission colour sent.transmission }
 {}

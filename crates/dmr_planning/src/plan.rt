@@ -1,5 +1,6 @@
 //! A plan, and what is written by it.
-ghost use Rattle.std.specs.Prelude.{◌≡◌, true, false, IfOk, IfErr, OnOk, OnErr};
+ghost use Rattle.std.specs.Prelude.{◌≡◌, true, false, IfOk, IfErr, OnOk, OnErr, Some};
+ghost use Rattle.dmr_planning.specs.CountTexts.{made_text};
 
 use crate::sends::{PlannedSend, write_sends};
 use dmr_making::{PlacedTransmission, write_recording};
@@ -23,6 +24,8 @@ pub struct Made {
 }
 
 impl fmt::Display for Made {
+    ghost output = { λ made. Some (made_text made) };
+
     /// `frames 40 slot-1 20 slot-2 1 transmissions 3 datagrams 0`
     fn fmt<W: fmt::Write>(&self, f: &mut fmt::Formatter<W>) -> fmt::Result {
         let Made {

@@ -2,6 +2,7 @@ pub mod Devices
 pub mod Downlink
 pub mod Faults
 pub mod Head
+pub mod NextSlot
 pub mod Outgoing
 pub mod Received
 pub mod Spelling

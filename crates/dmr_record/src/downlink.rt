@@ -1,14 +1,16 @@
 //! The downlink file, slot by slot.
 
 ghost use Rattle.std.specs.Prelude.{◌≡◌, ◌%◌, ◌<◌, ◌⊎◌, ◌++◌, [], List, ℕ, length, false, true, Some};
-ghost use Rattle.std.specs.Prelude.{IfOk, IfErr, OnOk, OnErr, IfSome, IfNone};
+ghost use Rattle.std.specs.Prelude.{IfOk, IfErr, OnOk, OnErr};
 ghost use Rattle.std.specs.Io.KnownBytes.{Consumes, Appends, IsAtEnd};
 ghost use Rattle.dmr_record.specs.Devices.{Tears};
 ghost use Rattle.dmr_record.specs.Downlink.{IsSent, sent_octets, slot_limit, ShowsDownlinkFault};
 ghost use Rattle.dmr_record.specs.Faults.{is_of_end, is_device_fault};
+ghost use Rattle.dmr_record.specs.NextSlot.{IfNoSlot, IfSlot};
 
 use crate::device::{Sink, Source};
 use crate::fault::RecordFault;
+use crate::next_slot::NextSlot;
 use crate::tag::{BURST, SILENCE};
 use crate::transfer::{fill_whole, put, read_octet};
 use crate::uplink::FRAME_LIMIT;
@@ -65,7 +67,7 @@ fn read_sent<S: Source>(source: &mut S) -> Result<([u8; 3], [u8; 33]), RecordFau
     Ok((cach, burst))
 }
 
-/// Reads the next slot of a downlink file behind its head: silence, or a CACH and a burst. It answers `None` at
+/// Reads the next slot of a downlink file behind its head: silence, or a CACH and a burst. It answers `End` at
 /// the end of the source, where that is behind slot 2 of a frame or the head.
 ///
 /// `before` is the number of slots that were read before it. A slot past `SLOT_LIMIT` is `TooLong` as soon as its
@@ -73,13 +75,13 @@ fn read_sent<S: Source>(source: &mut S) -> Result<([u8; 3], [u8; 33]), RecordFau
 pub fn read_slot<S: Source>(
     source: &mut S,
     before: u32,
-) -> Result<Option<Option<([u8; 3], [u8; 33])>>, RecordFault>
+) -> Result<NextSlot<([u8; 3], [u8; 33])>, RecordFault>
     requires well { S.has_failed source.old ≡ false }
     // A slot is what the octets taken spell.
-    ensures slot { IfOk result (λ found. IfSome found (λ slot. (before < slot_limit) × IsSent slot
+    ensures slot { IfOk result (λ found. IfSlot found (λ slot. (before < slot_limit) × IsSent slot
         × Consumes (S.left source.old) (S.left source.new) (sent_octets slot))) }
     // There is none only at the end, behind whole frames.
-    ensures end { IfOk result (λ found. IfNone found ((before % 2 ≡ 0)
+    ensures end { IfOk result (λ found. IfNoSlot found ((before % 2 ≡ 0)
         × Consumes (S.left source.old) (S.left source.new) [] × IsAtEnd (S.left source.new))) }
     ensures well { OnOk result (S.has_failed source.new ≡ false) }
     // A fault is shown by the octets taken, all of this slot.
@@ -93,16 +95,16 @@ pub fn read_slot<S: Source>(
         if before % 2 == 1 {
             return Err(RecordFault::HalfFrame);
         }
-        return Ok(None);
+        return Ok(NextSlot::End);
     };
     if before >= SLOT_LIMIT {
         return Err(RecordFault::TooLong);
     }
     match tag {
-        SILENCE => Ok(Some(None)),
+        SILENCE => Ok(NextSlot::Slot(None)),
         BURST => {
             let sent = read_sent(source)?;
-            Ok(Some(Some(sent)))
+            Ok(NextSlot::Slot(Some(sent)))
         }
         _ => Err(RecordFault::BadTag),
     }

@@ -16,6 +16,7 @@ mod downlink;
 mod fault;
 mod head;
 pub mod laws;
+mod next_slot;
 mod outgoing;
 mod received;
 mod tag;
@@ -30,6 +31,7 @@ pub use head::{
     DOWNLINK_MAGIC, FileFormat, OUTGOING_MAGIC, RECEIVED_MAGIC, UPLINK_MAGIC, read_any_head,
     read_head, write_head,
 };
+pub use next_slot::NextSlot;
 pub use outgoing::{
     Outgoing, OutgoingRecord, RECORD_LIMIT, read_outgoing, read_outgoing_into, read_whole_outgoing,
     write_outgoing,

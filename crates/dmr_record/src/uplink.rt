@@ -9,9 +9,11 @@ ghost use Rattle.dmr_record.specs.Uplink.{IsSilenceOrBurst, IsFrame, ShowsSlotFa
 ghost use Rattle.dmr_record.specs.Uplink.{frame_octets};
 ghost use Rattle.dmr_record.specs.Uplink.{ShowsUplinkSlotFault, uplink_slot_limit, slot_octets};
 ghost use Rattle.dmr_record.specs.Head.{frame_limit};
+ghost use Rattle.dmr_record.specs.NextSlot.{IfNoSlot, IfSlot};
 
 use crate::device::{Sink, Source};
 use crate::fault::RecordFault;
+use crate::next_slot::NextSlot;
 use crate::tag::{BURST, SILENCE};
 use crate::transfer::{fill, put, read_octet};
 
@@ -85,7 +87,7 @@ pub fn read_frame<S: Source>(
     Ok(Some([first, second]))
 }
 
-/// Reads the next slot of an uplink file behind its head: silence or a burst. It answers `None` at the end of the
+/// Reads the next slot of an uplink file behind its head: silence or a burst. It answers `End` at the end of the
 /// source, where that is behind slot 2 of a frame or the head.
 ///
 /// `before` is the number of slots that were read before it. A slot past those of `FRAME_LIMIT` frames is `TooLong`
@@ -94,13 +96,13 @@ pub fn read_frame<S: Source>(
 pub fn read_uplink_slot<S: Source>(
     source: &mut S,
     before: u32,
-) -> Result<Option<Option<[u8; 33]>>, RecordFault>
+) -> Result<NextSlot<[u8; 33]>, RecordFault>
     requires well { S.has_failed source.old ≡ false }
     // A slot is what the octets taken spell.
-    ensures slot { IfOk result (λ found. IfSome found (λ slot. (before < uplink_slot_limit) × IsSilenceOrBurst slot
+    ensures slot { IfOk result (λ found. IfSlot found (λ slot. (before < uplink_slot_limit) × IsSilenceOrBurst slot
         × Consumes (S.left source.old) (S.left source.new) (slot_octets slot))) }
     // There is none only at the end, behind whole frames.
-    ensures end { IfOk result (λ found. IfNone found ((before % 2 ≡ 0)
+    ensures end { IfOk result (λ found. IfNoSlot found ((before % 2 ≡ 0)
         × Consumes (S.left source.old) (S.left source.new) [] × IsAtEnd (S.left source.new))) }
     ensures well { OnOk result (S.has_failed source.new ≡ false) }
     // A fault is shown by the octets taken, all of this slot.
@@ -112,7 +114,7 @@ pub fn read_uplink_slot<S: Source>(
 {
     let Some(tag) = read_octet(source)? else {
         return if before % 2 == 0 {
-            Ok(None)
+            Ok(NextSlot::End)
         } else {
             Err(RecordFault::HalfFrame)
         };
@@ -121,7 +123,7 @@ pub fn read_uplink_slot<S: Source>(
         return Err(RecordFault::TooLong);
     }
     let slot = read_slot(source, tag)?;
-    Ok(Some(slot))
+    Ok(NextSlot::Slot(slot))
 }
 
 /// The record of a burst.

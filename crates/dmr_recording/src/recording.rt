@@ -1,12 +1,13 @@
 //! The two recordings, slot by slot.
-ghost use Rattle.std.specs.Prelude.{◌≡◌, ◌%◌, ◌<◌, ◌≤◌, [], List, ℕ, false, true, length, IfOk, IfErr, OnOk, IfSome, IfNone};
+ghost use Rattle.std.specs.Prelude.{◌≡◌, ◌%◌, ◌<◌, ◌≤◌, [], List, ℕ, false, true, length, IfOk, IfErr, OnOk};
 ghost use Rattle.std.specs.Io.KnownBytes.{Consumes, IsAtEnd};
 ghost use Rattle.dmr_record.specs.Downlink.{sent_octets};
 ghost use Rattle.dmr_record.specs.Faults.{is_of_end, is_device_fault};
+ghost use Rattle.dmr_record.specs.NextSlot.{IfNoSlot, IfSlot};
 ghost use Rattle.dmr_record.specs.Uplink.{slot_octets};
 ghost use Rattle.dmr_recording.specs.Recordings.{IsSlotOf, ShowsSlotFaultOf, slot_limit_of, spelling};
 
-use dmr_record::{RecordFault, Source, read_slot, read_uplink_slot};
+use dmr_record::{NextSlot, RecordFault, Source, read_slot, read_uplink_slot};
 
 /// Which of the two recordings a file is.
 #[derive(Clone, Copy, Drop)]
@@ -73,20 +74,20 @@ fn of_downlink(slot: Option<([u8; 3], [u8; 33])>) -> Option<RecordedBurst>
     }
 }
 
-/// Reads the next slot of a recording behind its head: silence or a burst. It answers `None` at the end of the source, where that
+/// Reads the next slot of a recording behind its head: silence or a burst. It answers `End` at the end of the source, where that
 /// is behind slot 2 of a frame or the head. `before` is the number of slots that were read before it. It is
 /// `dmr_record::read_uplink_slot` of an uplink, and `dmr_record::read_slot` of a downlink.
 pub fn read_recording<S: Source>(
     source: &mut S,
     recording: Recording,
     before: u32,
-) -> Result<Option<Option<RecordedBurst>>, RecordFault>
+) -> Result<NextSlot<RecordedBurst>, RecordFault>
     requires well { S.has_failed source.old ≡ false }
     // A slot is what the octets taken spell.
-    ensures slot { IfOk result (λ found. IfSome found (λ slot. (before < slot_limit_of recording) × IsSlotOf recording slot
+    ensures slot { IfOk result (λ found. IfSlot found (λ slot. (before < slot_limit_of recording) × IsSlotOf recording slot
         × Consumes (S.left source.old) (S.left source.new) (spelling recording slot))) }
     // There is none only at the end, behind whole frames.
-    ensures end { IfOk result (λ found. IfNone found ((before % 2 ≡ 0)
+    ensures end { IfOk result (λ found. IfNoSlot found ((before % 2 ≡ 0)
         × Consumes (S.left source.old) (S.left source.new) [] × IsAtEnd (S.left source.new))) }
     ensures well { OnOk result (S.has_failed source.new ≡ false) }
     // A fault is shown by the octets taken, all of this slot.
@@ -98,13 +99,13 @@ pub fn read_recording<S: Source>(
 {
     match recording {
         Recording::Uplink => match read_uplink_slot(source, before) {
-            Ok(Some(slot)) => Ok(Some(of_uplink(slot))),
-            Ok(None) => Ok(None),
+            Ok(NextSlot::Slot(slot)) => Ok(NextSlot::Slot(of_uplink(slot))),
+            Ok(NextSlot::End) => Ok(NextSlot::End),
             Err(fault) => Err(fault),
         },
         Recording::Downlink => match read_slot(source, before) {
-            Ok(Some(slot)) => Ok(Some(of_downlink(slot))),
-            Ok(None) => Ok(None),
+            Ok(NextSlot::Slot(slot)) => Ok(NextSlot::Slot(of_downlink(slot))),
+            Ok(NextSlot::End) => Ok(NextSlot::End),
             Err(fault) => Err(fault),
         },
     }

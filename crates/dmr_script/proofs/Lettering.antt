@@ -24,6 +24,7 @@ pub placed_more : (p : Place) (bs : List Bool) (b : Bool) (ls : List Letter)
 placed_more p [] b ls = refl
 placed_more p (x ∷ bs) b ls = ap (λ m. letter_at p x ∷ m) (placed_more (next_place p) bs b ls)
 
+-- One more letter is one place more.
 pub behind_more : (p : Place) (bs : List Bool) (b : Bool) → place_past p (bs ++ b ∷ []) ≡ next_place (place_past p bs)
 behind_more p [] b = refl
 behind_more p (x ∷ bs) b = behind_more (next_place p) bs b

@@ -1,8 +1,10 @@
 -- Which numbers statements have, and how many blocks the shape of a packet has.
 use Rattle.std.specs.Prelude.{◌≡◌, ℕ, ◌+◌, ◌*◌, ◌^◌, ◌<◌, ◌≤◌, ◌==◌, ◌||◌, false, All, length, IfSome, if◌then◌else◌, nat_lt}
+use Rattle.dmr_csbk.specs.Block.{FitsCsbk}
 use Rattle.dmr_data.specs.Block.{payload}
 use Rattle.dmr_data.specs.declared.header.Status.{Status}
 use Rattle.dmr_data.specs.declared.rate.Rate.TheVariants.{Half}
+use Rattle.dmr_link.specs.FullLc.{FitsFullLc}
 use Rattle.dmr_script.specs.Foreign.{MayBeForeign}
 use Rattle.dmr_script.specs.Shapes.{IsCallShape}
 use Rattle.dmr_script.specs.declared.call.Call.{Call}
@@ -135,15 +137,15 @@ pub record FitsAnswer (a : Answer) : Type 0 where
 abbrev pub FitsCarried : Carried → Type 0
 FitsCarried carried.Own = Unit {0}
 FitsCarried carried.Nothing = Unit {0}
-FitsCarried (carried.LinkControl lc) = lc.flco < 64
+FitsCarried (carried.LinkControl lc) = FitsFullLc lc
 
 pub record FitsCall (c : Call) : Type 0 where
-  pub link_control : c.link_control.flco < 64
+  pub link_control : FitsFullLc c.link_control
   pub carried : All FitsCarried c.carried.items
   pub shape : IsCallShape c.shape
 
 abbrev pub FitsBurst : LoneBurst → Type 0
-FitsBurst (burst.Terminator lc) = lc.flco < 64
+FitsBurst (burst.Terminator lc) = FitsFullLc lc
 FitsBurst _ = Unit {0}
 
 -- 3. Statements.
@@ -155,7 +157,7 @@ FitsTransmission (transmission.Again a) = FitsAgain a
 FitsTransmission (transmission.ShortData s) = FitsShortData s
 FitsTransmission (transmission.Status s) = FitsStatus s
 FitsTransmission (transmission.Answer a) = FitsAnswer a
-FitsTransmission (transmission.Control csbk) = csbk.code < 64
+FitsTransmission (transmission.Control csbk) = FitsCsbk csbk
 FitsTransmission (transmission.Burst b) = FitsBurst b
 
 -- Another colour code is one, and the transmission may have it.

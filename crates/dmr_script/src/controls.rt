@@ -1,5 +1,6 @@
 //! Control signalling blocks, and data bursts by themselves, of a line.
 ghost use Rattle.std.specs.Prelude.{◌≡◌, ◌<◌, ◌≤◌, ◌^◌, length, IfOk, IfSome};
+ghost use Rattle.dmr_csbk.specs.Block.{FitsCsbk};
 ghost use Rattle.dmr_script.specs.Fits.{FitsBurst};
 
 use crate::control::LoneBurst;
@@ -25,7 +26,7 @@ fn of_addresses(code: u8, front: [u8; 2], first: u32, second: u32) -> Csbk
     requires code { code < 64 }
     requires first { first < 2 ^ 24 }
     requires second { second < 2 ^ 24 }
-    ensures code { result.code < 64 }
+    ensures fits { FitsCsbk result }
 {
     let [front_high, front_low] = front;
     let [_, first_high, first_middle, first_low] = first.to_be_bytes();
@@ -60,7 +61,7 @@ fn kind_of_rest(cursor: &mut Cursor) -> Result<u8, Refusal> {
 
 /// A preamble behind its first word: `, data to follow N, S -> [group] T`.
 fn preamble(cursor: &mut Cursor) -> Result<Csbk, Refusal>
-    ensures code { IfOk result (λ csbk. csbk.code < 64) }
+    ensures fits { IfOk result FitsCsbk }
 {
     let kind = kind_of_rest(cursor)?;
     cursor.expect(Keyword::To)?;
@@ -80,7 +81,7 @@ fn preamble(cursor: &mut Cursor) -> Result<Csbk, Refusal>
 
 /// BS activation behind its first word: `activation by S of B`.
 fn activation(cursor: &mut Cursor) -> Result<Csbk, Refusal>
-    ensures code { IfOk result (λ csbk. csbk.code < 64) }
+    ensures fits { IfOk result FitsCsbk }
 {
     cursor.expect(Keyword::Activation)?;
     cursor.expect(Keyword::By)?;
@@ -92,7 +93,7 @@ fn activation(cursor: &mut Cursor) -> Result<Csbk, Refusal>
 
 /// A block by its fields behind its first word: `N, fid N, HEX16 [, last]`.
 fn of_opcode(cursor: &mut Cursor) -> Result<Csbk, Refusal>
-    ensures code { IfOk result (λ csbk. csbk.code < 64) }
+    ensures fits { IfOk result FitsCsbk }
 {
     let code = octet(cursor, 63)?;
     cursor.expect_further(Keyword::Fid)?;
@@ -119,7 +120,7 @@ fn end_control(cursor: &mut Cursor) -> Result<(), Refusal> {
 
 /// The control signalling block that begins with this word, to the end of the line, where one does.
 pub(crate) fn begun_control(word: &[u8], cursor: &mut Cursor) -> Result<Option<Csbk>, Refusal>
-    ensures code { IfOk result (λ csbk. IfSome csbk (λ csbk. csbk.code < 64)) }
+    ensures fits { IfOk result (λ csbk. IfSome csbk FitsCsbk) }
 {
     let csbk = match word {
         b"preamble" => preamble(cursor)?,

@@ -1,5 +1,6 @@
 //! Link controls of a line.
 ghost use Rattle.std.specs.Prelude.{◌≡◌, ◌<◌, ◌≤◌, ◌^◌, length, IfOk, IfSome};
+ghost use Rattle.dmr_link.specs.FullLc.{FitsFullLc};
 
 use crate::expected::Expected;
 use crate::fault::Refusal;
@@ -17,8 +18,7 @@ const GPS_INFO: u8 = 8;
 /// The link control of the standard's feature set with this opcode and body.
 pub(crate) fn standard(flco: u8, body: [u8; 7]) -> FullLc
     requires fits { flco < 64 }
-    ensures flco { result.flco ≡ flco }
-    ensures fits { result.flco < 64 }
+    ensures fits { FitsFullLc result }
 {
     FullLc {
         protect: false,
@@ -33,7 +33,7 @@ pub(crate) fn standard(flco: u8, body: [u8; 7]) -> FullLc
 fn of_call(voice: VoiceLc) -> FullLc
     requires target { voice.target < 2 ^ 24 }
     requires source { voice.source < 2 ^ 24 }
-    ensures fits { result.flco < 64 }
+    ensures fits { FitsFullLc result }
 {
     let flco = match voice.kind {
         CallKind::Group => GROUP_CALL,
@@ -89,7 +89,7 @@ fn options(cursor: &mut Cursor) -> Result<ServiceOptions, Refusal>
 
 /// A call behind its first word: `call S -> T`, and its options.
 fn call(cursor: &mut Cursor, kind: CallKind) -> Result<FullLc, Refusal>
-    ensures fits { IfOk result (λ lc. lc.flco < 64) }
+    ensures fits { IfOk result FitsFullLc }
     ensures kept { length cursor.new.rest.now ≤ length cursor.old.rest.now }
 {
     cursor.expect(Keyword::Call)?;
@@ -107,7 +107,7 @@ fn call(cursor: &mut Cursor, kind: CallKind) -> Result<FullLc, Refusal>
 
 /// A part of a talker alias behind its first word: `alias header HEX14`, `alias block N HEX14`.
 fn talker_alias(cursor: &mut Cursor) -> Result<FullLc, Refusal>
-    ensures fits { IfOk result (λ lc. lc.flco < 64) }
+    ensures fits { IfOk result FitsFullLc }
     ensures kept { length cursor.new.rest.now ≤ length cursor.old.rest.now }
 {
     cursor.expect(Keyword::Alias)?;
@@ -121,7 +121,7 @@ fn talker_alias(cursor: &mut Cursor) -> Result<FullLc, Refusal>
 
 /// GPS info behind its first word: `info HEX14`.
 fn gps_info(cursor: &mut Cursor) -> Result<FullLc, Refusal>
-    ensures fits { IfOk result (λ lc. lc.flco < 64) }
+    ensures fits { IfOk result FitsFullLc }
     ensures kept { length cursor.new.rest.now ≤ length cursor.old.rest.now }
 {
     cursor.expect(Keyword::Info)?;
@@ -142,7 +142,7 @@ fn feature_set(cursor: &mut Cursor) -> Result<u8, Refusal>
 
 /// A link control by its fields behind its first word: `opcode N HEX14`, `opcode N, fid N, HEX14`.
 fn of_opcode(cursor: &mut Cursor) -> Result<FullLc, Refusal>
-    ensures fits { IfOk result (λ lc. lc.flco < 64) }
+    ensures fits { IfOk result FitsFullLc }
     ensures kept { length cursor.new.rest.now ≤ length cursor.old.rest.now }
 {
     cursor.expect(Keyword::Opcode)?;
@@ -163,7 +163,7 @@ pub(crate) fn begun_link_control(
     word: &[u8],
     cursor: &mut Cursor,
 ) -> Result<Option<FullLc>, Refusal>
-    ensures fits { IfOk result (λ lc. IfSome lc (λ lc. lc.flco < 64)) }
+    ensures fits { IfOk result (λ lc. IfSome lc FitsFullLc) }
     ensures kept { length cursor.new.rest.now ≤ length cursor.old.rest.now }
 {
     let lc = match word {
@@ -179,7 +179,7 @@ pub(crate) fn begun_link_control(
 
 /// A link control.
 pub(crate) fn link_control(cursor: &mut Cursor) -> Result<FullLc, Refusal>
-    ensures fits { IfOk result (λ lc. lc.flco < 64) }
+    ensures fits { IfOk result FitsFullLc }
     ensures kept { length cursor.new.rest.now ≤ length cursor.old.rest.now }
 {
     let word = cursor.word(Expected::LinkControl)?;

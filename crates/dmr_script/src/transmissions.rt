@@ -1,6 +1,7 @@
 //! Transmissions of a line.
 ghost use Rattle.std.specs.Prelude.{◌≡◌, ◌<◌, ◌≤◌, ◌^◌, length, IfOk};
 ghost use Rattle.std.specs.Prelude.{IfSome, OnOk};
+ghost use Rattle.dmr_link.specs.FullLc.{FitsFullLc};
 ghost use Rattle.dmr_script.specs.Foreign.{MayBeForeign};
 ghost use Rattle.dmr_script.specs.Fits.{FitsCall, FitsTransmission, FitsTransmit};
 
@@ -36,7 +37,7 @@ fn key(cursor: &mut Cursor) -> Result<[u8; 10], Refusal> {
 
 /// A call behind its link control, to the end of the line.
 fn call(alloc: Global, cursor: &mut Cursor, link_control: FullLc) -> Result<Call, Halt>
-    requires fits { link_control.flco < 64 }
+    requires fits { FitsFullLc link_control }
     ensures fits { IfOk result FitsCall }
 {
     let pi = cursor.takes_further(Keyword::Pi);

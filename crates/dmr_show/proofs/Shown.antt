@@ -3,7 +3,7 @@ use Rattle.std.proofs.Common.{◌≡◌, ℕ, ◌+◌, ◌*◌, ◌⊎◌, Bool,
 use Rattle.std.proofs.Common.{◌∙◌, subst, arith, inl, inr}
 use Rattle.std.proofs.lemmas.List.Sums.{sum_by-cons}
 use Rattle.std.specs.List.{sum_by}
-use Rattle.dmr_listing.proofs.Listings.{lines_placed}
+use Rattle.dmr_listing.proofs.Listings.{bursts_placed, lines_placed}
 use Rattle.dmr_listing.specs.ListingRules as recording
 use Rattle.dmr_listing.specs.OutgoingListings as outgoing
 use Rattle.dmr_listing.specs.ReceivedListings as received
@@ -17,6 +17,7 @@ use Rattle.std.specs.Prelude.{Result, Ok, Err, IfOk, IfErr, OnOk}
 use Rattle.dmr_show.specs.declared.file_listing.Shown.{Shown}
 use Rattle.dmr_show.specs.declared.file_listing.Shown.TheVariants.{NoStrip, Whole}
 use Rattle.dmr_listing.specs.declared.burst_line.BurstLine.{BurstLine}
+use Rattle.dmr_listing.specs.declared.listed_burst.ListedBurst.{ListedBurst}
 use Rattle.dmr_recording.specs.declared.fault_line.FaultLine.{FaultLine}
 use Rattle.dmr_recording.specs.declared.place.Place.{Place}
 use Rattle.dmr_recording.specs.declared.recording.Recording.{Recording}
@@ -78,20 +79,23 @@ PutsEach {L} {X} Takes filter_of held_of lines_of = (a : L) (x : X) (b : L) → 
 -- so many lines as the bursts have by their places
 lines_of_bursts : (filter : Filter) (slots : List RecordedSlot) (lines : List BurstLine) (end : recording.ListingTurn)
     → recording.Lists recording.begun slots lines end
-    → sum_by (λ (line : BurstLine). lines_at filter line.place) lines ≡ sum_by (lines_at filter) (places_of (Slots slots lines))
+    → sum_by (λ (listed : ListedBurst). lines_at filter listed.line.place) (recording.listed_bursts slots lines)
+    ≡ sum_by (lines_at filter) (places_of (Slots slots lines))
 lines_of_bursts filter slots lines end lists =
-    sum_placed filter (λ (line : BurstLine). line.place) lines
-    ∙ ap (sum_by (lines_at filter)) (lines_placed recording.begun slots lines end lists)
+    sum_placed filter (λ (listed : ListedBurst). listed.line.place) (recording.listed_bursts slots lines)
+    ∙ ap (sum_by (lines_at filter)) (bursts_placed recording.begun slots lines end lists
+    ∙ lines_placed recording.begun slots lines end lists)
 
-pub recording_shown : {L : Type 0} (old new : L) (Takes : L → BurstLine → L → Type 0) (filter_of : L → Filter)
+-- A recording that is listed whole has its lines and its last line put.
+pub recording_shown : {L : Type 0} (old new : L) (Takes : L → ListedBurst → L → Type 0) (filter_of : L → Filter)
     (held_of : L → Option (List ℕ)) (of : Recording) (summary : RecordingSummary) (slots : List RecordedSlot)
     (end : recording.ListingTurn) (a b : Option (List ℕ))
     → recording.IsListed Takes of slots [] end a b old new → 2 * summary.frames ≡ length slots → summary.bursts ≡ end.bursts
-    → PutsEach Takes filter_of held_of (λ filter line. lines_at filter line.place)
+    → PutsEach Takes filter_of held_of (λ filter listed. lines_at filter listed.line.place)
     → IsRestShown form.Listing (filter_of old) (format_of of) (OfRecording summary) 0 0 a b (held_of old) (held_of new)
 recording_shown old new Takes filter_of held_of of summary slots end a b listed frames bursts each =
-    let put = printed_in_turn old new listed.lines Takes filter_of held_of (λ filter line. lines_at filter line.place) each
-    listed.given in
+    let put = printed_in_turn old new (recording.listed_bursts slots listed.lines) Takes filter_of held_of
+    (λ filter (b : ListedBurst). lines_at filter b.line.place) each listed.given in
     record {
       records = Slots slots listed.lines;
       read = read_as of slots listed.lines summary a b (record { end = end; read = listed.read; frames = frames; bursts = bursts });
@@ -100,14 +104,15 @@ recording_shown old new Takes filter_of held_of of summary slots end a b listed 
       put = puts_as _ _ _ _ (lines_of_bursts (filter_of old) slots listed.lines end listed.read.listed ∙ around_none _) put;
     }
 
-pub recording_shown_up_to_fault : {L : Type 0} (old new : L) (Takes : L → BurstLine → L → Type 0) (filter_of : L → Filter)
+-- A recording that is listed up to a fault has the lines before it put.
+pub recording_shown_up_to_fault : {L : Type 0} (old new : L) (Takes : L → ListedBurst → L → Type 0) (filter_of : L → Filter)
     (held_of : L → Option (List ℕ)) (of : Recording) (fault : FaultLine) (a b : Option (List ℕ))
     → recording.IsListedUpToFault Takes of fault a b old new
-    → PutsEach Takes filter_of held_of (λ filter line. lines_at filter line.place)
+    → PutsEach Takes filter_of held_of (λ filter listed. lines_at filter listed.line.place)
     → IsRestShownUpToFault form.Listing (filter_of old) (format_of of) fault 0 a b (held_of old) (held_of new)
 recording_shown_up_to_fault old new Takes filter_of held_of of fault a b listed each =
-    let put = printed_in_turn old new listed.lines Takes filter_of held_of (λ filter line. lines_at filter line.place) each
-    listed.given in
+    let put = printed_in_turn old new (recording.listed_bursts listed.slots listed.lines) Takes filter_of held_of
+    (λ filter (b : ListedBurst). lines_at filter b.line.place) each listed.given in
     record {
       records = Slots listed.slots listed.lines;
       read = fault_as of listed.slots listed.lines fault a b listed.read;

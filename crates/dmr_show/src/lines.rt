@@ -16,11 +16,10 @@ use crate::written::Written;
 use dmr_json::{BurstObject, FileObject, ListEnd, OutgoingObject, ReceivedObject, RecordingEnd};
 use dmr_lines::line_of;
 use dmr_listing::{
-    BurstLine, BurstLines, Frames, OutgoingLine, OutgoingLines, ReceivedLine, ReceivedLines,
-    RecordingSummary, Strip, StripLines,
+    Frames, ListedBurst, OutgoingLine, ReceivedLine, ReceivedRecord, RecordingSummary, Strip, Taker,
 };
-use dmr_record::{DeviceFault, FileFormat, Outgoing, Received, Sink};
-use dmr_recording::{Place, RecordedBurst};
+use dmr_record::{DeviceFault, FileFormat, Outgoing, Sink};
+use dmr_recording::Place;
 use std::fmt::{Display, Write};
 
 /// Prints the lines of a file to a sink, each in a notation, as far as a filter lets them pass.
@@ -221,18 +220,19 @@ impl<'a, K: Sink> Lines<'a, K> {
     }
 }
 
-impl<K: Sink> BurstLines for Lines<'_, K> {
-    ghost Takes = { λ old line new. (new.filter ≡ old.filter) × (new.notation ≡ old.notation)
-        × PutsLines (lines_at old.filter line.place)
+impl<K: Sink> Taker<ListedBurst> for Lines<'_, K> {
+    ghost Takes = { λ old listed new. (new.filter ≡ old.filter) × (new.notation ≡ old.notation)
+        × PutsLines (lines_at old.filter listed.line.place)
         (held_by (K.held old.sink.now) old.waiting) (held_by (K.held new.sink.now) new.waiting) };
 
-    ghost Refuses = { λ old line new. (new.filter ≡ old.filter) × (new.notation ≡ old.notation) };
+    ghost Refuses = { λ old listed new. (new.filter ≡ old.filter) × (new.notation ≡ old.notation) };
 
     ghost has_failed = { λ lines. K.has_failed lines.sink.now };
 
     ghost kept = { λ lines. lines.sink.ghost_name };
 
-    fn put(&mut self, burst: &RecordedBurst, line: &BurstLine) -> Result<(), DeviceFault> {
+    fn put(&mut self, listed: &ListedBurst) -> Result<(), DeviceFault> {
+        let ListedBurst { burst, line } = listed;
         match self.notation {
             Notation::Text => self.print_at(line.place, line),
             Notation::Json => self.print_at(line.place, &BurstObject { burst, line }),
@@ -240,7 +240,7 @@ impl<K: Sink> BurstLines for Lines<'_, K> {
     }
 }
 
-impl<K: Sink> OutgoingLines for Lines<'_, K> {
+impl<K: Sink> Taker<Outgoing> for Lines<'_, K> {
     ghost Takes = { λ old outgoing new. (new.filter ≡ old.filter) × (new.notation ≡ old.notation)
         × PutsLines (lines_at old.filter (place_of_outgoing outgoing))
         (held_by (K.held old.sink.now) old.waiting) (held_by (K.held new.sink.now) new.waiting) };
@@ -264,7 +264,7 @@ impl<K: Sink> OutgoingLines for Lines<'_, K> {
     }
 }
 
-impl<K: Sink> ReceivedLines for Lines<'_, K> {
+impl<'r, K: Sink> Taker<ReceivedRecord<'r>> for Lines<'_, K> {
     ghost Takes = { λ old receipt new. (new.filter ≡ old.filter) × (new.notation ≡ old.notation)
         × PutsLines (lines_at old.filter (place_of_receipt receipt))
         (held_by (K.held old.sink.now) old.waiting) (held_by (K.held new.sink.now) new.waiting) };
@@ -275,20 +275,21 @@ impl<K: Sink> ReceivedLines for Lines<'_, K> {
 
     ghost kept = { λ lines. lines.sink.ghost_name };
 
-    fn put(&mut self, received: Received, octets: &[u8]) -> Result<(), DeviceFault> {
+    fn put(&mut self, received: &ReceivedRecord<'r>) -> Result<(), DeviceFault> {
+        let line = received.line();
+        let ReceivedLine { record, octets } = line;
         let place = Place {
-            frame: received.frame,
-            slot: received.slot,
+            frame: record.frame,
+            slot: record.slot,
         };
-        let record = received;
         match self.notation {
-            Notation::Text => self.print_at(place, &ReceivedLine { record, octets }),
+            Notation::Text => self.print_at(place, &line),
             Notation::Json => self.print_at(place, &ReceivedObject { record, octets }),
         }
     }
 }
 
-impl<K: Sink> StripLines for Lines<'_, K> {
+impl<K: Sink> Taker<Strip> for Lines<'_, K> {
     ghost Takes = { λ old strip new. (new.filter ≡ old.filter) × (new.notation ≡ old.notation)
         × PutsLines (lines_of_strip old.filter strip)
         (held_by (K.held old.sink.now) old.waiting) (held_by (K.held new.sink.now) new.waiting) };
@@ -299,7 +300,7 @@ impl<K: Sink> StripLines for Lines<'_, K> {
 
     ghost kept = { λ lines. lines.sink.ghost_name };
 
-    fn put_strip(&mut self, strip: &Strip) -> Result<(), DeviceFault> {
+    fn put(&mut self, strip: &Strip) -> Result<(), DeviceFault> {
         self.print_slot(strip, 1)?;
         self.print_slot(strip, 2)
     }

@@ -3,13 +3,12 @@ use dmr_burst::{Emb, Side, lcss};
 use dmr_csbk::Csbk;
 use dmr_link::FullLc;
 use dmr_listing::{
-    BurstCounts, BurstLine, BurstLines, Contents, Frames, Mark, OutgoingLine, ReceivedLine,
-    RecordingSummary, SlotView, Strip, StripLine, StripLines, VoicePlace, VoicePlaces,
-    list_recording, strip_recording,
+    BurstCounts, Contents, Frames, ListedBurst, Mark, OutgoingLine, ReceivedLine, RecordingSummary,
+    SlotView, Strip, StripLine, Taker, VoicePlace, VoicePlaces, list_recording, strip_recording,
 };
 use dmr_reading::Reading;
 use dmr_record::{DeviceFault, FromRead, Received, ReceivedKind, RecordFault, read_outgoing};
-use dmr_recording::{FaultLine, Place, RecordedBurst, Recording, Stop};
+use dmr_recording::{FaultLine, Place, Recording, Stop};
 use hex::FromHex;
 use std::alloc::AllocError;
 use std::fmt::Write;
@@ -291,19 +290,20 @@ struct TakenLines {
     is_failed: bool,
 }
 
-impl BurstLines for TakenLines {
+impl Taker<ListedBurst> for TakenLines {
     ghost use Rattle.std.specs.Prelude.{◌≡◌, ◌∷◌, ◌++◌, []};
 
     // The places grow by that of the line.
-    ghost Takes = { λ old line new. new.places.items ≡ old.places.items ++ line.place ∷ [] };
+    ghost Takes = { λ old listed new. new.places.items ≡ old.places.items ++ listed.line.place ∷ [] };
 
-    ghost Refuses = { λ old line new. new.places.items ≡ old.places.items };
+    ghost Refuses = { λ old listed new. new.places.items ≡ old.places.items };
 
     ghost has_failed = { λ taken. taken.is_failed };
 
     ghost kept = { λ taken. 0 };
 
-    fn put(&mut self, _burst: &RecordedBurst, line: &BurstLine) -> Result<(), DeviceFault> {
+    fn put(&mut self, listed: &ListedBurst) -> Result<(), DeviceFault> {
+        let line = &listed.line;
         if self.room == 0
             || writeln!(self.text, "{line}").is_err()
             || self.places.push(line.place).is_err()
@@ -419,7 +419,7 @@ impl TakenStrips {
     }
 }
 
-impl StripLines for TakenStrips {
+impl Taker<Strip> for TakenStrips {
     ghost use Rattle.std.specs.Prelude.{◌≡◌, ◌+◌};
 
     // There is room for a strip less.
@@ -431,7 +431,7 @@ impl StripLines for TakenStrips {
 
     ghost kept = { λ taken. 0 };
 
-    fn put_strip(&mut self, strip: &Strip) -> Result<(), DeviceFault> {
+    fn put(&mut self, strip: &Strip) -> Result<(), DeviceFault> {
         if self.room == 0
             || self.take(strip.line(1)).is_err()
             || self.take(strip.line(2)).is_err()

@@ -20,6 +20,7 @@ use Rattle.dmr_station.specs.DownlinkRules.{Makes, slots_of, slots_in, frames_in
 use Rattle.dmr_record.specs.Outgoing.{Sending}
 use Rattle.dmr_record.specs.Received.{Receipt}
 use Rattle.dmr_gateway.specs.Runs.{Happening}
+use Rattle.dmr_record.specs.Uplink.{UplinkSlots}
 use Rattle.dmr_station.specs.GatewayMeaning.{Given, AreGiven}
 use Rattle.dmr_station.proofs.Frames.{slot_in, gates_of, claims_in}
 use Rattle.dmr_station.specs.StationRules.{Settings, Counts, marked}
@@ -170,7 +171,7 @@ slot_by_slot colour hang back past (m ∷ messages) (a ∷ first) (b ∷ second)
     (slot_by_slot colour hang (frame ∷ back) ((a ∷ b ∷ []) ∷ past) messages first second one two bursts v.1 u.1 (omega (arith, e)))
 
 -- ---- what the rules make
-pub clean_made : (s : Settings) (offers : List (List Sending)) (frames : List (List (Option (List ℕ))))
+pub clean_made : (s : Settings) (offers : List (List Sending)) (frames : List UplinkSlots)
     (sending : List (List (Option DownlinkBurst))) (receipts : List Receipt) (counts : Counts)
     → Makes s offers frames sending receipts counts
     → AreCleanSlots s.colour (bursts_in (slots_of sending))

@@ -9,6 +9,7 @@ use Rattle.dmr_station.specs.DownlinkRules.{is_repeated, repeated_count, slots_o
 use Rattle.dmr_gateway.specs.GatewayRules.{Gate, refusal}
 use Rattle.dmr_gateway.specs.GatewayRules as gateway
 use Rattle.dmr_gateway.specs.declared.received.Received.{Received}
+use Rattle.dmr_record.specs.Uplink.{UplinkSlots}
 use Rattle.dmr_record.specs.declared.outgoing.Outgoing.{Outgoing}
 use Rattle.dmr_station.specs.DownlinkRules.{Makes}
 use Rattle.dmr_station.specs.StationRules.{StationMemory, Counts, marked_slots, IsAsked}
@@ -94,7 +95,7 @@ offering before (o ∷ os) ready u =
     (subst (λ (s : State). Offering s os ready) u.1.state (offering u.0 os ready u.2))
 
 -- ---- all frames together
-record Together (before : State) (offers : List (List Outgoing)) (frames : List (List (Option (List ℕ))))
+record Together (before : State) (offers : List (List Outgoing)) (frames : List UplinkSlots)
     (records : List (List (Option (List ℕ × List ℕ)))) (received : List (List Received)) (after : State) : Type 0 where
   sending : List (List (Option DownlinkBurst))
   givens : List FrameGiven
@@ -140,7 +141,7 @@ told_received : (next : State) (asked : StationMemory) → next.memory ≡ recor
     → received_of next.memory.gate ≡ received_of asked.gate
 told_received next asked e = ap (λ (m : StationMemory). received_of m.gate) e
 
-together : (before : State) (offers : List (List Outgoing)) (frames : List (List (Option (List ℕ))))
+together : (before : State) (offers : List (List Outgoing)) (frames : List UplinkSlots)
     (records : List (List (Option (List ℕ × List ℕ)))) (received : List (List Received)) (after : State)
     → AreExchanged before offers frames records received after → Together before offers frames records received after
 together before [] [] [] [] after u = record {
@@ -197,7 +198,7 @@ offer_count [] = 0
 offer_count (offered ∷ offers) = length offered + offer_count offers
 
 -- a station counts all datagrams that it is offered
-pub all_offered : (before : State) (offers : List (List Outgoing)) (frames : List (List (Option (List ℕ))))
+pub all_offered : (before : State) (offers : List (List Outgoing)) (frames : List UplinkSlots)
     (records : List (List (Option (List ℕ × List ℕ)))) (received : List (List Received)) (after : State)
     → AreExchanged before offers frames records received after → after.offered ≡ before.offered + offer_count offers
 all_offered before [] [] [] [] after u = let same = ap (λ (s : State). s.offered) u in omega arith
@@ -239,7 +240,7 @@ sends_by_the_rules s read offers frames records received after pairs slots u =
     from_nothing c = same_counts (added nothing_counted c) c (omega arith) (omega arith) (omega arith) (omega arith) (omega arith)
 
 -- ---- one part after another
-pub exchanged-append : (a b c : State) (os more : List (List Outgoing)) (xs ys : List (List (Option (List ℕ))))
+pub exchanged-append : (a b c : State) (os more : List (List Outgoing)) (xs ys : List UplinkSlots)
     (r q : List (List (Option (List ℕ × List ℕ)))) (g h : List (List Received))
     → AreExchanged a os xs r g b → AreExchanged b more ys q h c → AreExchanged a (os ++ more) (xs ++ ys) (r ++ q) (g ++ h) c
 exchanged-append a b c [] more [] ys [] q [] h u v = subst (λ (s : State). AreExchanged s more ys q h c) u v

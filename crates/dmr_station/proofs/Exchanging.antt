@@ -21,6 +21,7 @@ use Rattle.dmr_gateway.proofs.BothSlots.{frames_as_meant}
 use Rattle.dmr_station.specs.DownlinkRules.{slots_in, frames_in, marked_frames}
 use Rattle.dmr_station.specs.GatewayMeaning.{AreForSlots}
 use Rattle.dmr_record.specs.Outgoing.{AreReadFrom}
+use Rattle.dmr_record.specs.Uplink.{UplinkSlots}
 use Rattle.dmr_station.specs.GatewayMeaning.{record_fault, Given, AreGiven, Happens, IsGiven}
 use Rattle.dmr_station.proofs.Frames.{gates_of, claims_in}
 use Rattle.dmr_station.specs.StationRules.{Settings, StationMemory, IsAsked, is_free}
@@ -181,7 +182,7 @@ givens_of (a ∷ first) (b ∷ second) = given_in a b ∷ givens_of first second
 
 -- What frames come to, in both slots, after those that happened before.
 pub record Exchanged (s : Settings) (m : StationMemory) (back_1 back_2 : List Happening) (offers : List (List Sending))
-    (frames : List (List (Option (List ℕ)))) (sending : List (List (Option DownlinkBurst)))
+    (frames : List UplinkSlots) (sending : List (List (Option DownlinkBurst)))
     (givens : List FrameGiven) : Type 0 where
   pub first : List SlotOut
   pub second : List SlotOut
@@ -224,7 +225,7 @@ channel_after m f x asked a one two e g =
 
 -- From where a gateway stands, frames come to what the lines, the gateway and the channel give in both slots.
 pub exchanged : (s : Settings) (back_1 back_2 : List Happening) (m : StationMemory) (oss : List (List Outgoing))
-    (offers : List (List Sending)) (frames : List (List (Option (List ℕ)))) (sending : List (List (Option DownlinkBurst)))
+    (offers : List (List Sending)) (frames : List UplinkSlots) (sending : List (List (Option DownlinkBurst)))
     (givens : List FrameGiven) (after : StationMemory) → ArePassed m oss frames sending givens after
     → Stands s.colour s.llid s.queue back_1 back_2 m.gate → AllZip AreReadFrom oss offers → AllByRecursion AreForSlots offers
     → Exchanged s m back_1 back_2 offers frames sending givens

@@ -17,7 +17,7 @@ use Rattle.dmr_gateway.proofs.Whole.{IsWholeGate, new_whole, offer_somehow, aske
 use Rattle.dmr_link.specs.declared.full_lc.FullLc.{FullLc}
 use Rattle.dmr_record.specs.Outgoing.{Sending, AreReadFrom}
 use Rattle.dmr_record.specs.Received.{Receipt}
-use Rattle.dmr_record.specs.Uplink.{IsFrame, IsSilenceOrBurst}
+use Rattle.dmr_record.specs.Uplink.{IsFrame, IsSilenceOrBurst, UplinkSlots}
 use Rattle.dmr_record.specs.declared.outgoing.Outgoing.{Outgoing}
 use Rattle.dmr_slot.specs.ChannelMeaning.{Claim, Traffic, CallHang, Free, claims_of, slot_of, has_traffic}
 use Rattle.dmr_slot.specs.ChannelRules.{frame_out, after_frame}
@@ -248,11 +248,11 @@ exchanged_somehow state frame own is =
     )
 
 -- Frame after frame, with as many lists of datagrams as frames.
-pub record IsTranscript (before : State) (offers : List (List Outgoing)) (frames : List (List (Option (List ℕ))))
+pub record IsTranscript (before : State) (offers : List (List Outgoing)) (frames : List UplinkSlots)
     (records : List (List (Option (List ℕ × List ℕ)))) (received : List (List Received)) (after : State) : Type 0 where
   pub are : AreExchanged before offers frames records received after
 
-pub all_exchanged : (state : State) (offers : List (List Outgoing)) (frames : List (List (Option (List ℕ))))
+pub all_exchanged : (state : State) (offers : List (List Outgoing)) (frames : List UplinkSlots)
     → length offers ≡ length frames → IsWholeStation state.memory → AllByRecursion HaveSmallOctets offers
     → AllByRecursion IsFrame frames
     → (records : List (List (Option (List ℕ × List ℕ)))) × (received : List (List Received)) × (after : State)
@@ -353,14 +353,14 @@ frames_offered frame zero sendings = refl
 frames_offered frame (suc count) sendings = ap suc (frames_offered (frame + 1) count sendings)
 
 -- The frames that are handed over for a recording are frames too.
-with_silence : (frames : List (List (Option (List ℕ)))) → AllByRecursion IsFrame frames
+with_silence : (frames : List UplinkSlots) → AllByRecursion IsFrame frames
     → AllByRecursion IsFrame (frames ++ replicate 5 silent_frame)
 with_silence [] are =
     let silent : IsFrame silent_frame = (refl, (tt, (tt, tt))) in (silent, (silent, (silent, (silent, (silent, tt)))))
 with_silence (frame ∷ frames) are = (are.0, with_silence frames are.1)
 
 -- There is what is sent for a recording, with the datagrams of the outgoing file.
-pub recording_is_sent : (s : Settings) (sendings : List Sending) (frames : List (List (Option (List ℕ)))) → AreFitSettings s
+pub recording_is_sent : (s : Settings) (sendings : List Sending) (frames : List UplinkSlots) → AreFitSettings s
     → AreOfOctets sendings → AreForSlots sendings → AllByRecursion IsFrame frames
     → (repeated : ℕ) × (counts : Counts) × (receipts : List Receipt) × (sent : List (Option (List ℕ × List ℕ)))
     × IsSentFor s (by_frame 0 (length (handed_frames frames)) sendings) (handed_frames frames) repeated counts receipts sent

@@ -4,6 +4,7 @@ use Rattle.dmr_arq.specs.declared.sender_state.Outcome.{Outcome}
 use Rattle.dmr_arq.specs.declared.sender_state.Outcome.TheVariants.{Delivered, Sent, GivenUp}
 use Rattle.dmr_gateway.specs.GatewayRules.{Gate, AreOffered}
 use Rattle.dmr_gateway.specs.declared.received.Received.{Received}
+use Rattle.dmr_record.specs.Uplink.{UplinkSlots}
 use Rattle.dmr_record.specs.declared.outgoing.Outgoing.{Outgoing}
 use Rattle.dmr_station.specs.Sent.{DownlinkBurst}
 use Rattle.dmr_station.specs.StationRules.{StationMemory, Counts, nothing_counted, outcome_count, IsAsked, received_of}
@@ -63,7 +64,7 @@ pub record IsPassed (before : StationMemory) (offered : List Outgoing) (frame : 
 
 -- Each frame goes by what the frames before it left: these datagrams are offered, this goes out, and this is given; and what is
 -- remembered behind the last of them.
-abbrev pub ArePassed : StationMemory → List (List Outgoing) → List (List (Option (List ℕ))) → List (List (Option DownlinkBurst)) →
+abbrev pub ArePassed : StationMemory → List (List Outgoing) → List UplinkSlots → List (List (Option DownlinkBurst)) →
     List FrameGiven → StationMemory → Type 0
 ArePassed m [] [] [] [] after = after ≡ m
 ArePassed m (offered ∷ offers) (frame ∷ frames) (slots ∷ sending) (given ∷ givens) after =

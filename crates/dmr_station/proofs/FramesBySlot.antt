@@ -30,6 +30,7 @@ use Rattle.dmr_record.specs.Outgoing.{Sending}
 use Rattle.dmr_record.specs.declared.outgoing.Outgoing.{Outgoing}
 use Rattle.dmr_station.specs.GatewayMeaning.{AreForSlots, Given, AreGiven}
 use Rattle.dmr_record.specs.Outgoing.{AreReadFrom}
+use Rattle.dmr_record.specs.Uplink.{UplinkSlots}
 use Rattle.dmr_station.proofs.Frames.{slot_in, gates_of, claims_in}
 use Rattle.dmr_station.specs.StationRules.{Settings, StationMemory, start}
 use Rattle.dmr_station.proofs.FrameAfterFrame.{FrameGiven, ArePassed, all_counted}
@@ -66,7 +67,7 @@ pushed_line s slots outs after pushed =
     record { after = after; pushed = pushed; looks_back = front_of_any_line s.colour s.call_hang slots outs after pushed }
 
 -- what frames come to from the start on is what the rules make of them
-pub makes : (s : Settings) (oss : List (List Outgoing)) (offers : List (List Sending)) (frames : List (List (Option (List ℕ))))
+pub makes : (s : Settings) (oss : List (List Outgoing)) (offers : List (List Sending)) (frames : List UplinkSlots)
     (sending : List (List (Option DownlinkBurst))) (givens : List FrameGiven) (after : StationMemory)
     → ArePassed (start s) oss frames sending givens after → AllZip AreReadFrom oss offers → AllByRecursion AreForSlots offers
     → Makes s offers frames sending (receipts_from 0 (map (λ (g : FrameGiven). g.received) givens)) (all_counted givens)
@@ -104,15 +105,15 @@ makes s oss offers frames sending givens after u pairs slots =
     }
 
 -- ---- from slots to what was sent
-handed_in_first : (frames : List (List (Option (List ℕ)))) → slots_in 0 (handed_frames frames) ≡ handed_slots (slots_in 0 frames)
+handed_in_first : (frames : List UplinkSlots) → slots_in 0 (handed_frames frames) ≡ handed_slots (slots_in 0 frames)
 handed_in_first frames = ap (λ (l : List (Option (List ℕ))). None ∷ l) (map-append (slot_in 0) frames (replicate 5 silent_frame))
 
-handed_in_second : (frames : List (List (Option (List ℕ)))) → slots_in 1 (handed_frames frames) ≡ handed_slots (slots_in 1 frames)
+handed_in_second : (frames : List UplinkSlots) → slots_in 1 (handed_frames frames) ≡ handed_slots (slots_in 1 frames)
 handed_in_second frames = ap (λ (l : List (Option (List ℕ))). None ∷ l) (map-append (slot_in 1) frames (replicate 5 silent_frame))
 
 -- in one slot, of which this was handed over
 module _ (s : Settings) (lead : ℕ) (ts : List (Transmission
-    × ℕ)) (number : ℕ) (frames : List (List (Option (List ℕ)))) (outs : List SlotOut)
+    × ℕ)) (number : ℕ) (frames : List UplinkSlots) (outs : List SlotOut)
     (well : IsWellFormed s.colour ts) (recorded : IsDamagedRecordingOf s.colour (sent_list s.colour lead ts)
     (slots_in number frames))
     (same : slots_in number (handed_frames frames) ≡ handed_slots (slots_in number frames)) where
@@ -123,7 +124,7 @@ module _ (s : Settings) (lead : ℕ) (ts : List (Transmission
       recorded
       (subst (λ (l : List (Option (List ℕ))). ArePushed (silent_line s.colour s.call_hang) l outs line.after) same line.pushed)
 
-  front_of_meaning : (xs ys : List (List (Option (List ℕ)))) → handed_frames frames ≡ xs ++ ys
+  front_of_meaning : (xs ys : List UplinkSlots) → handed_frames frames ≡ xs ++ ys
       → IsPushedLine s (slots_in number xs) outs
       → FrontOf s (sent_list s.colour lead ts) (slots_in number frames) (length xs) outs
   front_of_meaning xs ys split line =
@@ -137,7 +138,7 @@ module _ (s : Settings) (lead : ℕ) (ts : List (Transmission
 
 -- in both slots
 module _ (s : Settings) (lead : ℕ) (ts : List (Transmission
-    × ℕ)) (frames : List (List (Option (List ℕ)))) (outs : List SlotOut) (well : IsWellFormed s.colour ts) where
+    × ℕ)) (frames : List UplinkSlots) (outs : List SlotOut) (well : IsWellFormed s.colour ts) where
   first_of_meaning : IsDamagedRecordingOf s.colour (sent_list s.colour lead ts) (slots_in 0 frames)
       → IsPushedLine s (slots_in 0 (handed_frames frames)) outs
       → LineOf s (sent_list s.colour lead ts) (slots_in 0 frames) outs
@@ -148,14 +149,14 @@ module _ (s : Settings) (lead : ℕ) (ts : List (Transmission
       → LineOf s (sent_list s.colour lead ts) (slots_in 1 frames) outs
   second_of_meaning recorded pushed = whole_of_meaning s lead ts 1 frames outs well recorded (handed_in_second frames) pushed
 
-  first_front : (xs ys : List (List (Option (List ℕ))))
+  first_front : (xs ys : List UplinkSlots)
       → IsDamagedRecordingOf s.colour (sent_list s.colour lead ts) (slots_in 0 frames) → handed_frames frames ≡ xs ++ ys
       → IsPushedLine s (slots_in 0 xs) outs → FrontOf s (sent_list s.colour lead ts) (slots_in 0 frames)
       (length xs) outs
   first_front xs ys recorded split pushed = front_of_meaning s lead ts 0 frames outs well recorded
       (handed_in_first frames) xs ys split pushed
 
-  second_front : (xs ys : List (List (Option (List ℕ))))
+  second_front : (xs ys : List UplinkSlots)
       → IsDamagedRecordingOf s.colour (sent_list s.colour lead ts) (slots_in 1 frames) → handed_frames frames ≡ xs ++ ys
       → IsPushedLine s (slots_in 1 xs) outs → FrontOf s (sent_list s.colour lead ts) (slots_in 1 frames)
       (length xs) outs

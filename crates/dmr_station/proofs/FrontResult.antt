@@ -10,6 +10,7 @@ use Rattle.dmr_burst.specs.declared.burst.Burst.{Burst}
 use Rattle.dmr_gateway.specs.Runs.{Happening}
 use Rattle.dmr_record.specs.Outgoing.{Sending}
 use Rattle.dmr_record.specs.Received.{Receipt}
+use Rattle.dmr_record.specs.Uplink.{UplinkSlots}
 use Rattle.dmr_slot.proofs.Unique.{one_slot_out}
 use Rattle.dmr_slot.specs.Bursts.{IsSlotOut, AreSent}
 use Rattle.dmr_slot.specs.ChannelMeaning.{Claim, ChannelOut, claims_of, has_traffic, slot_of, channel_frames}
@@ -214,7 +215,7 @@ givens_front s slot count offers few outs whole givens all same_offers same_outs
     (cut_givens s slot count [] offers whole all v)))
 
 -- what the first so many frames send is a front of what all of them send, and so are the records of what is received
-pub front_of_the_downlink : (s : Settings) (first second : List Cell) (frames : List (List (Option (List ℕ))))
+pub front_of_the_downlink : (s : Settings) (first second : List Cell) (frames : List UplinkSlots)
     (sendings : List Sending) (count total : ℕ) (part sending : List (List (Option DownlinkBurst)))
     (part_receipts receipts : List Receipt) (part_counts counts : Counts)
     → IsFrontOfTheDownlink s first second frames count (by_frame 0 count sendings) part part_receipts part_counts

@@ -93,7 +93,7 @@ one_gateway s offers first second gates gates' receipts receipts' counts counts'
     (cc, cc, cc)
 
 -- for what is meant one thing alone goes out, and one thing alone is received and counted
-pub one_downlink_of_what_is_meant : (s : Settings) (first second : List Cell) (frames : List (List (Option (List ℕ))))
+pub one_downlink_of_what_is_meant : (s : Settings) (first second : List Cell) (frames : List UplinkSlots)
     (offers : List (List Sending)) (sending sending' : List (List (Option DownlinkBurst))) (receipts receipts' : List Receipt)
     (counts counts' : Counts) → IsDownlinkOfWhatIsMeant s first second frames offers sending receipts counts
     → IsDownlinkOfWhatIsMeant s first second frames offers sending' receipts' counts'

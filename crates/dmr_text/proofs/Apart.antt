@@ -55,9 +55,11 @@ no_number c n word letter e =
     let first = small.0 in
     omega (arith, first, letter)
 
+-- The word for frames is no number.
 pub frames_no_number : (n : ℕ) → codes "frames" ≡ decimal n → ⊥
 frames_no_number n e = no_number 102 n (codes "rames") (omega arith) e
 
+-- The word for records is no number.
 pub records_no_number : (n : ℕ) → codes "records" ≡ decimal n → ⊥
 records_no_number n e = no_number 114 n (codes "ecords") (omega arith) e
 
@@ -66,12 +68,15 @@ abbrev letter : List (List ℕ) → ℕ
 letter ((c ∷ word) ∷ words) = c
 letter _ = 0
 
+-- A line begins with one of the two words alone.
 pub frames_no_records : (words : List (List ℕ)) → BeginsWith (codes "frames") words → BeginsWith (codes "records") words → ⊥
 frames_no_records words (rest, e) (rest', e') = let same : 102 ≡ 114 = ap letter (sym e ∙ e') in omega (arith, same)
 
+-- Numbers with the same digits are the same.
 pub one : (m n : ℕ) → m < 2 ^ 32 → n < 2 ^ 32 → decimal m ≡ decimal n → m ≡ n
 one m n few few' e = decimal_injective m n (omega arith) (omega arith) e
 
+-- A slot is a number of 32 bits.
 pub slot_few : (slot : ℕ) → IsSlot slot → slot < 2 ^ 32
 slot_few slot (inl e) = omega (arith, e)
 slot_few slot (inr e) = omega (arith, e)
@@ -82,6 +87,7 @@ pub record IsSame (frame slot frame' slot' : ℕ) (rest rest' : List (List ℕ))
   pub of_slot : slot ≡ slot'
   pub of_rest : rest ≡ rest'
 
+-- A line has one place.
 pub places_same : (words rest rest' : List (List ℕ)) (frame slot frame' slot' : ℕ) → HasPlace words frame slot rest
     → words ≡ decimal frame' ∷ decimal slot' ∷ rest' → frame' < 2 ^ 32 → slot' < 2 ^ 32 → IsSame frame slot frame' slot' rest rest'
 places_same words rest rest' frame slot frame' slot' has e few few' =

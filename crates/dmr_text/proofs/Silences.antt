@@ -18,6 +18,7 @@ use Rattle.dmr_recording.specs.declared.recording.Recording.TheVariants.{Uplink,
 abbrev pub silent : ℕ → List RecordedSlot
 silent n = replicate n None
 
+-- the octets of so many silent slots
 abbrev pub silent_octets : Recording → ℕ → List ℕ
 silent_octets of n = flat_map (spelling of) (silent n)
 

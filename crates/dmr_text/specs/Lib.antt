@@ -1,4 +1,5 @@
 pub mod Behind
+pub mod CountTexts
 pub mod Endings
 pub mod Exports
 pub mod Files

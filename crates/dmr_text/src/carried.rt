@@ -1,5 +1,6 @@
 //! What was carried.
-ghost use Rattle.std.specs.Prelude.{◌≡◌};
+ghost use Rattle.std.specs.Prelude.{◌≡◌, Some};
+ghost use Rattle.dmr_text.specs.CountTexts.{carried_text};
 
 use std::fmt;
 
@@ -13,6 +14,8 @@ pub enum Carried {
 }
 
 impl fmt::Display for Carried {
+    ghost output = { λ carried. Some (carried_text carried) };
+
     /// `frames 7 records 14` of a recording, `records 1` of a list.
     fn fmt<W: fmt::Write>(&self, f: &mut fmt::Formatter<W>) -> fmt::Result {
         match *self {

@@ -9,7 +9,7 @@ ghost use Rattle.dmr_text.specs.Files.File.{Slots};
 
 use crate::line::Line;
 use crate::lines::make_burst;
-use dmr_record::{Sink, Source, put};
+use dmr_record::{NextSlot, Sink, Source, put};
 use dmr_recording::{
     FaultLine, HEAD_OCTETS, Place, Recording, Stop, read_recording, record_octets,
 };
@@ -48,8 +48,8 @@ pub(crate) fn export_slots<S: Source, K: Sink>(
     loop {
         let place = Place::of_slot(count);
         let slot = match read_recording(source, recording, count) {
-            Ok(Some(slot)) => slot,
-            Ok(None) => return Ok(count / 2),
+            Ok(NextSlot::Slot(slot)) => slot,
+            Ok(NextSlot::End) => return Ok(count / 2),
             Err(fault) => {
                 let place = Some(place);
                 return Err(Stop::File(FaultLine {

@@ -40,10 +40,12 @@ IsWholeContent (VoiceA vocoder) = length vocoder ≡ 216
 IsWholeContent (VoiceBToE place pi vocoder lc) = (length vocoder ≡ 216) × IsWholeLc lc
 IsWholeContent (VoiceF pi field vocoder) = (field < 2 ^ 32) × (length vocoder ≡ 216)
 
+-- A link control that a role has is whole.
 abbrev pub IsWholeRole : Role → Type 0
 IsWholeRole (Call lc) = IsWholeLc lc
 IsWholeRole Other = Unit {0}
 
+-- What is repeated is whole, its content and its role.
 abbrev pub IsWholeSaid : Said → Type 0
 IsWholeSaid Nothing = Unit {0}
 IsWholeSaid (Repeat content role) = IsWholeContent content × IsWholeRole role

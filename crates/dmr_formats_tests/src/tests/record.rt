@@ -148,9 +148,9 @@ fn frames(rt: HostRuntime) {
 #[test]
 fn uplink_slots(rt: HostRuntime) {
     let mut source = FromRead::new(&b"\0\x01abcdefghijklmnopqrstuvwxyz0123456\0"[..]);
-    assert!(rt; read_uplink_slot(&mut source, 0) == Ok(Some(None)));
-    assert!(rt; read_uplink_slot(&mut source, 1) == Ok(Some(Some(BURST))));
-    assert!(rt; read_uplink_slot(&mut source, 2) == Ok(Some(None)));
+    assert!(rt; read_uplink_slot(&mut source, 0) == Ok(NextSlot::Slot(None)));
+    assert!(rt; read_uplink_slot(&mut source, 1) == Ok(NextSlot::Slot(Some(BURST))));
+    assert!(rt; read_uplink_slot(&mut source, 2) == Ok(NextSlot::Slot(None)));
     assert!(rt; read_uplink_slot(&mut source, 3) == Err(RecordFault::HalfFrame));
 }
 
@@ -160,7 +160,7 @@ fn endless_silence(rt: HostRuntime) {
     assert!(rt; RECORD_LIMIT == 1_048_576);
     assert!(rt; read_frame(&mut Silence, FRAME_LIMIT - 1) == Ok(Some([None, None])));
     assert!(rt; read_frame(&mut Silence, FRAME_LIMIT) == Err(RecordFault::TooLong));
-    assert!(rt; read_uplink_slot(&mut Silence, 2_097_151) == Ok(Some(None)));
+    assert!(rt; read_uplink_slot(&mut Silence, 2_097_151) == Ok(NextSlot::Slot(None)));
     assert!(rt; read_uplink_slot(&mut Silence, 2_097_152) == Err(RecordFault::TooLong));
 }
 

@@ -4,6 +4,7 @@ use Rattle.dmr_compare.proofs.SlotsBeside.{fault_before_first, fault_before_seco
 use Rattle.dmr_compare.proofs.SlotsBeside.{slots_begun, slots_next, slots_room, whole_compared}
 use Rattle.dmr_compare.specs.Printed.{PutsPlace}
 use Rattle.dmr_compare.specs.Taking.{PutsFound, found_next}
+use Rattle.dmr_record.specs.NextSlot.{slot_if_any}
 use Rattle.dmr_compare.proofs.comparing.compare_recordings.Goals as goal
 
 pub pass-requires-clause-none : goal.pass-requires-clause-none
@@ -63,25 +64,25 @@ next-requires-in-loop-found-clause-stands g c =
 pub returns-in-Err-next-2-clause-part : goal.returns-in-Err-next-2-clause-part
 returns-in-Err-next-2-clause-part g c =
     let (firsts, seconds, stood) = c.loop-found.invariant.beside in
-    let step : IsStep c.loop-found.one.is_over c.next.new.self.is_over c.in-Ok.found =
+    let step : IsStep c.loop-found.one.is_over c.next.new.self.is_over (slot_if_any c.in-Ok.found) =
     record { some = c.in-Ok.ensures.some; none = c.in-Ok.ensures.none } in
     fault_of_second c.args.settings.now c.loop-found.one c.next.new.self c.loop-found.other c.args.recording c.loop-found.counts
-    firsts seconds c.in-Ok.found c.in-Err-next-2.fault _ _ _ _ _ _ _ _ stood
+    firsts seconds (slot_if_any c.in-Ok.found) c.in-Err-next-2.fault _ _ _ _ _ _ _ _ stood
     (c.in-Ok.ensures.same_recording ∙ c.loop-found.invariant.one) c.loop-found.invariant.other
     (c.in-Ok.ensures.read firsts _ stood.first_read) step (c.in-Err-next-2.ensures.fault seconds _ stood.second_read)
 
-pub returns-then-is_none-2-clause-whole : goal.returns-then-is_none-2-clause-whole
-returns-then-is_none-2-clause-whole g c =
+pub returns-in-End-End-clause-whole : goal.returns-in-End-End-clause-whole
+returns-in-End-End-clause-whole g c =
     let (firsts, seconds, stood) = c.loop-found.invariant.beside in
-    let step : IsStep c.loop-found.one.is_over c.next.new.self.is_over c.in-Ok.found =
+    let step : IsStep c.loop-found.one.is_over c.next.new.self.is_over (slot_if_any c.in-Ok.found) =
     record { some = c.in-Ok.ensures.some; none = c.in-Ok.ensures.none } in
-    let step' : IsStep c.loop-found.other.is_over c.next-in-loop-found.new.self.is_over c.in-Ok-next.found =
+    let step' : IsStep c.loop-found.other.is_over c.next-in-loop-found.new.self.is_over (slot_if_any c.in-Ok-next.found) =
     record { some = c.in-Ok-next.ensures.some; none = c.in-Ok-next.ensures.none } in
-    let none : c.in-Ok.found ≡ None = search rules in
-    let none' : c.in-Ok-next.found ≡ None = search rules in
+    let none : slot_if_any c.in-Ok.found ≡ None = search rules in
+    let none' : slot_if_any c.in-Ok-next.found ≡ None = search rules in
     let compared = whole_compared c.args.settings.now c.loop-found.one c.next.new.self c.loop-found.other
-    c.next-in-loop-found.new.self c.args.recording c.loop-found.counts firsts seconds c.in-Ok.found c.in-Ok-next.found
-    _ _ _ _ _ _ _ _ stood (c.in-Ok.ensures.same_recording ∙ c.loop-found.invariant.one)
+    c.next-in-loop-found.new.self c.args.recording c.loop-found.counts firsts seconds (slot_if_any c.in-Ok.found)
+    (slot_if_any c.in-Ok-next.found) _ _ _ _ _ _ _ _ stood (c.in-Ok.ensures.same_recording ∙ c.loop-found.invariant.one)
     (c.in-Ok-next.ensures.same_recording ∙ c.loop-found.invariant.other) (c.in-Ok.ensures.read firsts _ stood.first_read)
     (c.in-Ok-next.ensures.read seconds _ stood.second_read) step step' none none' in
     (firsts, seconds, compared)
@@ -94,12 +95,12 @@ take_found-requires-clause-room g c =
 pub loop-found-preserved : goal.loop-found-preserved
 loop-found-preserved g c =
     let (firsts, seconds, stood) = c.loop-found.invariant.beside in
-    let step : IsStep c.loop-found.one.is_over c.next.new.self.is_over c.in-Ok.found =
+    let step : IsStep c.loop-found.one.is_over c.next.new.self.is_over (slot_if_any c.in-Ok.found) =
     record { some = c.in-Ok.ensures.some; none = c.in-Ok.ensures.none } in
-    let step' : IsStep c.loop-found.other.is_over c.next-in-loop-found.new.self.is_over c.in-Ok-next.found =
+    let step' : IsStep c.loop-found.other.is_over c.next-in-loop-found.new.self.is_over (slot_if_any c.in-Ok-next.found) =
     record { some = c.in-Ok-next.ensures.some; none = c.in-Ok-next.ensures.none } in
-    let lines : PutsFound (PutsPlace c.args.settings.now) c.in-Ok.found c.in-Ok-next.found (g.K.Sink.held c.loop-found.sink)
-    (g.K.Sink.held c.take_found.new.sink) = search rules in
+    let lines : PutsFound (PutsPlace c.args.settings.now) (slot_if_any c.in-Ok.found) (slot_if_any c.in-Ok-next.found)
+    (g.K.Sink.held c.loop-found.sink) (g.K.Sink.held c.take_found.new.sink) = search rules in
     record {
       first = search rules;
       second = search rules;
@@ -107,10 +108,11 @@ loop-found-preserved g c =
       one = search rules;
       other = search rules;
       beside = (
-        firsts ++ found_next c.in-Ok.found,
-        seconds ++ found_next c.in-Ok-next.found,
+        firsts ++ found_next (slot_if_any c.in-Ok.found),
+        seconds ++ found_next (slot_if_any c.in-Ok-next.found),
         slots_next c.args.settings.now c.loop-found.one c.next.new.self c.loop-found.other c.next-in-loop-found.new.self
-            c.loop-found.counts c.take_found.new.counts firsts seconds c.in-Ok.found c.in-Ok-next.found _ _ _ _ _ _ _ _ _ stood
+            c.loop-found.counts c.take_found.new.counts firsts seconds (slot_if_any c.in-Ok.found)
+            (slot_if_any c.in-Ok-next.found) _ _ _ _ _ _ _ _ _ stood
             (c.in-Ok.ensures.read firsts _ stood.first_read) (c.in-Ok-next.ensures.read seconds _ stood.second_read) step step'
             lines c.take_found.ensures.counted,
       );

@@ -37,9 +37,9 @@ const STATUS: Received = Received {
 #[test]
 fn downlink_slots(rt: HostRuntime) {
     let mut source = OneByOne::new(ONE_FRAME.get(8..).unwrap_or(&[]));
-    assert!(rt; read_slot(&mut source, 0) == Ok(Some(Some(BLOCK))));
-    assert!(rt; read_slot(&mut source, 1) == Ok(Some(None)));
-    assert!(rt; read_slot(&mut source, 2) == Ok(None));
+    assert!(rt; read_slot(&mut source, 0) == Ok(NextSlot::Slot(Some(BLOCK))));
+    assert!(rt; read_slot(&mut source, 1) == Ok(NextSlot::Slot(None)));
+    assert!(rt; read_slot(&mut source, 2) == Ok(NextSlot::End));
 }
 
 #[test]
@@ -159,8 +159,8 @@ fn limits_of_downlinks(rt: HostRuntime) {
         let slot = read_slot(&mut FromRead::new(past.as_slice()), SLOT_LIMIT);
         assert!(rt; slot == Err(RecordFault::TooLong), "{octet}");
     }
-    assert!(rt; read_slot(&mut Silence, SLOT_LIMIT - 1) == Ok(Some(None)));
-    assert!(rt; read_slot(&mut FromRead::new(&b""[..]), SLOT_LIMIT) == Ok(None));
+    assert!(rt; read_slot(&mut Silence, SLOT_LIMIT - 1) == Ok(NextSlot::Slot(None)));
+    assert!(rt; read_slot(&mut FromRead::new(&b""[..]), SLOT_LIMIT) == Ok(NextSlot::End));
 }
 
 #[test]

@@ -9,7 +9,7 @@ pub loop-slot-preserved-in-None : goal.loop-slot-preserved-in-None
 loop-slot-preserved-in-None g c =
     let inv = c.loop-slot.invariant in
     let (slots, counted, octet, listed) = inv.so_far in
-    let (below, is_slot, read) = rw c.in-Ok-Some.field-0-is at c.in-Ok-Some.ensures.slot in
+    let (below, is_slot, read) = rw c.in-Ok-Slot.field-0-is at c.in-Ok-Slot.ensures.slot in
     let silence = rw c.in-None.is at read in
     let long = rw c.in-None.is at c.record_octets-octet.ensures.octets in
     let short = c.record_octets-octet.ensures.few in
@@ -19,7 +19,7 @@ loop-slot-preserved-in-None g c =
     let more = length_push slots None in
     let next = octets_more c.args.recording slots None c.loop-slot.octet octet in
     record {
-      source = c.in-Ok-Some.ensures.well;
+      source = c.in-Ok-Slot.ensures.well;
       lines = inv.lines;
       kept = inv.kept;
       few = omega (arith, below, before, later);
@@ -28,10 +28,10 @@ loop-slot-preserved-in-None g c =
         slots ++ None ∷ [],
         omega (arith, more, counted, later),
         ap (λ n. c.loop-slot.octet + n) long ∙ next,
-        subst (λ (t : ListingTurn). IsListed g.L.BurstLines.Takes c.args.recording (slots ++ None ∷ []) [] t
+        subst (λ (t : ListingTurn). IsListed g.L.Taker.Takes c.args.recording (slots ++ None ∷ []) [] t
             (g.S.Source.left c.args.source.now) (g.S.Source.left c.read_recording.new.source) c.args.lines.now
             c.loop-slot.lines) (sym turn)
-            (listed_silence g.L.BurstLines.Takes c.args.recording slots c.loop-slot.view _ _ _ _ _ listed silence),
+            (listed_silence g.L.Taker.Takes c.args.recording slots c.loop-slot.view _ _ _ _ _ listed silence),
       );
     }
 
@@ -46,16 +46,16 @@ loop-slot-init g c = record {
     [],
     search rules,
     search rules,
-    subst (λ (t : ListingTurn). IsListed g.L.BurstLines.Takes c.args.recording [] [] t (g.S.Source.left c.args.source.now)
+    subst (λ (t : ListingTurn). IsListed g.L.Taker.Takes c.args.recording [] [] t (g.S.Source.left c.args.source.now)
         (g.S.Source.left c.args.source.now) c.args.lines.now c.args.lines.now) (sym c.new-view.ensures.value)
-        (listed_none g.L.BurstLines.Takes c.args.recording _ _),
+        (listed_none g.L.Taker.Takes c.args.recording _ _),
   );
 }
 
 pub returns-then-is_err-clause-output : goal.returns-then-is_err-clause-output
 returns-then-is_err-clause-output g c =
     let (slots, counted, octet, listed) = c.loop-slot.invariant.so_far in
-    let (below, is_slot, read) = rw c.in-Ok-Some.field-0-is at c.in-Ok-Some.ensures.slot in
+    let (below, is_slot, read) = rw c.in-Ok-Slot.field-0-is at c.in-Ok-Slot.ensures.slot in
     let burst = rw c.in-Some.is at read in
     record {
       slots = slots;
@@ -72,7 +72,7 @@ pub loop-slot-preserved : goal.loop-slot-preserved
 loop-slot-preserved g c =
     let inv = c.loop-slot.invariant in
     let (slots, counted, octet, listed) = inv.so_far in
-    let (below, is_slot, read) = rw c.in-Ok-Some.field-0-is at c.in-Ok-Some.ensures.slot in
+    let (below, is_slot, read) = rw c.in-Ok-Slot.field-0-is at c.in-Ok-Slot.ensures.slot in
     let spelled = rw c.in-Some.is at read in
     let is_burst = rw c.in-Some.is at is_slot in
     let long = rw c.in-Some.is at c.record_octets-octet.ensures.octets in
@@ -84,7 +84,7 @@ loop-slot-preserved g c =
     let more = length_push slots (Some burst) in
     let next = octets_more c.args.recording slots (Some burst) c.loop-slot.octet octet in
     record {
-      source = c.in-Ok-Some.ensures.well;
+      source = c.in-Ok-Slot.ensures.well;
       lines = search rules;
       kept = c.put.ensures.kept ∙ inv.kept;
       few = omega (arith, below, before, later);
@@ -93,10 +93,10 @@ loop-slot-preserved g c =
         slots ++ Some burst ∷ [],
         omega (arith, more, counted, later),
         ap (λ n. c.loop-slot.octet + n) long ∙ next,
-        subst (λ (t : ListingTurn). IsListed g.L.BurstLines.Takes c.args.recording (slots ++ Some burst ∷ []) [] t
+        subst (λ (t : ListingTurn). IsListed g.L.Taker.Takes c.args.recording (slots ++ Some burst ∷ []) [] t
             (g.S.Source.left c.args.source.now) (g.S.Source.left c.read_recording.new.source) c.args.lines.now
             c.put.new.self) (sym turn)
-            (listed_burst g.L.BurstLines.Takes c.args.recording slots c.loop-slot.view burst c.line-line.result _ _ _ _ _ _
+            (listed_burst g.L.Taker.Takes c.args.recording slots c.loop-slot.view burst c.line-line.result _ _ _ _ _ _
             listed is_burst spelled c.line-line.ensures.line (search rules)),
       );
     }

@@ -8,12 +8,12 @@ use Rattle.dmr_listing.proofs.listing.list_recording.Given as goal
 abbrev pub invariant-loop-slot : goal.invariant-loop-slot
 invariant-loop-slot g l = record {
   source : g.S.Source.has_failed l.source ≡ false;
-  lines : g.L.BurstLines.has_failed l.lines ≡ false;
-  kept : g.L.BurstLines.kept l.lines ≡ g.L.BurstLines.kept l.initial.lines;
+  lines : g.L.Taker.has_failed l.lines ≡ false;
+  kept : g.L.Taker.kept l.lines ≡ g.L.Taker.kept l.initial.lines;
   few : l.view.slots ≤ slot_limit_of l.recording;
   room : l.octet ≤ 8 + 37 * l.view.slots;
   so_far : (slots : List RecordedSlot) × (length slots ≡ l.view.slots) × (l.octet ≡ octet_behind (spelling l.recording) slots)
-      × IsListed g.L.BurstLines.Takes l.recording slots [] l.view (g.S.Source.left l.initial.source) (g.S.Source.left l.source)
+      × IsListed g.L.Taker.Takes l.recording slots [] l.view (g.S.Source.left l.initial.source) (g.S.Source.left l.source)
       l.initial.lines l.lines;
 }
 

@@ -46,7 +46,7 @@ loop-record-preserved g c =
         omega (arith, more, counted),
         last_more 0 sendings next,
         ap (λ n. c.loop-record.octet + (9 + n)) (from ∙ long) ∙ begins,
-        outgoing_more g.L.OutgoingLines.Takes sendings datagram read _ _ _ _ _ _ listed keeps is_sending
+        outgoing_more g.L.Taker.Takes sendings datagram read _ _ _ _ _ _ listed keeps is_sending
             (omega (arith, frame, behind)) took (search rules),
       );
     }

@@ -10,13 +10,13 @@ use Rattle.dmr_listing.proofs.outgoing_listing.list_outgoing.Given as goal
 abbrev pub invariant-loop-record : goal.invariant-loop-record
 invariant-loop-record g l = record {
   source : g.S.Source.has_failed l.source ≡ false;
-  lines : g.L.OutgoingLines.has_failed l.lines ≡ false;
-  kept : g.L.OutgoingLines.kept l.lines ≡ g.L.OutgoingLines.kept l.initial.lines;
+  lines : g.L.Taker.has_failed l.lines ≡ false;
+  kept : g.L.Taker.kept l.lines ≡ g.L.Taker.kept l.initial.lines;
   few : l.count ≤ record_limit;
   room : l.octet ≤ 8 + 65544 * l.count;
   so_far : (sendings : List Sending) × (length sendings ≡ l.count) × (last_frame 0 sendings ≡ l.last)
       × (l.octet ≡ octet_behind sending_octets sendings)
-      × AreSendingsListed g.L.OutgoingLines.Takes sendings [] (g.S.Source.left l.initial.source) (g.S.Source.left l.source)
+      × AreSendingsListed g.L.Taker.Takes sendings [] (g.S.Source.left l.initial.source) (g.S.Source.left l.source)
       l.initial.lines l.lines;
 }
 

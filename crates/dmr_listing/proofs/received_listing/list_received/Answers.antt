@@ -44,6 +44,7 @@ loop-received-preserved g c =
       source = c.in-Ok-Some.ensures.well;
       lines = search rules;
       kept = c.put.ensures.kept ∙ inv.kept;
+      long = search rules;
       few = omega (arith, below);
       room = omega (arith, inv.room, from, whole, short);
       so_far = (
@@ -51,7 +52,7 @@ loop-received-preserved g c =
         omega (arith, more, counted),
         last_more None receipts next ∙ ap Some same,
         ap (λ n. c.loop-received.octet + (12 + n)) (from ∙ sym whole) ∙ begins,
-        received_more g.L.ReceivedLines.Takes receipts next _ _ _ _ _ _ listed (is_receipt, is_slot) behind took (search rules),
+        received_more g.L.Taker.Takes receipts next _ _ _ _ _ _ listed (is_receipt, is_slot) behind took (search rules),
       );
     }
 

@@ -21,33 +21,33 @@ loop-slot-init g c = record {
     [],
     search rules,
     search rules,
-    subst (λ (t : ListingTurn). IsDrawn g.L.StripLines.Takes c.args.recording c.args.frames [] [] t
+    subst (λ (t : ListingTurn). IsDrawn g.L.Taker.Takes c.args.recording c.args.frames [] [] t
         (g.S.Source.left c.args.source.now) (g.S.Source.left c.args.source.now) c.new-strip.result c.args.lines.now
         c.args.lines.now) (sym c.new-view.ensures.value)
-        (drawn_none g.L.StripLines.Takes c.args.recording c.args.frames _ c.new-strip.result _ c.new-strip.ensures.none),
+        (drawn_none g.L.Taker.Takes c.args.recording c.args.frames _ c.new-strip.result _ c.new-strip.ensures.none),
   );
 }
 
 pub returns-then-is_err-clause-output : goal.returns-then-is_err-clause-output
 returns-then-is_err-clause-output g c =
     let (slots, counted, octet, drawn) = c.loop-slot.invariant.so_far in
-    let (even, read, at_end) = rw c.in-Ok-None.field-0-is at c.in-Ok-None.ensures.end in
-    stripped_up_to_strip g.L.StripLines.Takes g.L.StripLines.Refuses c.args.recording c.args.frames slots [] c.loop-slot.view
+    let (even, read, at_end) = rw c.in-Ok-End.field-0-is at c.in-Ok-End.ensures.end in
+    stripped_up_to_strip g.L.Taker.Takes g.L.Taker.Refuses c.args.recording c.args.frames slots [] c.loop-slot.view
     _ _ c.loop-slot.strip _ _ _
-    (drawn_part g.L.StripLines.Takes c.args.recording c.args.frames slots [] c.loop-slot.view _ _ _ c.loop-slot.strip _ _
+    (drawn_part g.L.Taker.Takes c.args.recording c.args.frames slots [] c.loop-slot.view _ _ _ c.loop-slot.strip _ _
     drawn read)
     (search rules) (search rules)
 
-pub returns-in-Ok-None-clause-all : goal.returns-in-Ok-None-clause-all
-returns-in-Ok-None-clause-all g c =
+pub returns-in-Ok-End-clause-all : goal.returns-in-Ok-End-clause-all
+returns-in-Ok-End-clause-all g c =
     let (slots, counted, octet, drawn) = c.loop-slot.invariant.so_far in
-    let (even, read, at_end) = rw c.in-Ok-None.field-0-is at c.in-Ok-None.ensures.end in
+    let (even, read, at_end) = rw c.in-Ok-End.field-0-is at c.in-Ok-End.ensures.end in
     let before = c.slots.ensures.value in
     let after = c.slots-frames.ensures.value in (
       slots,
       c.loop-slot.view,
-      stripped g.L.StripLines.Takes c.args.recording c.args.frames slots [] c.loop-slot.view _ _ c.loop-slot.strip _ _ _
-          (drawn_part g.L.StripLines.Takes c.args.recording c.args.frames slots [] c.loop-slot.view _ _ _ c.loop-slot.strip _
+      stripped g.L.Taker.Takes c.args.recording c.args.frames slots [] c.loop-slot.view _ _ c.loop-slot.strip _ _ _
+          (drawn_part g.L.Taker.Takes c.args.recording c.args.frames slots [] c.loop-slot.view _ _ _ c.loop-slot.strip _
           _ drawn read)
           (search rules),
       omega (arith, even, before, after, counted),
@@ -58,9 +58,9 @@ pub returns-then-is_err-2-clause-output : goal.returns-then-is_err-2-clause-outp
 returns-then-is_err-2-clause-output g c =
     let (slots, counted, octet, drawn) = c.loop-slot.invariant.so_far in
     let (taken, read, fault) = c.in-Err.ensures.fault in
-    stripped_up_to_strip g.L.StripLines.Takes g.L.StripLines.Refuses c.args.recording c.args.frames slots taken
+    stripped_up_to_strip g.L.Taker.Takes g.L.Taker.Refuses c.args.recording c.args.frames slots taken
     c.loop-slot.view _ _ c.loop-slot.strip _ _ _
-    (drawn_part g.L.StripLines.Takes c.args.recording c.args.frames slots taken c.loop-slot.view _ _ _ c.loop-slot.strip _ _
+    (drawn_part g.L.Taker.Takes c.args.recording c.args.frames slots taken c.loop-slot.view _ _ _ c.loop-slot.strip _ _
     drawn read)
     (search rules) (search rules)
 
@@ -70,8 +70,8 @@ returns-in-Err-clause-fault g c =
     let (taken, read, fault) = c.in-Err.ensures.fault in
     let before = c.slots.ensures.value in
     let after = c.slots-in-Err.ensures.value in
-    let all = stripped g.L.StripLines.Takes c.args.recording c.args.frames slots taken c.loop-slot.view _ _ c.loop-slot.strip _ _ _
-    (drawn_part g.L.StripLines.Takes c.args.recording c.args.frames slots taken c.loop-slot.view _ _ _ c.loop-slot.strip _ _ drawn
+    let all = stripped g.L.Taker.Takes c.args.recording c.args.frames slots taken c.loop-slot.view _ _ c.loop-slot.strip _ _ _
+    (drawn_part g.L.Taker.Takes c.args.recording c.args.frames slots taken c.loop-slot.view _ _ _ c.loop-slot.strip _ _ drawn
     read) (search rules) in
     record {
       slots = slots;
@@ -92,12 +92,12 @@ returns-in-Err-clause-fault g c =
 pub returns-then-is_err-3-clause-output : goal.returns-then-is_err-3-clause-output
 returns-then-is_err-3-clause-output g c =
     let (slots, counted, octet, drawn) = c.loop-slot.invariant.so_far in
-    let (below, is_slot, read) = rw c.in-Ok-Some.field-0-is at c.in-Ok-Some.ensures.slot in
+    let (below, is_slot, read) = rw c.in-Ok-Slot.field-0-is at c.in-Ok-Slot.ensures.slot in
     let at = c.of_slot-place.ensures.value ∙ ap place_by_number c.slots-in-loop-slot.ensures.value in
-    full_up_to_strip g.L.StripLines.Takes g.L.StripLines.Refuses c.args.recording c.args.frames (slots ++ c.in-Ok-Some.slot ∷
+    full_up_to_strip g.L.Taker.Takes g.L.Taker.Refuses c.args.recording c.args.frames (slots ++ c.in-Ok-Slot.slot ∷
     []) c.mark-mark.new.self _ _ _
     c.add.new.strip _ _ _
-    (drawn_pushed g.L.StripLines.Takes c.args.recording c.args.frames slots c.loop-slot.view c.in-Ok-Some.slot c.mark-mark.result
+    (drawn_pushed g.L.Taker.Takes c.args.recording c.args.frames slots c.loop-slot.view c.in-Ok-Slot.slot c.mark-mark.result
     c.mark-mark.new.self c.of_slot-place.result _ _ _ c.loop-slot.strip _ _ drawn c.loop-slot.invariant.free is_slot read
     c.mark-mark.ensures.mark at) (search rules)
 
@@ -105,8 +105,8 @@ pub loop-slot-preserved : goal.loop-slot-preserved
 loop-slot-preserved g c =
     let inv = c.loop-slot.invariant in
     let (slots, counted, octet, drawn) = inv.so_far in
-    let (below, is_slot, read) = rw c.in-Ok-Some.field-0-is at c.in-Ok-Some.ensures.slot in
-    let slot = c.in-Ok-Some.slot in
+    let (below, is_slot, read) = rw c.in-Ok-Slot.field-0-is at c.in-Ok-Slot.ensures.slot in
+    let slot = c.in-Ok-Slot.slot in
     let long = c.record_octets-octet.ensures.octets in
     let short = c.record_octets-octet.ensures.few in
     let before = c.slots.ensures.value in
@@ -115,7 +115,7 @@ loop-slot-preserved g c =
     let more = length_push slots slot in
     let next = octets_more c.args.recording slots slot c.loop-slot.octet octet in
     record {
-      source = c.in-Ok-Some.ensures.well;
+      source = c.in-Ok-Slot.ensures.well;
       lines = search rules;
       kept = c.add.ensures.kept ∙ inv.kept;
       few = omega (arith, below, before, later);
@@ -125,9 +125,9 @@ loop-slot-preserved g c =
         slots ++ slot ∷ [],
         omega (arith, more, counted, later),
         ap (λ n. c.loop-slot.octet + n) long ∙ next,
-        drawn_given g.L.StripLines.Takes c.args.recording c.args.frames (slots ++ slot ∷ []) c.mark-mark.new.self _ _ _
+        drawn_given g.L.Taker.Takes c.args.recording c.args.frames (slots ++ slot ∷ []) c.mark-mark.new.self _ _ _
             c.add.new.strip _ _ _
-            (drawn_pushed g.L.StripLines.Takes c.args.recording c.args.frames slots c.loop-slot.view slot c.mark-mark.result
+            (drawn_pushed g.L.Taker.Takes c.args.recording c.args.frames slots c.loop-slot.view slot c.mark-mark.result
             c.mark-mark.new.self
             c.of_slot-place.result _ _ _ c.loop-slot.strip _ _ drawn inv.free is_slot read c.mark-mark.ensures.mark at)
             (search rules),

@@ -9,13 +9,13 @@ use Rattle.dmr_listing.proofs.strips.strip_recording.Given as goal
 abbrev pub invariant-loop-slot : goal.invariant-loop-slot
 invariant-loop-slot g l = record {
   source : g.S.Source.has_failed l.source ≡ false;
-  lines : g.L.StripLines.has_failed l.lines ≡ false;
-  kept : g.L.StripLines.kept l.lines ≡ g.L.StripLines.kept l.initial.lines;
+  lines : g.L.Taker.has_failed l.lines ≡ false;
+  kept : g.L.Taker.kept l.lines ≡ g.L.Taker.kept l.initial.lines;
   few : l.view.slots ≤ slot_limit_of l.recording;
   room : l.octet ≤ 8 + 37 * l.view.slots;
   free : length l.strip.marks < most_marks;
   so_far : (slots : List RecordedSlot) × (length slots ≡ l.view.slots) × (l.octet ≡ octet_behind (spelling l.recording) slots)
-      × IsDrawn g.L.StripLines.Takes l.recording l.frames slots [] l.view (g.S.Source.left l.initial.source)
+      × IsDrawn g.L.Taker.Takes l.recording l.frames slots [] l.view (g.S.Source.left l.initial.source)
       (g.S.Source.left l.source) l.strip l.initial.lines l.lines;
 }
 

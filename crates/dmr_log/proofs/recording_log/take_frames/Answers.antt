@@ -11,7 +11,7 @@ pub returns-in-Err-clause-fault : goal.returns-in-Err-clause-fault
 returns-in-Err-clause-fault g c =
     let inv = c.loop-slot.invariant in
     let (frames, counted, octet, taken) = inv.so_far in
-    faulty g.L.LogLines.Takes c.args.log.now c.loop-slot.log frames [] c.loop-slot.at c.in-Err.fault _ _ _ _ _
+    faulty g.L.Taker.Takes c.args.log.now c.loop-slot.log frames [] c.loop-slot.at c.in-Err.fault _ _ _ _ _
     (omega arith) taken
     (count_none frames c.loop-slot.at.slots (omega (arith, counted, inv.taken)))
     (octet ∙ ap (octet_behind (spelling Uplink)) (sym (append-nil (slots_of_frames frames))))
@@ -21,12 +21,12 @@ pub returns-in-Err-next_slot-clause-fault : goal.returns-in-Err-next_slot-clause
 returns-in-Err-next_slot-clause-fault g c =
     let inv = c.loop-slot.invariant in
     let (frames, counted, octet, taken) = inv.so_far in
-    let slot = c.in-Ok-Some.slot in
-    let (below, is_slot, octets, slots_next, octet_next) = rw c.in-Ok-Some.field-0-is at c.in-Ok-Some.ensures.slot in
-    faulty g.L.LogLines.Takes c.args.log.now c.loop-slot.log frames (slot ∷ []) c.next_slot.new.at c.in-Err-next_slot.fault
+    let slot = c.in-Ok-Slot.slot in
+    let (below, is_slot, octets, slots_next, octet_next) = rw c.in-Ok-Slot.field-0-is at c.in-Ok-Slot.ensures.slot in
+    faulty g.L.Taker.Takes c.args.log.now c.loop-slot.log frames (slot ∷ []) c.next_slot.new.at c.in-Err-next_slot.fault
     _ _ _ _ _
     (omega arith)
-    (taken_begun g.L.LogLines.Takes c.args.log.now c.loop-slot.log frames slot _ _ _ _ _ taken is_slot octets)
+    (taken_begun g.L.Taker.Takes c.args.log.now c.loop-slot.log frames slot _ _ _ _ _ taken is_slot octets)
     (count_begun frames slot c.next_slot.new.at.slots (omega (arith, counted, inv.taken, slots_next)))
     (octet_next ∙ octet_begun frames slot c.loop-slot.at.octet octet)
     c.in-Err-next_slot.ensures.fault
@@ -35,12 +35,12 @@ pub loop-slot-preserved : goal.loop-slot-preserved
 loop-slot-preserved g c =
     let inv = c.loop-slot.invariant in
     let (frames, counted, octet, taken) = inv.so_far in
-    let one = c.in-Ok-Some.slot in
-    let two = c.in-Ok-Some-next_slot.slot in
-    let (below_1, is_slot_1, octets_1, slots_1, octet_1) = rw c.in-Ok-Some.field-0-is at c.in-Ok-Some.ensures.slot in
+    let one = c.in-Ok-Slot.slot in
+    let two = c.in-Ok-Slot-next_slot.slot in
+    let (below_1, is_slot_1, octets_1, slots_1, octet_1) = rw c.in-Ok-Slot.field-0-is at c.in-Ok-Slot.ensures.slot in
     let (below_2, is_slot_2, octets_2, slots_2, octet_2) =
-    rw c.in-Ok-Some-next_slot.field-0-is at c.in-Ok-Some-next_slot.ensures.slot in
-    let room = rw c.in-Ok-Some-next_slot.field-0-is at c.in-Ok-Some-next_slot.ensures.room in
+    rw c.in-Ok-Slot-next_slot.field-0-is at c.in-Ok-Slot-next_slot.ensures.slot in
+    let room = rw c.in-Ok-Slot-next_slot.field-0-is at c.in-Ok-Slot-next_slot.ensures.room in
     let logged = c.pass.ensures.logged in
     let more = length-append frames ((one, two) ∷ []) in
     record {
@@ -55,8 +55,8 @@ loop-slot-preserved g c =
         omega (arith, more, counted, logged.taken),
         octet_2 ∙ octet_frame frames one two c.next_slot.new.at.octet
             (octet_1 ∙ octet_begun frames one c.loop-slot.at.octet octet),
-        taken_frame g.L.LogLines.Takes c.args.log.now c.loop-slot.log c.pass.new.self frames one two _ _ _ _ _ _
-            (taken_begun g.L.LogLines.Takes c.args.log.now c.loop-slot.log frames one _ _ _ _ _ taken is_slot_1 octets_1)
+        taken_frame g.L.Taker.Takes c.args.log.now c.loop-slot.log c.pass.new.self frames one two _ _ _ _ _ _
+            (taken_begun g.L.Taker.Takes c.args.log.now c.loop-slot.log frames one _ _ _ _ _ taken is_slot_1 octets_1)
             is_slot_2 octets_2 (search rules) (search rules),
       );
     }

@@ -9,14 +9,14 @@ use Rattle.dmr_log.proofs.recording_log.take_frames.Given as goal
 abbrev pub invariant-loop-slot : goal.invariant-loop-slot
 invariant-loop-slot g l = record {
   source : g.S.Source.has_failed l.source ≡ false;
-  lines : g.L.LogLines.has_failed l.lines ≡ false;
-  kept : g.L.LogLines.kept l.lines ≡ g.L.LogLines.kept l.initial.lines;
+  lines : g.L.Taker.has_failed l.lines ≡ false;
+  kept : g.L.Taker.kept l.lines ≡ g.L.Taker.kept l.initial.lines;
   few : l.at.slots ≤ 2097152;
   room : l.at.octet ≤ 8 + 37 * l.at.slots;
   taken : l.at.slots ≡ 2 * l.log.taken;
   so_far : (frames : RecordedFrames) × (length frames ≡ l.log.taken)
       × (l.at.octet ≡ octet_behind (spelling Uplink) (slots_of_frames frames))
-      × AreFramesTaken g.L.LogLines.Takes l.initial.log frames [] [] l.log (g.S.Source.left l.initial.source)
+      × AreFramesTaken g.L.Taker.Takes l.initial.log frames [] [] l.log (g.S.Source.left l.initial.source)
       (g.S.Source.left l.source)
       l.initial.lines l.lines;
 }

@@ -20,7 +20,7 @@ loop-past-preserved g c =
         subst (λ (l : RecordedFrames). Logs c.args.log.now l (told ++ c.pass.new.self.told ∷ []) c.pass.new.self)
             (replicate_more c.loop-past._past (None, None))
             (logs_one_more c.args.log.now c.loop-past.log c.pass.new.self _ told None None logs logged),
-        given_one_more g.L.LogLines.Takes c.args.lines.now c.loop-past.lines c.put.new.self told c.pass.new.self.told given
+        given_one_more g.L.Taker.Takes c.args.lines.now c.loop-past.lines c.put.new.self told c.pass.new.self.told given
             (search rules),
       );
     }
@@ -35,10 +35,10 @@ returns-clause-told g c =
       decided = c.loop-past.log;
       logged = subst (λ (n : ℕ). Logs c.args.log.now (replicate n (None, None)) told c.loop-past.log) end logs;
       ended = c.end.ensures.logged;
-      given = given_one_more g.L.LogLines.Takes c.args.lines.now c.loop-past.lines c.put-2.new.self told c.end.new.self.told given
-          (subst (λ (t : FrameTold). g.L.LogLines.Takes c.loop-past.lines t c.put-2.new.self) c.told-2.ensures.value takes);
+      given = given_one_more g.L.Taker.Takes c.args.lines.now c.loop-past.lines c.put-2.new.self told c.end.new.self.told given
+          (subst (λ (t : FrameTold). g.L.Taker.Takes c.loop-past.lines t c.put-2.new.self) c.told-2.ensures.value takes);
     })
-    c.put-2.ensures.told
+    c.put-2.ensures.line
 
 -- Of the frames before, as many were told as were taken; then the end was refused.
 pub returns-clause-output : goal.returns-clause-output
@@ -58,7 +58,7 @@ returns-clause-output g c =
         given = record {
           between = c.loop-past.lines;
           taken = given;
-          last = subst (λ (t : FrameTold). g.L.LogLines.Refuses c.loop-past.lines t c.put-2.new.self) c.told-2.ensures.value
+          last = subst (λ (t : FrameTold). g.L.Taker.Refuses c.loop-past.lines t c.put-2.new.self) c.told-2.ensures.value
               refuses;
         };
       },

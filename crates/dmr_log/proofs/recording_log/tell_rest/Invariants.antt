@@ -7,9 +7,9 @@ use Rattle.dmr_log.proofs.recording_log.tell_rest.Given as goal
 
 abbrev pub invariant-loop-past : goal.invariant-loop-past
 invariant-loop-past g l = record {
-  lines : g.L.LogLines.has_failed l.lines ≡ false;
-  kept : g.L.LogLines.kept l.lines ≡ g.L.LogLines.kept l.initial.lines;
+  lines : g.L.Taker.has_failed l.lines ≡ false;
+  kept : g.L.Taker.kept l.lines ≡ g.L.Taker.kept l.initial.lines;
   taken : l.log.taken ≡ l.initial.log.taken + l._past;
   so_far : (told : List FrameTold) × Logs l.initial.log (replicate l._past (None, None)) told l.log
-      × GivenInTurn g.L.LogLines.Takes l.initial.lines told l.lines;
+      × GivenInTurn g.L.Taker.Takes l.initial.lines told l.lines;
 }

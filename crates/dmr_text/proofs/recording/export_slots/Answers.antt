@@ -11,13 +11,13 @@ pub loop-slot-preserved-in-None : goal.loop-slot-preserved-in-None
 loop-slot-preserved-in-None g c =
     let inv = c.loop-slot.invariant in
     let (slots, counted, octet, written) = inv.so_far in
-    let (below, is_slot, read) = rw c.in-Ok-Some.field-0-is at c.in-Ok-Some.ensures.slot in
+    let (below, is_slot, read) = rw c.in-Ok-Slot.field-0-is at c.in-Ok-Slot.ensures.slot in
     let silence = rw c.in-None.is at read in
     let long = rw c.in-None.is at c.record_octets-octet.ensures.octets in
     let short = c.record_octets-octet.ensures.few in
     let more = length_push slots None in
     record {
-      source = c.in-Ok-Some.ensures.well;
+      source = c.in-Ok-Slot.ensures.well;
       sink = inv.sink;
       few = omega (arith, below);
       room = omega (arith, inv.room, short);
@@ -32,7 +32,7 @@ loop-slot-preserved-in-None g c =
 pub returns-then-is_err-clause-output : goal.returns-then-is_err-clause-output
 returns-then-is_err-clause-output g c =
     let (slots, counted, octet, written) = c.loop-slot.invariant.so_far in
-    let (below, is_slot, read) = rw c.in-Ok-Some.field-0-is at c.in-Ok-Some.ensures.slot in
+    let (below, is_slot, read) = rw c.in-Ok-Slot.field-0-is at c.in-Ok-Slot.ensures.slot in
     let spelled = rw c.in-Some.is at read in
     let is_burst = rw c.in-Some.is at is_slot in
     let stands = c.of_slot-place.ensures.value ∙ ap place_by_number (sym counted) in
@@ -46,7 +46,7 @@ pub loop-slot-preserved : goal.loop-slot-preserved
 loop-slot-preserved g c =
     let inv = c.loop-slot.invariant in
     let (slots, counted, octet, written) = inv.so_far in
-    let (below, is_slot, read) = rw c.in-Ok-Some.field-0-is at c.in-Ok-Some.ensures.slot in
+    let (below, is_slot, read) = rw c.in-Ok-Slot.field-0-is at c.in-Ok-Slot.ensures.slot in
     let spelled = rw c.in-Some.is at read in
     let is_burst = rw c.in-Some.is at is_slot in
     let long = rw c.in-Some.is at c.record_octets-octet.ensures.octets in
@@ -55,7 +55,7 @@ loop-slot-preserved g c =
     let stands = c.of_slot-place.ensures.value ∙ ap place_by_number (sym counted) in
     let same = c.as_slice.ensures.value ∙ c.make_burst.ensures.line ∙ ap (λ p. burst_line p c.in-Some.burst) stands in
     record {
-      source = c.in-Ok-Some.ensures.well;
+      source = c.in-Ok-Slot.ensures.well;
       sink = line_well c.put.result _ (sym c.is_err.ensures.value ∙ c.if-is_err.false) c.put.ensures.well;
       few = omega (arith, below);
       room = omega (arith, inv.room, short);

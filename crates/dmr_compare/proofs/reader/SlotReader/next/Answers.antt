@@ -5,9 +5,9 @@ use Rattle.dmr_compare.proofs.Reading.{goes_on}
 use Rattle.dmr_compare.proofs.reader.SlotReader.next.Goals as goal
 
 -- a slot that was read stands behind those before it
-pub returns-in-Ok-Some-clause-read : goal.returns-in-Ok-Some-clause-read
-returns-in-Ok-Some-clause-read g c = λ slots start h.
-    let (below, is_slot, octets) = rw c.in-Ok-Some.field-0-is at c.in-Ok-Some.ensures.slot in
+pub returns-in-Ok-Slot-clause-read : goal.returns-in-Ok-Slot-clause-read
+returns-in-Ok-Slot-clause-read g c = λ slots start h.
+    let (below, is_slot, octets) = rw c.in-Ok-Slot.field-0-is at c.in-Ok-Slot.ensures.slot in
     let same = sym c.list_slot.ensures.slot in
     let recording = c.args.self.now.recording in
     goes_on recording c.args.self.now.view c.list_slot.new.view c.args.self.now.octet _ c.args.self.now.is_over slots

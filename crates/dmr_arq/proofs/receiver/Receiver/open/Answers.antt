@@ -1,5 +1,0 @@
-use Rattle.std.proofs.Common.{rules}
-use Rattle.dmr_arq.proofs.receiver.Receiver.open.Goals as goal
-
-pub returns : goal.returns
-returns c = search rules

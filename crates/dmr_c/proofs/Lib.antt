@@ -1,0 +1,4 @@
+pub mod AsBox
+pub mod Boxes
+pub mod Waiting
+pub mod Words

@@ -1,0 +1,14 @@
+mod CallPlaces
+mod CallSlots
+mod Counts
+mod Examples
+mod Held
+mod Listing
+mod OneRecorded
+mod OtherColours
+mod Placing
+mod Scripts
+mod SentSlots
+mod SlotLines
+mod Told
+mod WellSaid

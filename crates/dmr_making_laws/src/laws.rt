@@ -1,0 +1,30 @@
+//! Laws of recordings that are made of scripts, as the contracts of functions that do nothing.
+ghost use Rattle.std.specs.Prelude.{◌≡◌, ℕ, Option, length};
+ghost use Rattle.dmr_making.specs.Senders.{IsSendable};
+ghost use Rattle.dmr_making.specs.Sends.{SendsSaid, Transmitted};
+ghost use Rattle.dmr_making_laws.specs.Scripts.{ListsAreWellFormed, RecordingsAreOfTheirLists, RunsWriteWhatScriptsMean};
+ghost use Rattle.dmr_planning.specs.Counting.{slot_count};
+ghost use Rattle.dmr_script.specs.declared.packet.PacketTry.{PacketTry};
+ghost use Rattle.dmr_script.specs.declared.statement.Transmission.{Transmission};
+
+/// What is sent of a transmission has as many slots as are planned for it.
+pub fn transmissions_have_their_slots()
+    ensures law { (colour : ℕ) (last : Option PacketTry) (said : Transmission) (sent : Transmitted) → IsSendable last said
+        → SendsSaid colour last said sent → length sent.slots ≡ slot_count said last }
+{}
+
+/// The transmissions of each slot of a script, each with the silences behind it, are well formed as a whole.
+pub fn lists_are_well_formed()
+    ensures law { ListsAreWellFormed }
+{}
+
+/// What `write_uplink` writes of the plan of a script into an empty file is a recording of the transmissions of both slots.
+pub fn recordings_are_of_their_lists()
+    ensures law { RecordingsAreOfTheirLists }
+{}
+
+/// Over what is written of a script, a run that ends well wrote the exact encoding of what the script means, and of what the
+/// gateway sends.
+pub fn runs_write_what_scripts_mean()
+    ensures law { RunsWriteWhatScriptsMean }
+{}

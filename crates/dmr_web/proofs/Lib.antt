@@ -1,0 +1,5 @@
+mod Ended
+mod LookingBack
+mod Pictures
+mod Texts
+mod Windows

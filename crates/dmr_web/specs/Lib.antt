@@ -1,0 +1,5 @@
+pub mod Calls
+pub mod LookingBack
+pub mod Numbers
+pub mod Pictures
+pub mod Windows

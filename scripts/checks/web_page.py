@@ -1,0 +1,181 @@
+"""The page that lists a file in a browser: its module against `show`, in node, and the page as a browser shows it."""
+
+import base64
+import hashlib
+import json
+import pathlib
+import re
+import shutil
+import subprocess
+import tempfile
+
+from building.module import is_module_built_over_the_gate
+from checks.devtools import Browser, found_browser
+from checks.page import size_and_octets
+
+WIDTH = 1200
+
+
+def turned(octets, at):
+    """The same with other bits in one octet."""
+    return octets[:at] + bytes([octets[at] ^ 0x5A]) + octets[at + 1 :]
+
+
+# How the files of samples are bent: by which name, and what is done with their octets.
+BENT = {
+    "cut in its head": lambda octets: octets[:5],
+    "of no format": lambda octets: b"DMRX" + octets[4:],
+    "of another version": lambda octets: octets[:4] + b"\2" + octets[5:],
+    "without records": lambda octets: octets[:8],
+    "cut by an octet": lambda octets: octets[:-1],
+    "cut in the middle": lambda octets: octets[: len(octets) // 2],
+    "with one octet more": lambda octets: octets + b"\7",
+    "with a slot more": lambda octets: octets + b"\0",
+    "with an octet turned": lambda octets: turned(octets, len(octets) // 3),
+}
+BENT_SAMPLES = "call", "mixed_damaged", "datagram_sent", "status_received"
+
+KINDS = "uplink.dmru", "downlink.dmrd", "outgoing.dmro", "received.dmri"
+
+
+def files_of(report, folder):
+    """Every file of samples, by its path, and bent ones."""
+    yield from sorted(file for kind in KINDS for file in (report.top / "samples").glob(f"*/{kind}"))
+    for sample in BENT_SAMPLES:
+        for kind in KINDS:
+            octets = (report.top / "samples" / sample / kind).read_bytes()
+            for at, bend in enumerate(BENT.values()):
+                file = folder / f"{sample}-{at}-{kind}"
+                file.write_bytes(bend(octets))
+                yield file
+
+
+def made(report, folder):
+    """The page and the module, as the script makes them. Behind the gate the module is built over what that has left."""
+    if report.is_proved:
+        log = report.top / "crates/dmr_web/out/build.log"
+        is_built = is_module_built_over_the_gate()
+        report.expect("the module is built over what the gate left", is_built, log.read_text()[-3000:] if log.is_file() else "")
+    ran = subprocess.run([report.top / "share/page/build", folder / "page.html"], capture_output=True, text=True)
+    again = subprocess.run([report.top / "share/page/build", "--module", folder / "page.wasm"], capture_output=True, text=True)
+    is_so = (ran.returncode, again.returncode) == (0, 0)
+    report.expect("the page is built", is_so, (ran, again))
+    return is_so
+
+
+def check_text(report, folder):
+    """Nothing of the page comes from elsewhere, and its policy names what it runs."""
+    text = (folder / "page.html").read_text()
+    policy = re.search('http-equiv="Content-Security-Policy" content="([^"]*)"', text)[1]
+    report.expect("nothing may come from elsewhere", policy.startswith("default-src 'none';"), policy)
+    for tag in ("style", "script"):
+        part = re.search(f"<{tag}>(.*?)</{tag}>", text, re.DOTALL)[1]
+        source = "sha256-" + base64.b64encode(hashlib.sha256(part.encode()).digest()).decode()
+        report.expect(f"the policy names the {tag} of the page", f"'{source}'" in policy, (source, policy))
+    foreign = re.findall(r"https?:|src=|@import|url\(", re.sub(r'id="module">.*?</script>', "", text, flags=re.DOTALL))
+    report.expect("the page has nothing foreign", not foreign, foreign)
+
+
+def list_all(report, folder, files):
+    """What the worker of the page gives for each of these files, or nothing where there is no node that could run it."""
+    node = shutil.which("node")
+    if not node:
+        return None
+    (folder / "files.json").write_text(json.dumps([str(file) for file in files]))
+    words = [report.top / "scripts/checks/page_worker.mjs", report.top / "share/page/worker.js", folder / "page.wasm"]
+    for options in ([], ["--experimental-wasm-memory64"]):
+        ran = subprocess.run([node, *options, *words, folder / "files.json", folder / "told.json"], capture_output=True, text=True)
+        told = json.loads((folder / "told.json").read_text()) if ran.returncode == 0 else None
+        if told is not None:
+            return told
+    if "bad option" in ran.stderr:
+        return None
+    report.expect("node runs the worker of the page", False, ran)
+    return None
+
+
+def expect_same(report, file, told):
+    """The page shows of a file what `show` prints of it."""
+    name = f"{file.parent.name}/{file.name}"
+    text, strip, as_json = (report.call("show", file, *words) for words in ((), ("--strip",), ("--json",)))
+    lines = text.out.decode().splitlines()
+    fault = text.err.decode().removeprefix(f"error: {file}: ").rstrip("\n")
+    wanted = lines if text.status == 0 else [*lines, fault]
+    report.expect(f"{name}: its listing", told["text"]["lines"] == wanted, (told["text"]["lines"][-3:], wanted[-3:]))
+    report.expect(f"{name}: is at fault", told["isAtFault"] == (text.status == 1), told["last"])
+    report.expect(f"{name}: its last line", told["last"] == wanted[-1], (told["last"], wanted[-1]))
+    objects = as_json.out.decode().splitlines()
+    wanted_objects = objects if as_json.status == 0 else [*objects, fault]
+    had = told["json"]["lines"]
+    report.expect(f"{name}: its objects", had == wanted_objects, (had[-3:], wanted_objects[-3:]))
+    rows = lines[1:-1] if text.status == 0 else lines[1:]
+    is_so = told["rows"] == len(rows) and told["lines"] == rows and told["single"] in (rows, None)
+    report.expect(f"{name}: its windows", is_so, (told["rows"], len(rows), told["lines"][-3:]))
+    if strip.status == 0 or told["strip"] is not None:
+        report.expect(f"{name}: its strips", told["strip"][:-1] == strip.out.decode().splitlines(), (told["strip"], strip))
+    inner = objects[1:-1] if as_json.status == 0 else objects[1:]
+    if inner:
+        report.expect(f"{name}: the details of its last row", told["details"] == inner[-1], (told["details"], inner[-1]))
+    of_slot = [at for at, line in enumerate(inner) if json.loads(line)["slot"] == 2]
+    report.expect(f"{name}: the rows of slot 2", told["ofSlot"] == of_slot, (told["ofSlot"], of_slot))
+    of_address = [at for at, line in enumerate(inner) if 1 in addresses(json.loads(line))]
+    report.expect(f"{name}: the rows of an address", told["ofAddress"] == of_address, (told["ofAddress"], of_address))
+
+
+def addresses(value):
+    """The addresses in an object, however deep they stand."""
+    for key, inner in value.items():
+        if isinstance(inner, dict):
+            yield from addresses(inner)
+        elif key in ("source", "target", "bs"):
+            yield inner
+
+
+def check_worker(report, folder):
+    files = list(files_of(report, folder))
+    told = list_all(report, folder, files)
+    if told is None:
+        report.skip(1, "no node with 64-bit memory for WebAssembly")
+        return
+    for file, shown in zip(files, told, strict=True):
+        report.expect(f"{file.name}: it can be opened", "error" not in shown, shown)
+        if "error" not in shown:
+            expect_same(report, file, shown)
+
+
+def check_browser(report, folder):
+    """A browser shows the page with a file in it: its lines, the details of a burst and a picture that isn't blank."""
+    if not found_browser():
+        report.skip(1, "no browser")
+        return
+    file = report.top / "samples/mixed_clean/uplink.dmru"
+    lines = report.call("show", file).out.decode().splitlines()
+    with Browser(folder / "page.html", WIDTH) as browser:
+        browser.wait_for("['ready', 'unable'].includes(document.body.dataset.state)")
+        if browser.value("document.body.dataset.state") == "unable":
+            report.skip(1, "a browser without 64-bit memory for WebAssembly")
+            return
+        empty = size_and_octets(browser.picture())
+        browser.give_file("#file", file)
+        browser.wait_for("document.body.dataset.state === 'shown' && !document.querySelector('#rows').textContent.includes('…')")
+        seen = browser.value("[...document.querySelectorAll('#rows div')].map(it => it.textContent)")
+        report.expect("a browser shows the lines", seen and seen == lines[1 : 1 + len(seen)], (seen, lines[:4]))
+        report.expect("a browser shows the last line", browser.value("document.querySelector('#last').textContent") == lines[-1])
+        browser.value("document.querySelector('#rows div').click()")
+        browser.wait_for("document.body.dataset.details")
+        details = json.loads(browser.value("document.body.dataset.details"))
+        first = json.loads(report.call("show", file, "--json").out.decode().splitlines()[1])
+        report.expect("a browser shows the details of a burst", details == first, details)
+        width, octets = size_and_octets(browser.picture())
+        is_so = width == WIDTH and octets != empty[1] and len(set(octets)) > 100
+        report.expect("a browser shows a picture", is_so, (width, len(set(octets))))
+        report.expect("the page runs with no error", not browser.errors, browser.errors)
+
+
+def check(report):
+    with tempfile.TemporaryDirectory(prefix="dmrgate-page-") as folder:
+        folder = pathlib.Path(folder)
+        if made(report, folder):
+            check_text(report, folder)
+            check_worker(report, folder)
+            check_browser(report, folder)
