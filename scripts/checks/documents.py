@@ -292,7 +292,8 @@ def picture_of(crates_txt):
     for name in reversed(libraries):
         # What these stand on themselves goes without saying.
         at_once = [it for it in named[name] if not any(it in below[other] for other in named[name])]
-        picture += [f"{name.ljust(max(map(len, libraries)))} ── {', '.join(at_once)}"] if at_once else []
+        line = f"{name.ljust(max(map(len, libraries)))} ── {', '.join(at_once)}"
+        picture += textwrap.wrap(line, 132, subsequent_indent=" " * (4 + max(map(len, libraries)))) if at_once else []
     return "\n".join(picture)
 
 

@@ -1,10 +1,15 @@
-"""Captures of hotspots: what is made of packets that are written here, in order, late, lost and of others, bent and cut ones."""
+"""Captures of hotspots: what is made of packets that are written here, in order, late, lost and of others, bent and cut ones; and
+the packets that a downlink is written as."""
 
 import random
+import shutil
+import subprocess
 
 from checks import bursts
 from checks import recordings as it
+from checks import talks
 from checks.capture_files import HEAD, as_pcapng, capture_head, packet
+from checks.log import DELAY, repeated_in, rows_of
 from checks.program import UNWRITTEN, Room
 
 # A voice header from 2 to 1, an A, a C to an F, and a terminator, with silence between them: nine frames of slot 1.
@@ -288,6 +293,125 @@ def check_words(report):
             report.expect("counts have no room", (ran.status, ran.err) == (1, UNWRITTEN), ran)
 
 
+# What stands in front of each payload that a downlink is written as, but for the checksum of UDP, and the packet of one block.
+HEADS = bytes.fromhex("45000051 00004000 4011B698 C0000201 C0000202 F24FF24F 003D")
+ONE_SENT = HEAD + bytes.fromhex(
+    "00000000 407E0500 51000000 51000000 45000051 00004000 4011B698 C0000201 C0000202 F24FF24F 003D1F78"
+    "444D5244 00 000000 000000 00000001 23 00000001"
+)
+
+
+class Sent:
+    """A packet that a downlink is written as, with the frame and the slot of its time."""
+
+    def __init__(self, record):
+        seconds, fraction = (int.from_bytes(record[place : place + 4], "little") for place in (0, 4))
+        self.frame, self.late = divmod(1_000_000 * seconds + fraction, 60_000)
+        self.heads, self.udp, self.payload = record[16:42], record[36:], record[44:]
+        self.number, self.flags, self.burst = self.payload[4], self.payload[15], self.payload[20:]
+        self.way = self.payload[5:8], self.payload[8:11]
+        self.repeater, self.stream = (int.from_bytes(self.payload[place : place + 4], "big") for place in (11, 16))
+        self.slot = 2 if self.flags & 0x80 else 1
+
+    def is_well(self, repeater=1):
+        """Its heads, its checksum, its time in the frame, and its repeater."""
+        addresses = bytes.fromhex("C0000201 C0000202")
+        sum_of_words = it.sum_of_words(addresses + bytes.fromhex("0011003D") + self.udp)
+        is_packet = self.heads == HEADS and sum_of_words == 0xFFFF and self.payload[:4] == b"DMRD"
+        return is_packet and self.late == (30_000 if self.slot == 2 else 0) and self.repeater == repeater
+
+
+def sent_in(capture):
+    return [Sent(capture[place : place + 97]) for place in range(24, len(capture), 97)]
+
+
+def marked_in(downlink):
+    """The bursts that are repeated, with their frames and slots, in the order of the file."""
+    records = enumerate(talks.slots_of(downlink, talks.OF_DOWNLINK))
+    return [(number // 2, number % 2 + 1, record[3:]) for number, record in records if record and record[0] >> 7]
+
+
+def check_streams(report, folder):
+    """The packets of a downlink beside its bursts, and their streams beside its transmissions."""
+    downlink = (folder / "downlink.dmrd").read_bytes()
+    ran = report.call("export", "dmrd", folder / "downlink.dmrd", "-")
+    packets, marked = sent_in(ran.out), marked_in(downlink)
+    had = [(sent.frame, sent.slot, sent.burst) for sent in packets]
+    is_so = ran.out[:24] == HEAD and had == marked and all(sent.is_well() for sent in packets)
+    report.expect(f"packets of {folder.name}", ran.status == 0 and is_so, ran)
+    every = sum(record is not None for record in talks.slots_of(downlink, talks.OF_DOWNLINK))
+    line = f"records {every} written {len(marked)} left-out {every - len(marked)}\n"
+    report.expect(f"counts of {folder.name}", ran.err.decode() == line, ran)
+    frames = dict(repeated_in(downlink))
+    rows = [(int(row["frame"]) + DELAY, slot, int(row["bursts"])) for slot in (1, 2) for row in rows_of(frames[slot], slot)]
+    firsts = {}
+    for sent in packets:
+        firsts.setdefault(sent.stream, []).append(sent)
+    streams = [(its[0].frame, its[0].slot, len(its)) for its in firsts.values()]
+    is_so = list(firsts) == list(range(1, len(rows) + 1)) and streams == sorted(rows)
+    report.expect(f"streams of {folder.name}", is_so, (streams, sorted(rows)))
+    for its in firsts.values():
+        is_so = all(sent.number == (sent.frame - its[0].frame) % 256 and sent.way == its[0].way for sent in its)
+        report.expect(f"stream {its[0].stream} of {folder.name}", is_so, [(sent.frame, sent.number, sent.way) for sent in its])
+
+
+def check_return(report, folder):
+    """What a downlink has repeated is repeated again, of the recording that its packets become."""
+    capture = report.call("export", "dmrd", folder / "downlink.dmrd", "-").out
+    uplink = report.call("import", "dmrd", "-", "-", "--as-uplink", given=capture).out
+    ran = report.call("run", "--uplink", "-", "--downlink", "-", "--llid", 1, given=uplink)
+    before, after = marked_in((folder / "downlink.dmrd").read_bytes()), marked_in(ran.out)
+    shift = after[0][0] - before[0][0] if before and after else 0
+    wanted = [(frame + shift, slot, burst) for frame, slot, burst in before]
+    report.expect(f"{folder.name} comes back", ran.status == 0 and after == wanted, (len(before), len(after), ran))
+
+
+def check_sent(report):
+    """Downlinks as packets."""
+    block = report.top / "samples/one_csbk/downlink.dmrd"
+    octets = block.read_bytes()
+    burst = marked_in(octets)[0][2]
+    ran = report.call("export", "dmrd", block, "-")
+    line = "records 2 written 1 left-out 1\n"
+    report.expect("one block as a packet", (ran.status, ran.out, ran.err.decode()) == (0, ONE_SENT + burst, line), ran)
+    ran = report.call("export", "dmrd", "-", "-", "--repeater=262001", "--start=2026-01-31T12:00:00Z", given=octets)
+    is_so = ran.out[24:32] == (1_769_860_800).to_bytes(4, "little") + (360_000).to_bytes(4, "little")
+    report.expect("a repeater and a begin", is_so and sent_in(ran.out)[0].repeater == 262_001, ran)
+    for count, fault, sent in (
+        (7, "cut record at octet 0", b""), (8 + 12, None, HEAD), (8 + 13, "cut record at octet 20, frame 6, slot 1", HEAD),
+        (57, "half frame at octet 57, frame 6, slot 2", ONE_SENT + burst),
+    ):
+        ran = report.call("export", "dmrd", "-", "-", given=octets[:count])
+        told = f"error: -: {fault}\n" if fault else "records 0 written 0 left-out 0\n"
+        is_so = (ran.status, ran.out, ran.err.decode()) == (int(fault is not None), sent, told)
+        report.expect(f"the first {count} octets", is_so, ran)
+    with Room(report) as room:
+        out = room.path / "out"
+        for text in ("2026", "2107-01-01T00:00:00Z", "1969-12-31T23:59:59Z"):
+            ran = report.call("export", "dmrd", block, out, "--start", text)
+            report.expect(f"export dmrd --start {text}", ran.is_error("--start is no time, as 2026-01-31T12:00:00Z", 2), ran)
+        for words in (["--repeater", 2**32], ["--repeater=x"], ["--slot=1"]):
+            ran = report.call("export", "dmrd", block, out, *words)
+            report.expect(f"export dmrd {words}", (ran.status, ran.out, bool(ran.err)) == (2, b"", True), ran)
+        report.expect("no capture is made", not out.exists())
+        uplink = block.with_name("uplink.dmru")
+        ran = report.call("export", "dmrd", uplink, out)
+        report.expect("an uplink as packets", ran.is_error(f"{uplink}: bad magic at octet 0"), ran)
+        ran = report.call("export", "dmrd", block, out)
+        report.expect("a named capture", (ran.status, ran.out.decode(), ran.err) == (0, line, b""), ran)
+        if not shutil.which("tshark"):
+            report.skip(1, "no tshark to read packets of a downlink")
+        else:
+            fields = ("-e", "ip.checksum.status", "-e", "udp.checksum.status")
+            checks = ("-o", "ip.check_checksum:TRUE", "-o", "udp.check_checksum:TRUE")
+            command = ["tshark", *checks, "-r", out, "-T", "fields", *fields]
+            ran = subprocess.run(command, capture_output=True, text=True)
+            report.expect("checksums by tshark", ran.stdout.split() == ["1", "1"], ran)
+    for folder in sorted(report.top.glob("samples/*/")):
+        check_streams(report, folder)
+        check_return(report, folder)
+
+
 def check(report):
     check_cases(report)
     check_numbers(report)
@@ -295,3 +419,4 @@ def check(report):
     check_drawn(report)
     check_bent(report)
     check_words(report)
+    check_sent(report)

@@ -412,6 +412,7 @@ Usage: dmrgate export <COMMAND>
 Commands:
   text       Writes any of the four files as lines of text
   datagrams  Writes the datagrams of a received list as a capture
+  dmrd       Writes the repeated bursts of a downlink as a capture
   help       Print this message or the help of the given subcommand(s)
 
 Options:
@@ -473,6 +474,41 @@ Example:
 
 The capture is described in docs/protocol.md.
 """,
+    "export dmrd": """Writes the repeated bursts of a downlink as a capture
+
+Usage: dmrgate export dmrd [OPTIONS] <DOWNLINK> <OUT>
+
+Arguments:
+  <DOWNLINK>  The downlink recording; - is standard input
+  <OUT>       The capture, to write; - is standard output
+
+Options:
+      --repeater <N>  The number of the repeater in them [default: 1]
+      --start <TIME>  When the run began, as 2026-01-31T12:00:00Z
+  -h, --help          Print help
+
+A downlink is the one that a run writes. Each of its bursts that is repeated,
+which its CACH says, becomes a packet of UDP that begins with DMRD: the protocol
+by which repeaters carry bursts to their network, port 62031. They go from
+192.0.2.1 to 192.0.2.2. Other bursts are counted, and left out.
+
+A stream is what `dmrgate log` calls a transmission. Streams are numbered from
+1 on, and packets by their frames in it from 0, so that a lost block leaves a
+number out. All packets of a stream have its addresses, those of a late call
+from its first superframe, or zeros where there are none. A packet's time is
+when its frame began, and 30 ms later in slot 2, counted from --start, or else
+from 1970. The capture is pcap, of link type 228, for Wireshark, tshark and
+tcpdump. Where the downlink is a pipe, each packet is written four frames later.
+
+Status 0: done, and the counts are in a line on standard output, or on standard
+error where the capture goes to standard output; 1: a fault, which is told on
+standard error, and the packets before it are written; 2: the command line.
+
+Example:
+  dmrgate export dmrd downlink.dmrd - --repeater 262001 | tshark -r -
+
+The capture is described in docs/protocol.md.
+""",
 }
 
 
@@ -526,7 +562,8 @@ def check_manual(report, wanted, version):
     report.expect("the manual's options", options_in(plain) == wanted, options_in(plain) ^ wanted)
     report.expect("the manual's version", f'"{version}"' in text, version)
     told = dict(re.findall(r"^\.BI (--[a-z-]+) .*\n.*; (\d+) where it is left out\.$", plain, re.MULTILINE))
-    helps = (report.call(*name.split(), "--help").out.decode() for name in ("run", "damage", "import datagrams", "import dmrd"))
+    names = "run", "damage", "import datagrams", "import dmrd", "export dmrd"
+    helps = (report.call(*name.split(), "--help").out.decode() for name in names)
     defaults = {option: value for text in helps for option, value in defaults_in(text).items()}
     report.expect("the manual's defaults", told == defaults, told)
     if shutil.which("groff"):
@@ -541,7 +578,7 @@ def offered(report, *words):
     return set(ran.stdout.split())
 
 
-def check_completions(report, top, run, slot, show, log, make, damage, compare, carrying, listing, capturing, hotspot):
+def check_completions(report, top, run, slot, show, log, make, damage, compare, carrying, listing, capturing, hotspot, sending):
     commands = {"run", "slot", "show", "log", "make", "damage", "compare", "import", "export"}
     for words, wanted in (
         (["dmrgate", ""], {*commands, "help"} | top),
@@ -593,7 +630,7 @@ def check_completions(report, top, run, slot, show, log, make, damage, compare, 
         (["dmrgate", "help", ""], commands),
         (["dmrgate", "help", "show", ""], set()),
         (["dmrgate", "help", "import", ""], {"text", "datagrams", "dmrd"}),
-        (["dmrgate", "help", "export", ""], {"text", "datagrams"}),
+        (["dmrgate", "help", "export", ""], {"text", "datagrams", "dmrd"}),
         (["dmrgate", "import", ""], {"text", "datagrams", "dmrd", "help"} | carrying),
         (["dmrgate", "import", "dmrd", "-"], hotspot),
         (["dmrgate", "import", "dmrd", "--repeater", ""], set()),
@@ -603,7 +640,9 @@ def check_completions(report, top, run, slot, show, log, make, damage, compare, 
         (["dmrgate", "import", "datagrams", "--first-frame", ""], set()),
         (["dmrgate", "export", "datagrams", "-"], capturing),
         (["dmrgate", "export", "datagrams", "--start", ""], set()),
-        (["dmrgate", "export", "d"], {"datagrams"}),
+        (["dmrgate", "export", "dmrd", "-"], sending),
+        (["dmrgate", "export", "dmrd", "--repeater", ""], set()),
+        (["dmrgate", "export", "d"], {"datagrams", "dmrd"}),
         (["dmrgate", "export", "t"], {"text"}),
         (["dmrgate", "export", "text", "-"], carrying),
         (["dmrgate", "export", "text", "READ"], {"README.md"}),
@@ -617,9 +656,10 @@ def check_completions(report, top, run, slot, show, log, make, damage, compare, 
     later = r"^    (?:slot|show|log|make|damage|compare|import|export|help)\)$"
     parts = [text[:begin], *re.split(later, text[begin:], flags=re.MULTILINE)]
     names = "the program", "run", "slot", "show", "log", "make", "damage", "compare", "import", "export"
-    for name, part, wanted in zip(names, parts, (top, run, slot, show, log, make, damage, compare, listing | hotspot, capturing)):
+    offers = top, run, slot, show, log, make, damage, compare, listing | hotspot, capturing | sending
+    for name, part, wanted in zip(names, parts, offers):
         report.expect(f"zsh's options of {name}", options_in(part) == wanted, options_in(part) ^ wanted)
-        kinds = {"import": 3, "export": 2}.get(name, 1)
+        kinds = {"import": 3, "export": 3}.get(name, 1)
         is_so = name == "the program" or part.count("_arguments -S ") == kinds
         report.expect(f"zsh offers no option of {name} behind --", is_so, part)
         without = re.findall(r"(--[a-z-]+)\[[^]]*\]:", part)
@@ -633,6 +673,7 @@ def check_completions(report, top, run, slot, show, log, make, damage, compare, 
         ("import datagrams", "from import; and __fish_seen_subcommand_from datagrams'", listing),
         ("import dmrd", "from import; and __fish_seen_subcommand_from dmrd'", hotspot),
         ("export datagrams", "from export; and __fish_seen_subcommand_from datagrams'", capturing),
+        ("export dmrd", "from export; and __fish_seen_subcommand_from dmrd'", sending),
     )
     for name, mark, wanted in marks:
         had = everywhere | {f"--{word}" for line in lines if mark in line for word in re.findall(r" -l ([a-z-]+)", line)}
@@ -750,14 +791,14 @@ def check(report):
     options = check_help(report)
     commands = "", "run", "slot", "show", "log", "make", "damage", "compare", "import text", "import datagrams", "export datagrams"
     top, run, slot, show, log, make, damage, compare, carrying, listing, capturing = (options[it] for it in commands)
-    hotspot = options["import dmrd"]
+    hotspot, sending = options["import dmrd"], options["export dmrd"]
     ran = report.call("--version")
     version = ran.out.decode().strip()
     is_version = re.fullmatch(r"dmrgate \d+\.\d+\.\d+", version) and ran.status == 0 and ran.err == b""
     report.expect("the version", is_version, ran)
     short = report.call("-V")
     report.expect("-V is --version", (short.status, short.out, short.err) == (ran.status, ran.out, ran.err), short)
-    check_manual(report, top | run | slot | show | log | make | damage | compare | listing | capturing | hotspot, version)
+    check_manual(report, top | run | slot | show | log | make | damage | compare | listing | capturing | hotspot | sending, version)
     check_examples(report)
-    check_completions(report, top, run, slot, show, log, make, damage, compare, carrying, listing, capturing, hotspot)
+    check_completions(report, top, run, slot, show, log, make, damage, compare, carrying, listing, capturing, hotspot, sending)
     check_readme(report)

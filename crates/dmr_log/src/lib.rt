@@ -27,6 +27,8 @@ pub use checks::Checks;
 pub use ear::FrameReceived;
 pub use log::{FrameTold, Log, LogCounts};
 pub use recording_log::{LogSummary, log_recording};
-pub use repeated::{ControlKind, PacketHead, Repeated};
+pub use repeated::{ControlKind, PacketHead, Repeated, data_told};
 pub use slot_log::SlotTold;
-pub use transmission::{Call, CallStage, Ended, EndedBy, Packet, Span, Subject, Transmission};
+pub use transmission::{
+    Call, CallStage, Ended, EndedBy, Packet, Span, Subject, Transmission, go_on,
+};

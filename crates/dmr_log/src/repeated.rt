@@ -166,12 +166,9 @@ fn pi_header_told(link_control: Option<FullLc>) -> Repeated
     }
 }
 
-/// A data burst of this type that is repeated. It has the link control of its call, where it is of one, and these contents.
-pub(crate) fn data_told(
-    kind: u8,
-    link_control: Option<FullLc>,
-    contents: Option<Contents>,
-) -> Repeated
+/// A data burst of this type that is repeated. It has the link control of its call, where it is of one, and these contents. The
+/// types are those of ETSI TS 102 361-1, clause 9.3.6.
+pub fn data_told(kind: u8, link_control: Option<FullLc>, contents: Option<Contents>) -> Repeated
     ensures value { result ≡ spec.data_told kind link_control contents }
 {
     match kind {

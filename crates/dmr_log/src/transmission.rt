@@ -314,8 +314,8 @@ fn ended_by(repeated: &Repeated) -> EndedBy
 }
 
 /// Goes on from the transmission that is open, if one is, to that behind a frame which repeats this. It answers the transmission
-/// that ended in front of the frame, if one did.
-pub(crate) fn go_on(
+/// that ended in front of the frame, if one did. The rule is this project's own.
+pub fn go_on(
     current: &mut Option<Transmission>,
     frame: u32,
     repeated: &Repeated,

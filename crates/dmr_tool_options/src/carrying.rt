@@ -1,6 +1,6 @@
 //! `import` and `export`, each with a command for each other format.
 
-use crate::hotspot::import_dmrd_command;
+use crate::hotspot::{export_dmrd_command, import_dmrd_command};
 use crate::showing::slot;
 use crate::texts::{
     ABOUT_EXPORTED_DATAGRAMS, ABOUT_EXPORTED_TEXTS, ABOUT_IMPORTED_DATAGRAMS, ABOUT_IMPORTED_TEXTS,
@@ -62,7 +62,7 @@ fn import_text_command<'a>(alloc: Global) -> Result<Command<'a>, AllocError> {
 }
 
 /// When the recording began.
-fn start<'a>(alloc: Global) -> Arg<'a> {
+pub(crate) fn start<'a>(alloc: Global) -> Arg<'a> {
     let help = "When the run began, as 2026-01-31T12:00:00Z";
     number(alloc, "start", help).value_name("TIME")
 }
@@ -142,7 +142,8 @@ fn import_datagrams_command<'a>(alloc: Global) -> Result<Command<'a>, AllocError
 pub(crate) fn export_command<'a>(alloc: Global) -> Result<Command<'a>, AllocError> {
     let text = export_text_command(alloc)?;
     let datagrams = export_datagrams_command(alloc)?;
-    let formats = vec![in alloc; text, datagrams]?;
+    let dmrd = export_dmrd_command(alloc)?;
+    let formats = vec![in alloc; text, datagrams, dmrd]?;
     with_formats(alloc, Listed::Export, formats)
 }
 

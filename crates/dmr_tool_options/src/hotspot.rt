@@ -1,7 +1,7 @@
-//! `import dmrd` with its options.
+//! `import dmrd` and `export dmrd` with their options.
 
-use crate::carrying::{files, flag};
-use crate::texts::ABOUT_IMPORTED_PACKETS;
+use crate::carrying::{files, flag, start};
+use crate::texts::{ABOUT_EXPORTED_PACKETS, ABOUT_IMPORTED_PACKETS};
 use clap::{Arg, Command, value_parser};
 use dmr_options::number;
 use std::alloc::{AllocError, Global};
@@ -50,6 +50,29 @@ pub(crate) fn import_dmrd_command<'a>(alloc: Global) -> Result<Command<'a>, Allo
     Command::new(alloc, "dmrd")
         .about("Makes a recording of the packets of hotspots in a capture")
         .after_help(ABOUT_IMPORTED_PACKETS)
+        .args(files)?
+        .args(options)
+}
+
+/// The repeater that the packets name as their own.
+fn own_number<'a>(alloc: Global) -> Arg<'a> {
+    number(alloc, "repeater", "The number of the repeater in them")
+        .value_parser(value_parser!(u32))
+        .default_value("1")
+}
+
+/// `export dmrd`, with its files and its options.
+pub(crate) fn export_dmrd_command<'a>(alloc: Global) -> Result<Command<'a>, AllocError> {
+    let files = files(
+        alloc,
+        "DOWNLINK",
+        "The downlink recording; - is standard input",
+        "The capture, to write; - is standard output",
+    )?;
+    let options = vec![in alloc; own_number(alloc), start(alloc)]?;
+    Command::new(alloc, "dmrd")
+        .about("Writes the repeated bursts of a downlink as a capture")
+        .after_help(ABOUT_EXPORTED_PACKETS)
         .args(files)?
         .args(options)
 }

@@ -179,3 +179,22 @@ error where the recording goes to standard output; 1: a fault, which is told on\
 standard error, and nothing is written; 2: the command line.\n\n\
 Example:\n  dmrgate import dmrd hotspot.pcap uplink.dmru --as-uplink\n\n\
 The rule is described in docs/protocol.md.";
+
+/// What help says behind the options of `export dmrd`.
+pub(crate) const ABOUT_EXPORTED_PACKETS: &str =
+    "A downlink is the one that a run writes. Each of its bursts that is repeated,\n\
+which its CACH says, becomes a packet of UDP that begins with DMRD: the protocol\n\
+by which repeaters carry bursts to their network, port 62031. They go from\n\
+192.0.2.1 to 192.0.2.2. Other bursts are counted, and left out.\n\n\
+A stream is what `dmrgate log` calls a transmission. Streams are numbered from\n\
+1 on, and packets by their frames in it from 0, so that a lost block leaves a\n\
+number out. All packets of a stream have its addresses, those of a late call\n\
+from its first superframe, or zeros where there are none. A packet's time is\n\
+when its frame began, and 30 ms later in slot 2, counted from --start, or else\n\
+from 1970. The capture is pcap, of link type 228, for Wireshark, tshark and\n\
+tcpdump. Where the downlink is a pipe, each packet is written four frames later.\n\n\
+Status 0: done, and the counts are in a line on standard output, or on standard\n\
+error where the capture goes to standard output; 1: a fault, which is told on\n\
+standard error, and the packets before it are written; 2: the command line.\n\n\
+Example:\n  dmrgate export dmrd downlink.dmrd - --repeater 262001 | tshark -r -\n\n\
+The capture is described in docs/protocol.md.";

@@ -9,4 +9,5 @@ abbrev pub is_to_octets : Direction → Bool
 is_to_octets (Import format) = true
 is_to_octets (Export to.Text) = false
 is_to_octets (Export (to.Datagrams settings)) = true
+is_to_octets (Export (to.Dmrd settings)) = true
 is_to_octets (Damage damage seed) = true

@@ -4,6 +4,7 @@ use Rattle.clap.specs.declared.parser.matches.Found.{Found}
 use Rattle.dmr_dmrd.specs.declared.hold.ImportSettings.{ImportSettings}
 use Rattle.dmr_dmrd.specs.declared.taking.Ports.{Ports}
 use Rattle.dmr_dmrd.specs.declared.taking.Ports.TheVariants.{To, From}
+use Rattle.dmr_dmrd_export.specs.declared.settings.ExportSettings.{ExportSettings}
 use Rattle.dmr_options.specs.Found.{IsFlagOf, IsGivenBy, IsNumberOf}
 
 -- from a port where one is given, and else to the other
@@ -24,3 +25,7 @@ pub record AreHotspotSettings (found : Found) (settings : ImportSettings) : Type
   pub ports : ArePortsOf found settings.ports
   pub repeater : IsGivenBy 32 found (codes "repeater") settings.repeater
   pub as_uplink : IsFlagOf found (codes "as-uplink") settings.as_uplink
+
+-- The repeater of the packets of a downlink is that of the option of its name. What time the text of `start` is, is left open.
+pub record AreBurstSettings (found : Found) (settings : ExportSettings) : Type 0 where
+  pub repeater : IsNumberOf 32 found (codes "repeater") settings.repeater

@@ -14,7 +14,7 @@ use Rattle.dmr_tools.specs.Comparison.{IsComparisonOf, shares_input}
 use Rattle.dmr_tools.specs.Damaging.{IsDamageOf}
 use Rattle.dmr_tools.specs.Datagrams.{AreExportSettings, AreImportSettings}
 use Rattle.dmr_tools.specs.Filters.{IsFilterOf, is_backwards}
-use Rattle.dmr_tools.specs.Hotspot.{AreHotspotSettings}
+use Rattle.dmr_tools.specs.Hotspot.{AreBurstSettings, AreHotspotSettings}
 use Rattle.dmr_tools.specs.LogRequest.{AreLogSettings, ArePageSettings}
 use Rattle.dmr_tools.specs.Making.{AreMakePlaces, are_both_to_output, is_any_to_output}
 use Rattle.dmr_tools.specs.declared.comparison.Comparison.{Comparison}
@@ -56,6 +56,7 @@ import_name (from.Dmrd settings) = codes "dmrd"
 abbrev pub export_name : ExportFormat → Text
 export_name to.Text = codes "text"
 export_name (to.Datagrams settings) = codes "datagrams"
+export_name (to.Dmrd settings) = codes "dmrd"
 
 -- A format's settings are those of its options. Texts have none.
 abbrev pub AreSettingsOfImport : Found → ImportFormat → Type 0
@@ -66,6 +67,7 @@ AreSettingsOfImport found (from.Dmrd settings) = AreHotspotSettings found settin
 abbrev pub AreSettingsOfExport : Found → ExportFormat → Type 0
 AreSettingsOfExport found to.Text = Unit {0}
 AreSettingsOfExport found (to.Datagrams settings) = AreExportSettings found settings
+AreSettingsOfExport found (to.Dmrd settings) = AreBurstSettings found settings
 
 -- The places are those of the words `input` and `output`.
 pub record ArePairPlaces (found : Found) (places : PairPlaces) : Type 0 where
@@ -91,9 +93,14 @@ abbrev pub NamesImport : ArgMatches → Type 0
 NamesImport given = (subcommand_name_of given ≡ Some (codes "text")) ⊎ (subcommand_name_of given ≡ Some (codes "datagrams"))
     ⊎ (subcommand_name_of given ≡ Some (codes "dmrd"))
 
+-- `export` was given the name of a format that is a capture.
+abbrev pub NamesCapture : ArgMatches → Type 0
+NamesCapture given = (subcommand_name_of given ≡ Some (codes "datagrams")) ⊎ (subcommand_name_of given ≡ Some (codes "dmrd"))
+
 -- `export` was given the name of a format.
 abbrev pub NamesExport : ArgMatches → Type 0
 NamesExport given = (subcommand_name_of given ≡ Some (codes "text")) ⊎ (subcommand_name_of given ≡ Some (codes "datagrams"))
+    ⊎ (subcommand_name_of given ≡ Some (codes "dmrd"))
 
 -- What a command with these options asks for: `show` for a listing, which is refused where it begins beyond its end; `log` for a
 -- log, for its page, or for one that is refused; `make` for the files of a script, which are refused where both would be standard
@@ -145,8 +152,7 @@ IsAskedOfTools (Some command) (Import format places) =
     (command.0 ≡ codes "import") × IsImportedFrom command.1 format places
 IsAskedOfTools (Some command) (Export format places) =
     (command.0 ≡ codes "export") × IsExportedTo command.1 format places
-IsAskedOfTools (Some command) NoStart =
-    (command.0 ≡ codes "export") × (subcommand_name_of command.1 ≡ Some (codes "datagrams"))
+IsAskedOfTools (Some command) NoStart = (command.0 ≡ codes "export") × NamesCapture command.1
 IsAskedOfTools (Some command) (Elsewhere name) =
     (command.0 ≡ codes "show" → ⊥) × (command.0 ≡ codes "log" → ⊥) × (command.0 ≡ codes "make" → ⊥)
     × (command.0 ≡ codes "damage" → ⊥) × (command.0 ≡ codes "compare" → ⊥)

@@ -12,10 +12,11 @@ use dmr_capture::CaptureFault;
 use dmr_damage::{Damage, DamageEnd, DamageSettings, Damaged, SettingsFault, damage_recording};
 use dmr_datagrams::{ExportedDatagrams, ImportedDatagrams, export_datagrams, import_datagrams};
 use dmr_dmrd::{ImportedBursts, import_dmrd};
+use dmr_dmrd_export::{ExportedBursts, export_dmrd};
 use dmr_files::{BufferedPair, PairFault, System, is_sent_to_terminal, open_buffered, write_out};
 use dmr_lines::{FAILURE, SUCCESS, ToldName};
 use dmr_record::{Sink, Source};
-use dmr_recording::FaultLine;
+use dmr_recording::{FaultLine, Stop};
 use dmr_text::{Carried, ExportEnd, ImportEnd, LineFault, export_text, import_text};
 use std::alloc::Global;
 use std::fmt;
@@ -38,7 +39,7 @@ impl Direction {
     {
         match self {
             Direction::Import(_) | Direction::Damage { .. } => true,
-            Direction::Export(ExportFormat::Datagrams(_)) => true,
+            Direction::Export(ExportFormat::Datagrams(_) | ExportFormat::Dmrd(_)) => true,
             Direction::Export(ExportFormat::Text) => false,
         }
     }
@@ -117,6 +118,15 @@ impl From<dmr_dmrd::ImportEnd> for CarryFault {
     }
 }
 
+impl From<Stop> for CarryFault {
+    fn from(stop: Stop) -> CarryFault {
+        match stop {
+            Stop::File(fault) => CarryFault::File(fault),
+            Stop::Output => CarryFault::Write,
+        }
+    }
+}
+
 impl From<DamageEnd> for CarryFault {
     fn from(end: DamageEnd) -> CarryFault {
         match end {
@@ -160,6 +170,8 @@ pub(crate) enum Done {
     ExportedDatagrams(ExportedDatagrams),
     /// A recording was made of a capture.
     ImportedBursts(ImportedBursts),
+    /// A capture was made of a downlink.
+    ExportedBursts(ExportedBursts),
 }
 
 impl fmt::Display for Done {
@@ -170,6 +182,7 @@ impl fmt::Display for Done {
             Done::ImportedDatagrams(imported) => imported.fmt(f),
             Done::ExportedDatagrams(exported) => exported.fmt(f),
             Done::ImportedBursts(imported) => imported.fmt(f),
+            Done::ExportedBursts(exported) => exported.fmt(f),
         }
     }
 }
@@ -236,6 +249,10 @@ fn carry_between<S: Source, K: Sink>(
         Direction::Export(ExportFormat::Datagrams(settings)) => {
             let exported = export_datagrams(alloc, settings, source, sink)?;
             Ok(Done::ExportedDatagrams(exported))
+        }
+        Direction::Export(ExportFormat::Dmrd(settings)) => {
+            let exported = export_dmrd(&settings, source, sink)?;
+            Ok(Done::ExportedBursts(exported))
         }
         Direction::Damage { damage, seed } => {
             let settings = DamageSettings::new(damage, seed)?;

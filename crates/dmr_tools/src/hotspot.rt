@@ -1,11 +1,13 @@
 //! What the options of captures of hotspots ask for.
-ghost use Rattle.std.specs.Prelude.{◌≡◌, codes};
+ghost use Rattle.std.specs.Prelude.{◌≡◌, IfSome, codes};
 ghost use Rattle.clap.specs.Words.{found_of};
 ghost use Rattle.dmr_options.specs.Found.{IsGivenBy, IsNumberOf};
 ghost use Rattle.dmr_tools.specs.Hotspot as spec;
 
+use crate::datagrams::start_of;
 use clap::ArgMatches;
 use dmr_dmrd::{ImportSettings, Ports};
+use dmr_dmrd_export::ExportSettings;
 use dmr_options::flag_of;
 
 /// The port to which packets go, which has a default.
@@ -55,4 +57,19 @@ pub(crate) fn hotspot_settings_of(import: &ArgMatches<'_>) -> ImportSettings
         repeater: repeater_of(import),
         as_uplink: flag_of(import, "as-uplink"),
     }
+}
+
+/// The number of the repeater that packets name, which has a default.
+fn own_number_of(export: &ArgMatches<'_>) -> u32
+    ensures number { IsNumberOf 32 (found_of export.now) (codes "repeater") result }
+{
+    export.get_one::<u32>("repeater").unwrap_or(0)
+}
+
+/// How a downlink is to be written. None is a begin that is no time, or that a capture has no room for.
+pub(crate) fn burst_settings_of(export: &ArgMatches<'_>) -> Option<ExportSettings>
+    ensures settings { IfSome result (λ settings. spec.AreBurstSettings (found_of export.now) settings) }
+{
+    let start = start_of(export)?;
+    ExportSettings::new(own_number_of(export), start)
 }

@@ -8,8 +8,8 @@
 //! `LogRequest`, `Making`, `Damaging`, `Datagrams`, `Hotspot` and `Comparison`, and where a line goes that tells how much was
 //! written. `specs/Listed.antt` says what a listing or a log prints, and `specs/Comparing.antt` what a comparison does. What a file
 //! shows is `dmr_show`'s, its log is `dmr_log_forms`'s and as a page `dmr_log_page`'s, and its text is `dmr_text`'s. Captures are
-//! those of `dmr_datagrams` and `dmr_dmrd`. Wrong bits are `dmr_damage`'s, and where a file differs from another is
-//! `dmr_compare`'s. What a script says is `dmr_script`'s, and what is made of it `dmr_planning`'s.
+//! those of `dmr_datagrams`, `dmr_dmrd` and `dmr_dmrd_export`. Wrong bits are `dmr_damage`'s, and where a file differs from
+//! another is `dmr_compare`'s. What a script says is `dmr_script`'s, and what is made of it `dmr_planning`'s.
 #![tactic(auto)]
 
 mod carrying;

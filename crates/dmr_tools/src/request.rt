@@ -11,7 +11,7 @@ ghost use Rattle.dmr_tools.specs.Request.{ArePairPlaces};
 use crate::comparison::Comparison;
 use crate::damaging::{damage_of, seed_of};
 use crate::datagrams::{exported_slot_of, import_settings_of, start_of};
-use crate::hotspot::hotspot_settings_of;
+use crate::hotspot::{burst_settings_of, hotspot_settings_of};
 use crate::make_places::MakePlaces;
 use clap::{ArgMatches, Error};
 use dmr_damage::Damage;
@@ -43,6 +43,8 @@ pub enum ExportFormat {
     Text,
     /// A capture of packets, with the datagrams of a received list.
     Datagrams(ExportSettings),
+    /// A capture of packets of a hotspot, with the repeated bursts of a downlink.
+    Dmrd(dmr_dmrd_export::ExportSettings),
 }
 
 /// Where a file stands that is carried, and where it goes.
@@ -340,6 +342,13 @@ fn export_request<'a>(export: &ArgMatches<'a>) -> Request<'a>
                     slot: exported_slot_of(files),
                     start,
                 }),
+                places: places_of(files),
+            },
+            None => Request::NoStart,
+        },
+        Some(("dmrd", files)) => match burst_settings_of(files) {
+            Some(settings) => Request::Export {
+                format: ExportFormat::Dmrd(settings),
                 places: places_of(files),
             },
             None => Request::NoStart,

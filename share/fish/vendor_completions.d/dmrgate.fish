@@ -52,7 +52,7 @@ complete -c dmrgate -n '__fish_seen_subcommand_from compare' -l ignore -x -a 'ca
 complete -c dmrgate -n '__fish_seen_subcommand_from compare' -l quiet -d 'Print the counts alone'
 complete -c dmrgate -n '__fish_seen_subcommand_from import export; and not __fish_seen_subcommand_from text datagrams dmrd' -a text -d 'Lines of text'
 complete -c dmrgate -n '__fish_seen_subcommand_from import export; and not __fish_seen_subcommand_from text datagrams dmrd' -a datagrams -d 'A capture of datagrams'
-complete -c dmrgate -n '__fish_seen_subcommand_from import; and not __fish_seen_subcommand_from text datagrams dmrd' -a dmrd -d 'A capture of hotspots'
+complete -c dmrgate -n '__fish_seen_subcommand_from import export; and not __fish_seen_subcommand_from text datagrams dmrd' -a dmrd -d 'A capture of hotspots'
 complete -c dmrgate -n '__fish_seen_subcommand_from text datagrams dmrd' -F
 complete -c dmrgate -n '__fish_seen_subcommand_from import; and __fish_seen_subcommand_from datagrams' -l slot -x -a '1 2' -d 'The slot in which they are to go out'
 complete -c dmrgate -n '__fish_seen_subcommand_from import; and __fish_seen_subcommand_from datagrams' -l confirmed -d 'As confirmed packets'
@@ -64,3 +64,5 @@ complete -c dmrgate -n '__fish_seen_subcommand_from import; and __fish_seen_subc
 complete -c dmrgate -n '__fish_seen_subcommand_from import; and __fish_seen_subcommand_from dmrd' -l as-uplink -d 'Make the syncs of a base station those of mobiles'
 complete -c dmrgate -n '__fish_seen_subcommand_from export; and __fish_seen_subcommand_from datagrams' -l slot -x -a '1 2' -d 'The slot alone'
 complete -c dmrgate -n '__fish_seen_subcommand_from export; and __fish_seen_subcommand_from datagrams' -l start -x -d 'When the run began, as 2026-01-31T12:00:00Z'
+complete -c dmrgate -n '__fish_seen_subcommand_from export; and __fish_seen_subcommand_from dmrd' -l repeater -x -d 'The number of the repeater in them'
+complete -c dmrgate -n '__fish_seen_subcommand_from export; and __fish_seen_subcommand_from dmrd' -l start -x -d 'When the run began, as 2026-01-31T12:00:00Z'

@@ -35,3 +35,20 @@ returns-in-Some c =
         },
       );
     }
+
+pub returns-in-Some-burst_settings_of : goal.returns-in-Some-burst_settings_of
+returns-in-Some-burst_settings_of c =
+    let capture = c.in-Some-dmrd-default in record {
+      asked = (
+        refl,
+        record {
+          found = found_of capture.files.now;
+          of_format = record {
+            name = sym capture.ensures.name ∙ ap Some capture.is-dmrd;
+            rows = sym capture.ensures.rows;
+          };
+          are_settings = c.in-Some-burst_settings_of.ensures.settings;
+          are_places = c.places_of-in-Some-burst_settings_of.ensures.places;
+        },
+      );
+    }

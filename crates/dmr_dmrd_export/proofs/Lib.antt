@@ -1,0 +1,5 @@
+mod EachPacket
+mod Slots
+mod Streaming
+pub mod Told
+mod Writing

@@ -1,0 +1,7 @@
+pub mod BurstExports
+pub mod BurstPackets
+pub mod Deciding
+pub mod EachBurst
+pub mod Repeats
+pub mod StreamAddresses
+pub mod Streams
