@@ -1,5 +1,6 @@
 pub mod BurstExports
 pub mod BurstPackets
+pub mod CountTexts
 pub mod Deciding
 pub mod EachBurst
 pub mod Repeats

@@ -1,4 +1,7 @@
 //! What is counted of a downlink.
+ghost use Rattle.std.specs.Prelude.{Some};
+ghost use Rattle.dmr_dmrd_export.specs.CountTexts.{exported_bursts_text};
+
 use std::fmt;
 
 /// How many bursts a downlink has, and how many of them were written to a capture.
@@ -11,6 +14,8 @@ pub struct ExportedBursts {
 }
 
 impl fmt::Display for ExportedBursts {
+    ghost output = { λ exported. Some (exported_bursts_text exported) };
+
     /// `records 52 written 26 left-out 26`
     fn fmt<W: fmt::Write>(&self, f: &mut fmt::Formatter<W>) -> fmt::Result {
         let ExportedBursts { records, written } = *self;
