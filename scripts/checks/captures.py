@@ -1,11 +1,12 @@
-"""Captures: what is made of lists, and of captures that are written here, bent and cut ones, words, and live."""
+"""Captures: what is made of lists, and of captures that are written here and elsewhere, bent and cut ones, words, and live."""
 
 import shutil
 import subprocess
 
 from checks import hotspots
 from checks import recordings as it
-from checks.capture_files import HEAD, as_pcapng, capture_head, packet
+from checks.capture_files import FAULTS, HEAD, as_pcapng, by_others, capture_head, cut_and_bent, packet
+from checks.limits import have_little_memory
 from checks.program import UNWRITTEN, Room
 from checks.text import expect_live
 
@@ -54,6 +55,14 @@ def check_exports(report):
         report.expect(f"datagrams of {folder.parent.name}", is_so and ran.out.startswith(HEAD), ran)
 
 
+def of_ethernet():
+    """A capture of Ethernet, which fills a short packet up. The first packet is no datagram of a radio, and the last one none."""
+    ethernet = bytes(12) + bytes.fromhex("0800")
+    other = DATAGRAM[:16] + bytes([10]) + DATAGRAM[17:]
+    frames = [ethernet + other, ethernet + DATAGRAM + bytes(18), bytes(12) + bytes.fromhex("0806") + bytes(46)]
+    return capture_head(1) + b"".join(packet(number, 0, frame) for number, frame in enumerate(frames))
+
+
 def check_imports(report):
     records = outgoing(it.outgoing_record(0), it.outgoing_record(16))
     for name, octets in (
@@ -66,12 +75,8 @@ def check_imports(report):
     ):
         ran = report.call("import", "datagrams", "-", "-", "--slot", 1, given=octets)
         expect(report, f"a list of a {name}", ran, records, "records 2 other 0\n")
-    # Ethernet fills a short packet up, and the first of these is no datagram of a radio.
-    ethernet = bytes(12) + bytes.fromhex("0800")
-    other = DATAGRAM[:16] + bytes([10]) + DATAGRAM[17:]
-    frames = [ethernet + other, ethernet + DATAGRAM + bytes(18), bytes(12) + bytes.fromhex("0806") + bytes(46)]
-    octets = capture_head(1) + b"".join(packet(number, 0, frame) for number, frame in enumerate(frames))
-    ran = report.call("import", "datagrams", "-", "-", "--slot", 2, "--confirmed", "--full-rate", "--first-frame", 7, given=octets)
+    words = ["--slot", 2, "--confirmed", "--full-rate", "--first-frame", 7]
+    ran = report.call("import", "datagrams", "-", "-", *words, given=of_ethernet())
     expect(report, "a list of Ethernet", ran, outgoing(it.outgoing_record(7, 2, 3)), "records 1 other 2\n")
     for words, mode in ((["--confirmed"], 1), (["--full-rate"], 2)):
         ran = report.call("import", "datagrams", "-", "-", "--slot", 1, *words, given=HEAD + packet(0, 0, DATAGRAM))
@@ -86,17 +91,11 @@ def check_imports(report):
 
 def check_bent(report):
     """Each front of a capture, and each with an octet bent, is a list or a named fault."""
-    named = (
-        "no capture", "cut head at octet", "cut packet at octet", "cut block at octet", "bad block at octet",
-        "too many interfaces at octet", "link type", "too long at octet",
-    )
-    for kind, octets in (("pcap", CAPTURED), ("pcapng", as_pcapng(TWO))):
-        fronts = [octets[:count] for count in range(len(octets))]
-        bent = [octets[:at] + bytes([octets[at] ^ turned]) + octets[at + 1 :] for at in range(len(octets)) for turned in (1, 0x80)]
-        for name, given in [*enumerate(fronts), *enumerate(bent, len(fronts))]:
+    for kind, octets in (("pcap", CAPTURED), ("pcapng", as_pcapng(TWO)), ("Ethernet", of_ethernet())):
+        for name, given in enumerate(cut_and_bent(octets)):
             ran = report.call("import", "datagrams", "-", "-", "--slot", 1, given=given)
             told = ran.err.decode().removeprefix("error: -: ")
-            is_fault = ran.status == 1 and told.startswith(named) and told.count("\n") == 1
+            is_fault = ran.status == 1 and told.startswith(FAULTS) and told.count("\n") == 1
             is_list = ran.status == 0 and it.outgoing_fault(ran.out) is None
             report.expect(f"{kind} {name}", is_fault or is_list, ran)
     for count, told in ((3, "cut head at octet 0"), (23, "cut head at octet 0"), (30, "cut packet at octet 24")):
@@ -148,6 +147,28 @@ def check_live(report):
     expect_live(report, "a capture of a pipe", ["export", "datagrams", "-", "-"], pieces, wanted, CAPTURED)
 
 
+def check_by_others(report):
+    """Captures that other programs write have the same lists."""
+    with Room(report) as room:
+        for name, octets in by_others(report, room.path, CAPTURED):
+            ran = report.call("import", "datagrams", "-", "-", "--slot", 1, given=octets)
+            records = outgoing(it.outgoing_record(0), it.outgoing_record(16))
+            expect(report, f"a list of a {name}", ran, records, "records 2 other 0\n")
+
+
+def check_large(report):
+    """A capture of 256 MiB with few packets that are taken, in little memory."""
+    other = packet(1, 0, bytes(1 << 16))
+    captures = (
+        ("datagrams", CAPTURED[24:], ["--slot", 1], outgoing(it.outgoing_record(0), it.outgoing_record(16))),
+        ("dmrd", hotspots.CAPTURED[24:], [], it.ONE_CSBK),
+    )
+    for command, few, words, wanted in captures:
+        given = HEAD + other * 2048 + few + other * 2048
+        ran = report.call("import", command, "-", "-", *words, given=given, preexec_fn=have_little_memory)
+        report.expect(f"{command} of a large capture", (ran.status, ran.out) == (0, wanted), ran)
+
+
 def check_beside_tshark(report):
     """Another program reads the capture that is written, and finds the same in it."""
     if not shutil.which("tshark"):
@@ -171,5 +192,7 @@ def check(report):
     check_bent(report)
     check_refused(report)
     check_live(report)
+    check_by_others(report)
+    check_large(report)
     check_beside_tshark(report)
     hotspots.check(report)

@@ -8,9 +8,10 @@ import subprocess
 from checks import bursts
 from checks import recordings as it
 from checks import talks
-from checks.capture_files import HEAD, as_pcapng, capture_head, packet
+from checks.capture_files import FAULTS, HEAD, as_pcapng, by_others, capture_head, cut_and_bent, packet
 from checks.log import DELAY, repeated_in, rows_of
 from checks.program import UNWRITTEN, Room
+from checks.text import expect_live
 
 # A voice header from 2 to 1, an A, a C to an F, and a terminator, with silence between them: nine frames of slot 1.
 GAPS = [
@@ -125,6 +126,36 @@ def expect(report, name, octets, wanted, line, *words):
 ONE = udp(payload(CONTROL_BLOCK, it.CSBK))
 CAPTURED = HEAD + at(1_000_000, ONE)
 
+# Packets that aren't taken.
+OTHERS = (
+    ("to another port", udp(payload(CONTROL_BLOCK, it.CSBK), destination=62032)),
+    ("54 octets", udp(payload(CONTROL_BLOCK, it.CSBK, tail=b"\0"))),
+    ("other octets", udp(b"DMRA" + payload(CONTROL_BLOCK, it.CSBK)[4:])),
+    ("a fragment", ONE[:6] + b"\x20\0" + ONE[8:]),
+    ("TCP", ONE[:9] + b"\6" + ONE[10:]),
+    ("no IPv4", b"\x65" + ONE[1:]),
+    ("one between masters", udp(payload(CONTROL_BLOCK, it.CSBK, tail=bytes(20)))),
+)
+
+
+def with_another(number, time, stream=0xFF7121F5, repeater=0x0003FF71):
+    """The packet, and another one so many microseconds later."""
+    return CAPTURED + at(1_000_000 + time, udp(payload(CONTROL_BLOCK, it.CSBK, number, stream, repeater=repeater)))
+
+
+def of_repeaters():
+    """Two packets of a repeater, and one of another between them."""
+    third = at(1_120_000, udp(payload(CONTROL_BLOCK, it.CSBK, 2)))
+    return with_another(0, 60_000, 0xFF7121F6, 0x0003FF72) + third
+
+
+def lossy_call(report):
+    """The bursts of a call of which two are lost, and their packets, up to 20 milliseconds late, with the syncs of a base station."""
+    call = call_of(report, "talker_alias")
+    lost = [None if frame in (9, 10) else burst for frame, burst in enumerate(call)]
+    kept = call_packets(call, [*range(len(call))], delay=lambda frame: frame * 7_919 % 20_000, change=station_burst)
+    return lost, captured([sent for frame, sent in enumerate(kept) if frame not in (9, 10)])
+
 
 def check_cases(report):
     """One packet, and what stands beside it."""
@@ -133,16 +164,7 @@ def check_cases(report):
     expect(report, "without bit errors and RSSI", HEAD + at(5, udp(payload(CONTROL_BLOCK, it.CSBK, tail=b""))), one, counts(1, 1))
     expect(report, "as pcapng", as_pcapng([(1_000_000, ONE)]), one, counts(1, 1))
     expect(report, "the packet twice", CAPTURED + at(1_000_001, ONE), one, counts(1, 1, late=1))
-    fragment = ONE[:6] + b"\x20\0" + ONE[8:]
-    for name, octets in (
-        ("to another port", udp(payload(CONTROL_BLOCK, it.CSBK), destination=62032)),
-        ("54 octets", udp(payload(CONTROL_BLOCK, it.CSBK, tail=b"\0"))),
-        ("other octets", udp(b"DMRA" + payload(CONTROL_BLOCK, it.CSBK)[4:])),
-        ("a fragment", fragment),
-        ("TCP", ONE[:9] + b"\6" + ONE[10:]),
-        ("no IPv4", b"\x65" + ONE[1:]),
-        ("one between masters", udp(payload(CONTROL_BLOCK, it.CSBK, tail=bytes(20)))),
-    ):
+    for name, octets in OTHERS:
         expect(report, name, HEAD + at(1_000_000, octets), none, counts(other=1))
     there = HEAD + at(0, udp(payload(CONTROL_BLOCK, it.CSBK), 1, 9))
     expect(report, "to a port that is named", there, one, counts(1, 1), "--port", 9)
@@ -158,29 +180,25 @@ def check_cases(report):
 
 def check_numbers(report):
     """Numbers and times behind one packet: late ones, lost ones, much later ones, other repeaters, and the end of a recording."""
-    def with_number(number, time, stream=0xFF7121F5, repeater=0x0003FF71):
-        return CAPTURED + at(1_000_000 + time, udp(payload(CONTROL_BLOCK, it.CSBK, number, stream, repeater=repeater)))
-
     def apart(frames):
         return recording(it.CSBK, *[None] * (frames - 2), it.CSBK)
 
-    expect(report, "much later", with_number(0x80, 3_840_000), apart(65), counts(65, 2))
-    expect(report, "not much later", with_number(0x80, 3_839_999), recording(it.CSBK), counts(1, 1, late=1))
-    expect(report, "127 numbers on", with_number(0x7F, 7_620_000), apart(128), counts(128, 2, lost=126))
-    expect(report, "data a frame late", with_number(1, 120_000), apart(2), counts(2, 2))
-    expect(report, "data two frames late", with_number(1, 180_000), apart(4), counts(4, 2))
-    expect(report, "another stream in the same frame", with_number(0, 0, 1), apart(2), counts(2, 2))
-    expect(report, "rounded up from the half", with_number(0, 90_000, 1), apart(3), counts(3, 2))
-    expect(report, "rounded down below it", with_number(0, 89_999, 1), apart(2), counts(2, 2))
-    others = with_number(0, 60_000, 0xFF7121F6, 0x0003FF72)
-    others += at(1_120_000, udp(payload(CONTROL_BLOCK, it.CSBK, 2)))
+    expect(report, "much later", with_another(0x80, 3_840_000), apart(65), counts(65, 2))
+    expect(report, "not much later", with_another(0x80, 3_839_999), recording(it.CSBK), counts(1, 1, late=1))
+    expect(report, "127 numbers on", with_another(0x7F, 7_620_000), apart(128), counts(128, 2, lost=126))
+    expect(report, "data a frame late", with_another(1, 120_000), apart(2), counts(2, 2))
+    expect(report, "data two frames late", with_another(1, 180_000), apart(4), counts(4, 2))
+    expect(report, "another stream in the same frame", with_another(0, 0, 1), apart(2), counts(2, 2))
+    expect(report, "rounded up from the half", with_another(0, 90_000, 1), apart(3), counts(3, 2))
+    expect(report, "rounded down below it", with_another(0, 89_999, 1), apart(2), counts(2, 2))
+    others = of_repeaters()
     expect(report, "another repeater", others, apart(3), counts(3, 2, lost=1, other=1))
     expect(report, "that repeater", others, recording(it.CSBK), counts(1, 1, other=2), "--repeater", 262002)
     expect(report, "no repeater", others, recording(), counts(other=3), "--repeater", 1)
-    expect(report, "the last frame", with_number(0, 62_914_529_999, 0xFF7121F6), apart(it.LIMIT), counts(it.LIMIT, 2))
+    expect(report, "the last frame", with_another(0, 62_914_529_999, 0xFF7121F6), apart(it.LIMIT), counts(it.LIMIT, 2))
     with Room(report) as room:
         out = room.path / "out"
-        ran = report.call("import", "dmrd", "-", out, given=with_number(0, 62_914_530_000, 0xFF7121F6))
+        ran = report.call("import", "dmrd", "-", out, given=with_another(0, 62_914_530_000, 0xFF7121F6))
         report.expect("past the last frame", ran.is_error("-: too long at octet 123"), ran)
         report.expect("nothing is written", out.read_bytes() == b"", ran)
 
@@ -191,14 +209,13 @@ def check_calls(report):
     one = call_of(report, "call_with_gap")
     ran_counts = counts(len(one), sum(burst is not None for burst in one))
     expect(report, "a call with a gap", captured(call_packets(one)), recording(*one), ran_counts)
-    call = call_of(report, "talker_alias")
-    numbers = [*range(len(call))]
-    lost = [None if frame in (9, 10) else burst for frame, burst in enumerate(call)]
-    kept = call_packets(call, numbers, delay=lambda frame: frame * 7_919 % 20_000, change=station_burst)
-    kept = [sent for frame, sent in enumerate(kept) if frame not in (9, 10)]
-    expect(report, "lost packets, as an uplink", captured(kept), recording(*lost), counts(20, 18, lost=2), "--as-uplink")
+    lost, kept = lossy_call(report)
+    expect(report, "lost packets, as an uplink", kept, recording(*lost), counts(20, 18, lost=2), "--as-uplink")
     wanted = recording(*(station_burst(burst) if burst else None for burst in lost))
-    expect(report, "lost packets, as they came", captured(kept), wanted, counts(20, 18, lost=2))
+    expect(report, "lost packets, as they came", kept, wanted, counts(20, 18, lost=2))
+    with Room(report) as room:
+        for name, octets in by_others(report, room.path, kept):
+            expect(report, f"lost packets of a {name}", octets, recording(*lost), counts(20, 18, lost=2), "--as-uplink")
     # Three wrong bits in a sync are undone with it, and four leave the burst as it is.
     for wrong in (0, 1, 3, 4):
         turned = sum(1 << 108 + 11 * place for place in range(wrong))
@@ -248,19 +265,27 @@ def check_drawn(report):
 
 def check_bent(report):
     """Each front of a capture, and each with an octet bent, is a recording or a named fault."""
-    named = (
-        "no capture", "cut head at octet", "cut packet at octet", "cut block at octet", "bad block at octet",
-        "too many interfaces at octet", "link type", "too long at octet",
+    captures = (
+        ("two packets", with_another(1, 60_000)),
+        ("pcapng", as_pcapng([(1_000_000, ONE)])),
+        ("the packet twice", with_another(0, 1)),
+        *((name, HEAD + at(1_000_000, octets)) for name, octets in OTHERS),
+        ("another link type", capture_head(105) + CAPTURED[24:]),
+        ("much later", with_another(0x80, 3_840_000)),
+        ("not much later", with_another(0x80, 3_839_999)),
+        ("127 numbers on", with_another(0x7F, 7_620_000)),
+        ("another repeater", of_repeaters()),
+        ("the last frame", with_another(0, 62_914_529_999, 0xFF7121F6)),
+        ("past the last frame", with_another(0, 62_914_530_000, 0xFF7121F6)),
+        ("a call with gaps", captured(call_packets(GAPS))),
+        ("a call with a gap", captured(call_packets(call_of(report, "call_with_gap")))),
+        ("lost packets", lossy_call(report)[1]),
     )
-    two = CAPTURED + at(1_060_000, udp(payload(CONTROL_BLOCK, it.CSBK, 1)))
-    for kind, octets in (("pcap", two), ("pcapng", as_pcapng([(1_000_000, ONE)]))):
-        fronts = [octets[:count] for count in range(len(octets))]
-        places = [(place, turned) for place in range(len(octets)) for turned in (1, 0x80)]
-        bent = [octets[:place] + bytes([octets[place] ^ turned]) + octets[place + 1 :] for place, turned in places]
-        for name, given in [*enumerate(fronts), *enumerate(bent, len(fronts))]:
-            ran = report.call("import", "dmrd", "-", "-", given=given)
+    for kind, octets in captures:
+        for name, given in enumerate(cut_and_bent(octets)):
+            ran = report.call("import", "dmrd", "-", "-", "--as-uplink", given=given)
             told = ran.err.decode().removeprefix("error: -: ")
-            is_fault = (ran.status, ran.out) == (1, b"") and told.startswith(named) and told.count("\n") == 1
+            is_fault = (ran.status, ran.out) == (1, b"") and told.startswith(FAULTS) and told.count("\n") == 1
             is_recording = ran.status == 0 and it.uplink_fault(ran.out) is None
             report.expect(f"{kind} {name} of a hotspot", is_fault or is_recording, ran)
     for count, told in ((3, "cut head at octet 0"), (23, "cut head at octet 0"), (30, "cut packet at octet 24")):
@@ -385,6 +410,15 @@ def check_sent(report):
         told = f"error: -: {fault}\n" if fault else "records 0 written 0 left-out 0\n"
         is_so = (ran.status, ran.out, ran.err.decode()) == (int(fault is not None), sent, told)
         report.expect(f"the first {count} octets", is_so, ran)
+    for name, given in enumerate(cut_and_bent(octets)):
+        ran = report.call("export", "dmrd", "-", "-", given=given)
+        fault = it.downlink_fault(given)
+        told = ran.err.decode().startswith(f"error: -: {fault} at octet" if fault else "records ")
+        is_so = told and ran.status == (1 if fault else 0) and ran.out[:24] in (b"", HEAD)
+        report.expect(f"downlink {name} as packets", is_so and all(sent.is_well() for sent in sent_in(ran.out)), ran)
+    # The block is in frame 6 of slot 1, so that it is decided on behind slot 1 of frame 10.
+    pieces, wanted = [octets + bytes(6), b"\0", b"\0"], [HEAD, ONE_SENT[24:] + burst, b""]
+    expect_live(report, "a downlink of a pipe", ["export", "dmrd", "-", "-"], pieces, wanted, ONE_SENT + burst)
     with Room(report) as room:
         out = room.path / "out"
         for text in ("2026", "2107-01-01T00:00:00Z", "1969-12-31T23:59:59Z"):

@@ -38,6 +38,12 @@ def slots_fault(octets, magic, burst):
     """The fault of a recording of this magic, whose bursts have so many octets with their tags, or None."""
     fault, at, slots = head_fault(octets, magic), 8, 0
     while fault is None and at < len(octets):
+        # There may be much silence.
+        front = octets[at : at + 4096]
+        silence = len(front) - len(front.lstrip(b"\0"))
+        if silence:
+            at, slots = at + silence, slots + silence
+            continue
         if octets[at] > 1:
             return "bad tag"
         size = burst if octets[at] else 1
