@@ -281,13 +281,18 @@ def check_bent(report):
         ("a call with a gap", captured(call_packets(call_of(report, "call_with_gap")))),
         ("lost packets", lossy_call(report)[1]),
     )
-    for kind, octets in captures:
-        for name, given in enumerate(cut_and_bent(octets)):
-            ran = report.call("import", "dmrd", "-", "-", "--as-uplink", given=given)
-            told = ran.err.decode().removeprefix("error: -: ")
-            is_fault = (ran.status, ran.out) == (1, b"") and told.startswith(FAULTS) and told.count("\n") == 1
-            is_recording = ran.status == 0 and it.uplink_fault(ran.out) is None
-            report.expect(f"{kind} {name} of a hotspot", is_fault or is_recording, ran)
+    # From files, since a pipe has no buffer behind it, and a time that is bent may leave much silence.
+    with Room(report) as room:
+        capture = room.path / "capture"
+        for kind, octets in captures:
+            for name, given in enumerate(cut_and_bent(octets)):
+                capture.write_bytes(given)
+                with open(capture, "rb") as source:
+                    ran = report.call("import", "dmrd", "-", "-", "--as-uplink", stdin=source)
+                told = ran.err.decode().removeprefix("error: -: ")
+                is_fault = (ran.status, ran.out) == (1, b"") and told.startswith(FAULTS) and told.count("\n") == 1
+                is_recording = ran.status == 0 and it.uplink_fault(ran.out) is None
+                report.expect(f"{kind} {name} of a hotspot", is_fault or is_recording, ran)
     for count, told in ((3, "cut head at octet 0"), (23, "cut head at octet 0"), (30, "cut packet at octet 24")):
         ran = report.call("import", "dmrd", "-", "-", given=CAPTURED[:count])
         report.expect(f"{count} octets of a hotspot", ran.is_error(f"-: {told}"), ran)

@@ -1,10 +1,10 @@
 -- Each repeated burst is one packet.
-use Rattle.std.proofs.Common.{◌≡◌, ℕ, List, [], ◌∷◌, ◌++◌, map, Option, Some, None, option_to_list, refl, sym, ap, ◌∙◌, subst}
+use Rattle.std.proofs.Common.{◌≡◌, ℕ, List, [], ◌∷◌, ◌++◌, map, Option, Some, None, option_to_list, sym, ap, ◌∙◌}
 use Rattle.std.proofs.lemmas.List.{map-append}
 use Rattle.std.specs.List.{flat_map}
 use Rattle.dmr_link.specs.declared.full_lc.FullLc.{FullLc}
 use Rattle.dmr_recording.specs.declared.place.Place.{Place}
-use Rattle.dmr_dmrd_export.specs.Streams.{AreStreamed, IsSlotStreamed, IsStreamed, carried_behind}
+use Rattle.dmr_dmrd_export.specs.Streams.{AreStreamed, IsStreamed}
 use Rattle.dmr_dmrd_export.specs.declared.burst.RepeatedBurst.{RepeatedBurst}
 use Rattle.dmr_dmrd_export.specs.declared.packet.BurstPacket.{BurstPacket}
 use Rattle.dmr_dmrd_export.specs.declared.stream.SlotStream.{SlotStream}

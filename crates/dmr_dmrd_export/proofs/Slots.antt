@@ -1,13 +1,13 @@
 -- Slots are read one after another, and what of them is exported.
-use Rattle.std.proofs.Common.{◌≡◌, ◌⊎◌, inl, inr, ℕ, ◌+◌, ◌≤◌, List, [], ◌∷◌, ◌++◌, length, map, replicate, count_by, is_some}
-use Rattle.std.proofs.Common.{Bool, cond, sum_by, Option, None, refl, sym, ap, ◌∙◌, subst, arith, append_assoc, append-nil}
+use Rattle.std.proofs.Common.{◌≡◌, inl, inr, ℕ, ◌+◌, ◌≤◌, List, [], ◌∷◌, ◌++◌, length, replicate, count_by, is_some}
+use Rattle.std.proofs.Common.{cond, Option, None, refl, sym, subst, arith, append-nil}
 use Rattle.std.proofs.ByRecursion.{All-push}
 use Rattle.std.proofs.lemmas.List.{length-append}
 use Rattle.std.proofs.lemmas.List.Sums.{sum_by-append}
 use Rattle.std.specs.Io.KnownBytes.{Appends, Consumes, IsAtEnd}
-use Rattle.std.specs.List.{AllByRecursion, flat_map}
+use Rattle.std.specs.List.{flat_map}
 use Rattle.std.proofs.KnownBytes.{Appends-trans, Consumes-nil, Consumes-trans}
-use Rattle.dmr_capture.specs.Written.{packet_record, written_capture, written_head}
+use Rattle.dmr_capture.specs.Written.{written_head}
 use Rattle.dmr_listing.specs.ListingRules.{ListingTurn, begun}
 use Rattle.dmr_record.specs.Devices.{Tears}
 use Rattle.dmr_record.specs.Head.{downlink_magic, head_octets}
@@ -19,7 +19,6 @@ use Rattle.dmr_recording.specs.declared.fault_line.FaultLine.{FaultLine}
 use Rattle.dmr_dmrd_export.specs.BurstExports.{AreAllTaken, AreBurstsExported, AreBurstsRead, AreSlotsTaken, AreTakenAndTorn}
 use Rattle.dmr_dmrd_export.specs.BurstExports.{AreTakenUpToFault, IsBurstCaptureTorn, IsDownlinkExported, IsExportedUpToFault}
 use Rattle.dmr_dmrd_export.specs.BurstExports.{IsRestOfRead}
-use Rattle.dmr_dmrd_export.specs.BurstPackets.{dmrd_packet}
 use Rattle.dmr_dmrd_export.specs.Deciding.{AreMoreTorn, AreMoreWritten, IsRestTorn, nothing_exported}
 use Rattle.dmr_dmrd_export.specs.Repeats.{AreRepeated, IsRepeatedNext}
 use Rattle.dmr_dmrd_export.specs.declared.burst.RepeatedBurst.{RepeatedBurst}
@@ -28,7 +27,7 @@ use Rattle.dmr_dmrd_export.specs.declared.packet.BurstPacket.{BurstPacket}
 use Rattle.dmr_dmrd_export.specs.declared.settings.ExportSettings.{ExportSettings}
 use Rattle.dmr_dmrd_export.specs.declared.state.ExportState.{ExportState}
 use Rattle.dmr_dmrd_export.proofs.Streaming.{all_decided, none_decided}
-use Rattle.dmr_dmrd_export.proofs.Writing.{torn_then, written_none, written_then}
+use Rattle.dmr_dmrd_export.proofs.Writing.{torn_then, written_then}
 
 -- 1. Slots.
 

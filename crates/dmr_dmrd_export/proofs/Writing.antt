@@ -1,12 +1,12 @@
 -- Packets are written one after another.
-use Rattle.std.proofs.Common.{◌≡◌, ℕ, List, [], ◌++◌, map, Option, refl, sym, ap, ◌∙◌, subst}
+use Rattle.std.proofs.Common.{◌≡◌, ℕ, List, [], ◌++◌, map, Option, sym, ap, ◌∙◌, subst}
 use Rattle.std.proofs.ByRecursion.{All-append}
 use Rattle.std.proofs.lemmas.List.{map-append}
 use Rattle.std.proofs.lemmas.List.Concat.{flat_map-append}
 use Rattle.std.specs.Io.KnownBytes.{Appends}
 use Rattle.std.specs.List.{AllByRecursion, flat_map}
 use Rattle.std.proofs.KnownBytes.{Appends-trans, Appends-nil}
-use Rattle.dmr_capture.specs.Written.{IsWritable, WrittenPacket, packet_record}
+use Rattle.dmr_capture.specs.Written.{IsWritable, packet_record}
 use Rattle.dmr_record.specs.Devices.{Tears}
 use Rattle.dmr_record.proofs.Torn.{Tears_after}
 use Rattle.dmr_dmrd_export.specs.BurstPackets.{dmrd_packet}

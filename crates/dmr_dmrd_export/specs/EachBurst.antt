@@ -1,5 +1,5 @@
 -- What the packets of a downlink come to.
-use Rattle.std.specs.Prelude.{◌≡◌, List, [], ◌∷◌, ◌++◌, Option, Some, None, map, option_to_list}
+use Rattle.std.specs.Prelude.{◌≡◌, List, Option, map, option_to_list}
 use Rattle.std.specs.List.{flat_map}
 use Rattle.dmr_dmrd_export.specs.Streams.{AreStreamed}
 use Rattle.dmr_dmrd_export.specs.declared.burst.RepeatedBurst.{RepeatedBurst}

@@ -1,5 +1,5 @@
 -- Which bursts of a downlink are repeated, and what they are.
-use Rattle.std.specs.Prelude.{◌≡◌, ℕ, Bool, true, false, List, [], ◌∷◌, Option, Some, None, if◌then◌else◌}
+use Rattle.std.specs.Prelude.{◌≡◌, Bool, true, false, List, [], ◌∷◌, Option, Some, None, if◌then◌else◌}
 use Rattle.dmr_link.specs.declared.full_lc.FullLc.{FullLc}
 use Rattle.dmr_listing.specs.ListingRules.{IsLineAt, ListingTurn, turn_after, turn_passed}
 use Rattle.dmr_listing.specs.declared.access_type.AccessType.{AccessType}

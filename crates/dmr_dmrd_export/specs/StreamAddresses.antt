@@ -1,5 +1,5 @@
 -- The addresses of a stream.
-use Rattle.std.specs.Prelude.{ℕ, ◌==◌, ◌||◌, not, true, false, Option, Some, None, if◌then◌else◌}
+use Rattle.std.specs.Prelude.{◌==◌, ◌||◌, not, true, false, Option, Some, None, if◌then◌else◌}
 use Rattle.std.specs.Option.{option_or}
 use Rattle.dmr_bits.specs.Bits.{bits_of_octets, number_of, part}
 use Rattle.dmr_link.specs.declared.full_lc.FullLc.{FullLc}

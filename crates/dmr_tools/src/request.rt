@@ -346,13 +346,15 @@ fn export_request<'a>(export: &ArgMatches<'a>) -> Request<'a>
             },
             None => Request::NoStart,
         },
-        Some(("dmrd", files)) => match burst_settings_of(files) {
-            Some(settings) => Request::Export {
+        Some(("dmrd", files)) => {
+            let Some(settings) = burst_settings_of(files) else {
+                return Request::NoStart;
+            };
+            Request::Export {
                 format: ExportFormat::Dmrd(settings),
                 places: places_of(files),
-            },
-            None => Request::NoStart,
-        },
+            }
+        }
         // Not reached, since a format is required, and there is no other.
         _ => Request::Elsewhere("export"),
     }

@@ -1,4 +1,4 @@
-use Rattle.std.proofs.Common.{rules, ◌≡◌, ℕ, ◌+◌, ◌*◌, [], ◌∷◌, ◌++◌, List, Option, Some, length, refl, sym, ap, ◌∙◌, subst, arith}
+use Rattle.std.proofs.Common.{rules, ◌≡◌, ℕ, ◌+◌, [], ◌∷◌, ◌++◌, Some, length, refl, sym, ap, ◌∙◌, subst, arith}
 use Rattle.std.proofs.Common.{cond, is_some}
 use Rattle.std.proofs.lemmas.List.{length-append, length_push}
 use Rattle.dmr_listing.specs.ListingRules.{ListingTurn}

@@ -2,7 +2,7 @@ use Rattle.std.proofs.Common.{subst}
 use Rattle.std.specs.Prelude.{Option}
 use Rattle.dmr_link.specs.declared.full_lc.FullLc.{FullLc}
 use Rattle.dmr_dmrd_export.specs.Streams.{IsSlotStreamed}
-use Rattle.dmr_dmrd_export.proofs.Streaming.{decides_more, waits_more}
+use Rattle.dmr_dmrd_export.proofs.Streaming.{decides_more}
 use Rattle.dmr_dmrd_export.proofs.state.ExportState.decide.Goals as goal
 
 pub returns-clause-decides : goal.returns-clause-decides

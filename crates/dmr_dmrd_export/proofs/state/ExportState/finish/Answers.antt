@@ -1,4 +1,4 @@
-use Rattle.std.proofs.Common.{rules, ◌≡◌, ℕ, ◌+◌, ◌∷◌, ◌++◌, [], List, Option, None, length, replicate, refl, subst, arith}
+use Rattle.std.proofs.Common.{rules, ◌≡◌, ℕ, ◌+◌, ◌∷◌, ◌++◌, [], List, Option, None, replicate, refl, subst, arith}
 use Rattle.std.proofs.lemmas.List.{length-append, replicate_more}
 use Rattle.dmr_dmrd_export.specs.Deciding.{AreMoreTorn, AreMoreWritten}
 use Rattle.dmr_dmrd_export.specs.declared.burst.RepeatedBurst.{RepeatedBurst}
