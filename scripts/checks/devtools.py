@@ -11,7 +11,7 @@ import sys
 import tempfile
 import time
 
-from checks.page import BROWSERS
+BROWSERS = "chromium", "chromium-browser", "google-chrome", "chrome"
 
 # How long a page may take for what is awaited, in seconds.
 PATIENCE = 60
@@ -104,6 +104,11 @@ class Browser:
         node = self.call("DOM.querySelector", nodeId=root, selector=selector)["nodeId"]
         self.call("DOM.setFileInputFiles", nodeId=node, files=[str(pathlib.Path(file).resolve())])
 
-    def picture(self):
+    def picture(self, **more):
         """A picture of the page."""
-        return base64.b64decode(self.call("Page.captureScreenshot", format="png")["data"])
+        return base64.b64decode(self.call("Page.captureScreenshot", format="png", **more)["data"])
+
+    def picture_of(self, left, top, width, height):
+        """A picture of a part of the page, wherever that stands."""
+        part = {"x": left, "y": top, "width": width, "height": height, "scale": 1}
+        return self.picture(clip=part, captureBeyondViewport=True)

@@ -1,9 +1,9 @@
 """The page of a log: what it has of a scene and of silence, that it takes little memory, and that a browser shows it."""
 
 import html.parser
+import json
 import pathlib
 import re
-import shutil
 import struct
 import subprocess
 import tempfile
@@ -11,9 +11,9 @@ import zlib
 
 from checks import bursts
 from checks import recordings as it
+from checks.devtools import Browser, found_browser
 from checks.program import Room
 
-BROWSERS = "chromium", "chromium-browser", "google-chrome", "chrome"
 WIDTH = 1100
 
 # What a page must not have: nothing runs in it, and nothing comes from elsewhere.
@@ -154,23 +154,33 @@ def size_and_octets(png):
     return width, zlib.decompress(packed)
 
 
+# Where each label of a page stands, and what it says.
+LABELS = """JSON.stringify([...document.querySelectorAll('text.l')].map(it => {
+    const at = it.getBoundingClientRect();
+    return [it.textContent, [at.x + scrollX, at.y + scrollY, at.width, at.height]];
+}))"""
+
+
 def check_browser(report):
-    """A browser without a network shows a page: a picture of its width that isn't blank."""
-    browser = next(filter(None, map(shutil.which, BROWSERS)), None)
-    if not browser:
-        print("skipped: no browser", flush=True)
-        report.skipped += 1
+    """A browser without a network shows a page: a picture of its width that isn't blank, and in it each label where it stands."""
+    if not found_browser():
+        report.skip(1, "no browser")
         return
-    ran = report.call("log", report.top / "samples/mixed_clean/uplink.dmru", "--html")
+    text = report.call("log", report.top / "samples/mixed_clean/uplink.dmru", "--html").out
     with tempfile.TemporaryDirectory(prefix="dmrgate-page-") as folder:
-        folder = pathlib.Path(folder)
-        (folder / "page.html").write_bytes(ran.out)
-        options = ["--headless", "--no-sandbox", "--disable-gpu", "--hide-scrollbars", "--host-resolver-rules=MAP * ~NOTFOUND"]
-        options += [f"--user-data-dir={folder / 'user'}", f"--window-size={WIDTH},900", f"--screenshot={folder / 'page.png'}"]
-        subprocess.run([browser, *options, f"file://{folder / 'page.html'}"], capture_output=True, timeout=120)
-        made = folder / "page.png"
-        width, octets = size_and_octets(made.read_bytes()) if made.exists() else (0, b"")
-        report.expect("a browser shows a page", width == WIDTH and len(set(octets)) > 100, (width, len(set(octets))))
+        file = pathlib.Path(folder) / "page.html"
+        file.write_bytes(text)
+        with Browser(file, WIDTH) as browser:
+            browser.wait_for("document.readyState === 'complete'")
+            width, octets = size_and_octets(browser.picture())
+            report.expect("a browser shows a page", width == WIDTH and len(set(octets)) > 100, (width, len(set(octets))))
+            labels = json.loads(browser.value(LABELS))
+            wanted = Page(text.decode()).labels
+            report.expect("a browser has the labels of a page", wanted and [it for it, _ in labels] == wanted, (labels, wanted))
+            shown = [browser.picture_of(*place) for _, place in labels]
+            browser.value("document.querySelectorAll('text.l').forEach(it => it.style.visibility = 'hidden')")
+            for (label, place), seen in zip(labels, shown):
+                report.expect(f"a browser shows the label {label}", seen != browser.picture_of(*place), place)
 
 
 def check(report):

@@ -1,5 +1,5 @@
 -- How values, keys and objects of JSON are written.
-use Rattle.std.specs.Prelude.{ℕ, Bool, true, false, List, [], ◌∷◌, ◌++◌, codes, decimal}
+use Rattle.std.specs.Prelude.{ℕ, Bool, true, false, if◌then◌else◌, List, [], ◌∷◌, ◌++◌, codes, decimal}
 use Rattle.dmr_listing.specs.Texts.{digits_text}
 
 -- a text that has nothing to escape, in quotes
@@ -14,6 +14,10 @@ hex octets = quoted (digits_text octets)
 abbrev pub bit : Bool → ℕ
 bit true = 1
 bit false = 0
+
+-- true or false
+abbrev pub truth : Bool → List ℕ
+truth b = if b then codes "true" else codes "false"
 
 -- a key in quotes, a colon, and its value
 abbrev pub keyed : List ℕ → List ℕ → List ℕ

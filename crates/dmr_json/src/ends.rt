@@ -1,6 +1,6 @@
 //! What a listing ends with, by whose absence a cut one is known.
-ghost use Rattle.std.specs.Prelude.{Some};
-ghost use Rattle.dmr_json.specs.Records.{list_end};
+ghost use Rattle.std.specs.Prelude.{◌*◌, Some, decimal};
+ghost use Rattle.dmr_json.specs.Records.{list_end, recording_end};
 
 use std::fmt;
 
@@ -11,10 +11,25 @@ pub struct RecordingEnd {
     pub frames: u32,
 }
 
+/// How many records so many frames have.
+#[derive(Drop)]
+struct Records(u32);
+
+impl fmt::Display for Records {
+    ghost output = { λ frames. Some (decimal (2 * frames.0)) };
+
+    fn fmt<W: fmt::Write>(&self, f: &mut fmt::Formatter<W>) -> fmt::Result {
+        let records = 2 * u64::from(self.0);
+        write!(f, "{records}")
+    }
+}
+
 impl fmt::Display for RecordingEnd {
+    ghost output = { λ end. Some (recording_end end.frames) };
+
     fn fmt<W: fmt::Write>(&self, f: &mut fmt::Formatter<W>) -> fmt::Result {
         let frames = self.frames;
-        let records = 2 * u64::from(frames);
+        let records = Records(frames);
         write!(f, "{{\"frames\":{frames},\"records\":{records}}}")
     }
 }

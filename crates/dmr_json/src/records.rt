@@ -1,6 +1,7 @@
 //! The objects of the two lists.
 ghost use Rattle.std.specs.Prelude.{◌≡◌, Some};
 ghost use Rattle.dmr_json.specs.Records as spec;
+ghost use Rattle.dmr_json.specs.Values.{hex};
 
 use crate::place::PlaceKeys;
 use crate::values::Hex;
@@ -25,26 +26,55 @@ pub struct ReceivedObject<'a> {
 }
 
 /// The rate of the blocks of a packet.
-fn rate_name(full: bool) -> &'static str {
+fn rate_name(full: bool) -> &'static str
+    ensures value { result.now ≡ spec.rate_text full }
+{
     if full { "1" } else { "1/2" }
 }
 
+/// How a datagram is to be sent: confirmed or not, and at rate 1 or not.
+#[derive(Drop)]
+struct ModeKeys(bool, bool);
+
+impl fmt::Display for ModeKeys {
+    ghost output = { λ mode. Some (spec.mode_keys mode.0 mode.1) };
+
+    #[tactic(auto, unfolding(crate::specs::Records::mode_keys))]
+    fn fmt<W: fmt::Write>(&self, f: &mut fmt::Formatter<W>) -> fmt::Result {
+        let ModeKeys(confirmed, full) = *self;
+        let rate = rate_name(full);
+        write!(f, "\"confirmed\":{confirmed},")?;
+        write!(f, "\"rate\":\"{rate}\"")
+    }
+}
+
+/// The octets of a datagram that are kept.
+#[derive(Drop)]
+struct KeptOctets<'a>(&'a Outgoing);
+
+impl fmt::Display for KeptOctets<'_> {
+    ghost output = { λ kept. Some (hex kept.0.now.octets) };
+
+    fn fmt<W: fmt::Write>(&self, f: &mut fmt::Formatter<W>) -> fmt::Result {
+        let octets = Hex(self.0.octets.as_slice());
+        write!(f, "{octets}")
+    }
+}
+
 impl fmt::Display for OutgoingObject<'_> {
+    ghost output = { λ object. Some (spec.outgoing_object object.record.now) };
+
     fn fmt<W: fmt::Write>(&self, f: &mut fmt::Formatter<W>) -> fmt::Result {
         let place = Place {
             frame: self.record.frame,
             slot: self.record.slot,
         };
         let place = PlaceKeys(&place);
-        let confirmed = self.record.confirmed;
-        let rate = rate_name(self.record.full);
+        let mode = ModeKeys(self.record.confirmed, self.record.full);
         let length = self.record.length;
-        let octets = Hex(self.record.octets.as_slice());
-        write!(f, "{{{place},\"confirmed\":{confirmed},")?;
-        write!(
-            f,
-            "\"rate\":\"{rate}\",\"length\":{length},\"octets\":{octets}}}"
-        )
+        let octets = KeptOctets(self.record);
+        write!(f, "{{{place},{mode},")?;
+        write!(f, "\"length\":{length},\"octets\":{octets}}}")
     }
 }
 

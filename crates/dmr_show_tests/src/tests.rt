@@ -6,6 +6,7 @@ mod comparing;
 mod damaging;
 mod logging;
 mod making;
+mod objects;
 mod text;
 
 use dmr_record::{FromRead, ToWrite};
