@@ -48,7 +48,7 @@ returns-in-Some-burst_settings_of c =
             rows = sym capture.ensures.rows;
           };
           are_settings = c.in-Some-burst_settings_of.ensures.settings;
-          are_places = c.places_of-in-Some-burst_settings_of.ensures.places;
+          are_places = c.places_of-in-Some-dmrd-default.ensures.places;
         },
       );
     }
