@@ -1,8 +1,10 @@
 """The page that lists a file in a browser: its module against `show`, in node, and the page as a browser shows it."""
 
 import base64
+import concurrent.futures
 import hashlib
 import json
+import os
 import pathlib
 import re
 import shutil
@@ -10,8 +12,10 @@ import subprocess
 import tempfile
 
 from building.module import is_module_built_over_the_gate
+from checks import recordings as it
 from checks.devtools import Browser, found_browser
 from checks.page import size_and_octets
+from checks.refusals import OUTGOINGS, UPLINKS
 
 WIDTH = 1200
 
@@ -37,9 +41,24 @@ BENT_SAMPLES = "call", "mixed_damaged", "datagram_sent", "status_received"
 
 KINDS = "uplink.dmru", "downlink.dmrd", "outgoing.dmro", "received.dmri"
 
+# Small files, which are cut to every length, and of which each octet is bent.
+SMALL = {"uplink": it.ONE_CSBK, "outgoing list": it.ONE_DATAGRAM, "downlink": it.ONE_FRAME, "received list": it.ONE_STATUS}
+
+# The forms of `show`, which a page is compared with.
+FORMS = (), ("--strip",), ("--json",)
+
+
+def small_files():
+    """Small files by their names: cut, bent, and those that a run refuses."""
+    for kind, whole in SMALL.items():
+        yield from ((f"{kind} of {size} octets", octets) for size, octets in it.cut(whole))
+        yield from ((f"{kind} with octet {at} turned by {turned:02X}", octets) for at, turned, octets in it.bent(whole))
+    for kind, refused in (("uplink", UPLINKS), ("outgoing list", OUTGOINGS)):
+        yield from ((f"{kind} that is refused, {number}", octets) for number, (octets, _) in enumerate(refused))
+
 
 def files_of(report, folder):
-    """Every file of samples, by its path, and bent ones."""
+    """Every file of samples, by its path, bent ones, and small files that are cut and bent."""
     yield from sorted(file for kind in KINDS for file in (report.top / "samples").glob(f"*/{kind}"))
     for sample in BENT_SAMPLES:
         for kind in KINDS:
@@ -48,6 +67,9 @@ def files_of(report, folder):
                 file = folder / f"{sample}-{at}-{kind}"
                 file.write_bytes(bend(octets))
                 yield file
+    for name, octets in small_files():
+        (folder / name).write_bytes(octets)
+        yield folder / name
 
 
 def made(report, folder):
@@ -94,10 +116,16 @@ def list_all(report, folder, files):
     return None
 
 
-def expect_same(report, file, told):
+def shown(report, files):
+    """What `show` prints of each of these files, in each form."""
+    with concurrent.futures.ThreadPoolExecutor(os.cpu_count()) as pool:
+        yield from pool.map(lambda file: [report.call("show", file, *words) for words in FORMS], files)
+
+
+def expect_same(report, file, told, printed):
     """The page shows of a file what `show` prints of it."""
     name = f"{file.parent.name}/{file.name}"
-    text, strip, as_json = (report.call("show", file, *words) for words in ((), ("--strip",), ("--json",)))
+    text, strip, as_json = printed
     lines = text.out.decode().splitlines()
     fault = text.err.decode().removeprefix(f"error: {file}: ").rstrip("\n")
     wanted = lines if text.status == 0 else [*lines, fault]
@@ -137,10 +165,10 @@ def check_worker(report, folder):
     if told is None:
         report.skip(1, "no node with 64-bit memory for WebAssembly")
         return
-    for file, shown in zip(files, told, strict=True):
-        report.expect(f"{file.name}: it can be opened", "error" not in shown, shown)
-        if "error" not in shown:
-            expect_same(report, file, shown)
+    for file, had, printed in zip(files, told, shown(report, files), strict=True):
+        report.expect(f"{file.name}: it can be opened", "error" not in had, had)
+        if "error" not in had:
+            expect_same(report, file, had, printed)
 
 
 def check_browser(report, folder):
