@@ -1,5 +1,5 @@
 -- What the numbers that a host is told stand for: this project's own.
-use Rattle.std.specs.Prelude.{ℕ, ◌==◌, Bool, List, map, Some, None, Result, Ok, Err, if◌then◌else◌}
+use Rattle.std.specs.Prelude.{ℕ, ◌==◌, ◌%◌, Bool, List, map, Some, None, Result, Ok, Err, if◌then◌else◌}
 use Rattle.dmr_bits.specs.Bits.{bits_of, bits_of_octets}
 use Rattle.dmr_burst.specs.declared.emb.Emb.{Emb}
 use Rattle.dmr_burst.specs.declared.slot_type.SlotType.{SlotType}
@@ -10,6 +10,11 @@ use Rattle.dmr_checks.specs.declared.sealing.Mask.{Mask}
 use Rattle.dmr_checks.specs.declared.sealing.Mask.TheVariants.{Pi, Csbk, Header}
 use Rattle.dmr_embedded.specs.declared.fault.EmbedFault.{EmbedFault}
 use Rattle.dmr_embedded.specs.declared.fault.EmbedFault.TheVariants as embed_fault
+use Rattle.dmr_link.specs.declared.fault.LcFault.{LcFault}
+use Rattle.dmr_link.specs.declared.fault.LcFault.TheVariants as lc_fault
+use Rattle.dmr_link.specs.declared.full_lc.FullLc.{FullLc}
+use Rattle.dmr_link.specs.declared.sealing.LcUse.{LcUse}
+use Rattle.dmr_link.specs.declared.sealing.LcUse.TheVariants as lc_use
 use Rattle.dmr_reading.specs.declared.reading.Information.{Information}
 use Rattle.dmr_reading.specs.declared.reading.Information.TheVariants.{Coded, AsReceived}
 use Rattle.dmr_reading.specs.declared.reading.Reading.{Reading}
@@ -18,6 +23,7 @@ use Rattle.dmr_codecs.specs.declared.values.BurstEmb.{BurstEmb}
 use Rattle.dmr_codecs.specs.declared.values.BurstReading.{BurstReading}
 use Rattle.dmr_codecs.specs.declared.values.BurstSlotType.{BurstSlotType}
 use Rattle.dmr_codecs.specs.declared.values.BurstSync.{BurstSync}
+use Rattle.dmr_codecs.specs.declared.values.BurstLinkControl.{BurstLinkControl}
 
 -- 0 a base station, 1 a mobile station
 abbrev pub sender_told : ℕ → Side
@@ -38,6 +44,22 @@ emb_told e = record { colour = e.colour; pi = e.pi; lcss = e.lcss }
 -- 0 a PI header, 1 a control signalling block, and any other a data header
 abbrev pub mask_told : ℕ → Mask
 mask_told block_use = if block_use == 0 then Pi else (if block_use == 1 then Csbk else Header)
+
+-- 0 a voice LC header, and any other a terminator with LC
+abbrev pub lc_use_told : ℕ → LcUse
+lc_use_told number = if number == 0 then lc_use.Header else lc_use.Terminator
+
+-- a full link control by its fields
+abbrev pub link_control_told : BurstLinkControl → FullLc
+link_control_told lc = record { protect = lc.protect; reserved = lc.reserved; flco = lc.flco; fid = lc.fid; body = lc.body }
+
+-- the same with the six lowest bits of the opcode
+abbrev pub link_control_given : BurstLinkControl → FullLc
+link_control_given lc = record (link_control_told lc) { flco = lc.flco % 64 }
+
+-- 1 no product word, and any other a wrong parity
+abbrev pub lc_fault_told : ℕ → LcFault
+lc_fault_told status = if status == 1 then lc_fault.Bptc else lc_fault.Parity
 
 -- 0 these octets, 1 an unreadable row, 2 odd columns, and any other a wrong checksum
 abbrev pub extracted_told : ℕ → List ℕ → Result (List ℕ) EmbedFault
