@@ -1,5 +1,5 @@
 -- What the numbers that a host is told stand for: this project's own.
-use Rattle.std.specs.Prelude.{ℕ, ◌==◌, ◌%◌, Bool, List, map, Some, None, Result, Ok, Err, if◌then◌else◌}
+use Rattle.std.specs.Prelude.{ℕ, ◌==◌, ◌%◌, Bool, false, List, map, replicate, Some, None, Result, Ok, Err, if◌then◌else◌}
 use Rattle.dmr_bits.specs.Bits.{bits_of, bits_of_octets}
 use Rattle.dmr_burst.specs.declared.emb.Emb.{Emb}
 use Rattle.dmr_burst.specs.declared.slot_type.SlotType.{SlotType}
@@ -80,6 +80,29 @@ reading_told kind r =
     else (if kind == 2 then Untyped (sender_told r.side)
     else (if kind == 3 then VoiceSync (sender_told r.side)
     else (if kind == 4 then Voice (record { colour = r.colour; pi = r.pi; lcss = r.lcss }) else Unreadable)))
+
+-- zeros in all fields
+abbrev pub no_reading_told : BurstReading
+no_reading_told =
+    record { side = 0; colour = 0; kind = 0; information = 0; pi = false; lcss = 0; message = replicate 12 0 }
+
+-- the octets of a message, where there is one, and else zeros
+abbrev pub message_told : BurstReading → List ℕ
+message_told r = if r.information == 0 then r.message else replicate 12 0
+
+-- the same with zeros in the fields that a burst which is read so has not
+abbrev pub cleared : ℕ → BurstReading → BurstReading
+cleared kind r =
+    if kind == 1 then record no_reading_told {
+      side = r.side;
+      colour = r.colour;
+      kind = r.kind;
+      information = r.information;
+      message = message_told r;
+    }
+    else (if kind == 2 then record no_reading_told { side = r.side }
+    else (if kind == 3 then record no_reading_told { side = r.side }
+    else (if kind == 4 then record no_reading_told { colour = r.colour; pi = r.pi; lcss = r.lcss } else no_reading_told)))
 
 -- fragments of a Short LC, 17 bits each, by the numbers that they spell
 unfoldable pub fragments_told : List ℕ → List (List Bool)

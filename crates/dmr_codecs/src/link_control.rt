@@ -31,6 +31,7 @@ pub extern "C" fn dmr_embed(octets: &[u8; 9], fields: &mut [u32; 4])
 #[unsafe(no_mangle)]
 pub extern "C" fn dmr_extract(fields: &[u32; 4], octets: &mut [u8; 9]) -> u8
     ensures extracted { IsExtracted fields.now (extracted_told result octets.new) }
+    ensures status { result ≤ 3 }
     ensures unwritten { (result ≡ 0 → ⊥) → octets.new ≡ octets.old }
 {
     match extract(fields) {
