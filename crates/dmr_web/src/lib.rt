@@ -16,4 +16,5 @@ pub mod laws;
 mod line;
 mod listing;
 mod numbers;
+mod place;
 mod window;
