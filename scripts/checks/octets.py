@@ -18,20 +18,15 @@ def faulty(file, fault):
 
 
 def check(report):
-    for size in range(len(it.ONE_CSBK) + 1):
-        cut = it.ONE_CSBK[:size]
+    for size, octets in it.cut(it.ONE_CSBK):
         fault = "cut record" if size < 8 or 8 < size < 42 else "half frame" if size == 42 else None
-        judged(report, f"uplink of {size} octets", cut, it.OUTGOING_HEAD, faulty("uplink", fault))
-    for size in range(len(it.ONE_DATAGRAM) + 1):
-        cut = it.ONE_DATAGRAM[:size]
+        judged(report, f"uplink of {size} octets", octets, it.OUTGOING_HEAD, faulty("uplink", fault))
+    for size, octets in it.cut(it.ONE_DATAGRAM):
         fault = "cut record" if size < 8 or 8 < size < 45 else None
-        judged(report, f"outgoing list of {size} octets", it.UPLINK_HEAD, cut, faulty("outgoing", fault))
-    for turned in (0x01, 0x02, 0x03, 0x04, 0x80, 0xFF):
-        for at in range(len(it.ONE_CSBK)):
-            bent = it.ONE_CSBK[:at] + bytes([it.ONE_CSBK[at] ^ turned]) + it.ONE_CSBK[at + 1 :]
-            fault = faulty("uplink", it.uplink_fault(bent))
-            judged(report, f"uplink with octet {at} turned by {turned:02X}", bent, it.OUTGOING_HEAD, fault)
-        for at in range(len(it.ONE_DATAGRAM)):
-            bent = it.ONE_DATAGRAM[:at] + bytes([it.ONE_DATAGRAM[at] ^ turned]) + it.ONE_DATAGRAM[at + 1 :]
-            fault = faulty("outgoing", it.outgoing_fault(bent))
-            judged(report, f"outgoing list with octet {at} turned by {turned:02X}", it.UPLINK_HEAD, bent, fault)
+        judged(report, f"outgoing list of {size} octets", it.UPLINK_HEAD, octets, faulty("outgoing", fault))
+    for at, turned, octets in it.bent(it.ONE_CSBK):
+        fault = faulty("uplink", it.uplink_fault(octets))
+        judged(report, f"uplink with octet {at} turned by {turned:02X}", octets, it.OUTGOING_HEAD, fault)
+    for at, turned, octets in it.bent(it.ONE_DATAGRAM):
+        fault = faulty("outgoing", it.outgoing_fault(octets))
+        judged(report, f"outgoing list with octet {at} turned by {turned:02X}", it.UPLINK_HEAD, octets, fault)

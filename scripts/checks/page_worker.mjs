@@ -1,5 +1,6 @@
 // Lists files by the worker of the page, outside a browser: node page_worker.mjs WORKER MODULE FILES OUTPUT. FILES and OUTPUT are
-// files of JSON: the first has the paths, and the second gets what the page would show of each of them.
+// files of JSON. The first has the path of each file, or an object of a path and rows. The second gets what the page would show of
+// each of them: of a path all of it, and of the others these rows, and the most memory that was taken, in octets.
 
 import fs from 'node:fs';
 import vm from 'node:vm';
@@ -59,7 +60,16 @@ async function told(path) {
   };
 }
 
+async function told_in_part({ path, rows }) {
+  const shown = await ask({ kind: 'open', file: opened(path) });
+  if (shown.error) return shown;
+  const { lines } = await ask({ kind: 'lines', rows });
+  return { ...shown, marks: undefined, lines, memory: 1024 * process.resourceUsage().maxRSS };
+}
+
 const { isReady } = await ask({ kind: 'module', octets: fs.readFileSync(module) });
 const shown = isReady ? [] : null;
-for (const path of isReady ? JSON.parse(fs.readFileSync(files, 'utf8')) : []) shown.push(await told(path));
+for (const file of isReady ? JSON.parse(fs.readFileSync(files, 'utf8')) : []) {
+  shown.push(await (typeof file === 'string' ? told(file) : told_in_part(file)));
+}
 fs.writeFileSync(output, JSON.stringify(shown));

@@ -25,6 +25,22 @@ ONE_STATUS = RECEIVED_HEAD + bytes.fromhex("03 00000006 01 02 000003 0004 010200
 
 LIMIT = 1_048_576
 
+# In which ways an octet is bent.
+TURNS = 0x01, 0x02, 0x03, 0x04, 0x80, 0xFF
+
+
+def cut(whole):
+    """A file cut to every length, with that."""
+    for size in range(len(whole) + 1):
+        yield size, whole[:size]
+
+
+def bent(whole, begin=0):
+    """A file with each octet from one on bent in each way, with the octet and the way."""
+    for turned in TURNS:
+        for at in range(begin, len(whole)):
+            yield at, turned, whole[:at] + bytes([whole[at] ^ turned]) + whole[at + 1 :]
+
 
 def head_fault(octets, magic):
     if len(octets) < 8:

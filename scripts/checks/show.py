@@ -185,13 +185,11 @@ def check_outputs(report):
     """What a run writes, cut to every length, and with each octet bent."""
     files = ("downlink", it.ONE_FRAME, it.downlink_fault), ("received list", it.ONE_STATUS, it.received_fault)
     for file, whole, fault_of in files:
-        for size in range(len(whole) + 1):
-            judged(report, f"{file} of {size} octets", whole[:size], fault_of(whole[:size]))
+        for size, octets in it.cut(whole):
+            judged(report, f"{file} of {size} octets", octets, fault_of(octets))
         # An octet of its magic bent may be another file's.
-        for at in range(4, len(whole)):
-            for turned in (0x01, 0x02, 0x03, 0x04, 0x80, 0xFF):
-                bent = whole[:at] + bytes([whole[at] ^ turned]) + whole[at + 1 :]
-                judged(report, f"{file} with octet {at} turned by {turned:02X}", bent, fault_of(bent))
+        for at, turned, octets in it.bent(whole, 4):
+            judged(report, f"{file} with octet {at} turned by {turned:02X}", octets, fault_of(octets))
 
 
 def check_filters(report):

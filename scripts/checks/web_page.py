@@ -1,8 +1,10 @@
 """The page that lists a file in a browser: its module against `show`, in node, and the page as a browser shows it."""
 
 import base64
+import concurrent.futures
 import hashlib
 import json
+import os
 import pathlib
 import re
 import shutil
@@ -10,8 +12,10 @@ import subprocess
 import tempfile
 
 from building.module import is_module_built_over_the_gate
+from checks import recordings as it
 from checks.devtools import Browser, found_browser
 from checks.page import size_and_octets
+from checks.refusals import OUTGOINGS, UPLINKS
 
 WIDTH = 1200
 
@@ -37,9 +41,27 @@ BENT_SAMPLES = "call", "mixed_damaged", "datagram_sent", "status_received"
 
 KINDS = "uplink.dmru", "downlink.dmrd", "outgoing.dmro", "received.dmri"
 
+# Small files, which are cut to every length, and of which each octet is bent.
+SMALL = {"uplink": it.ONE_CSBK, "outgoing list": it.ONE_DATAGRAM, "downlink": it.ONE_FRAME, "received list": it.ONE_STATUS}
+
+# How many frames of the longest recording are looked at in each place.
+FRAMES_SHOWN = 40
+
+# The forms of `show`, which a page is compared with.
+FORMS = (), ("--strip",), ("--json",)
+
+
+def small_files():
+    """Small files by their names: cut, bent, and those that a run refuses."""
+    for kind, whole in SMALL.items():
+        yield from ((f"{kind} of {size} octets", octets) for size, octets in it.cut(whole))
+        yield from ((f"{kind} with octet {at} turned by {turned:02X}", octets) for at, turned, octets in it.bent(whole))
+    for kind, refused in (("uplink", UPLINKS), ("outgoing list", OUTGOINGS)):
+        yield from ((f"{kind} that is refused, {number}", octets) for number, (octets, _) in enumerate(refused))
+
 
 def files_of(report, folder):
-    """Every file of samples, by its path, and bent ones."""
+    """Every file of samples, by its path, bent ones, and small files that are cut and bent."""
     yield from sorted(file for kind in KINDS for file in (report.top / "samples").glob(f"*/{kind}"))
     for sample in BENT_SAMPLES:
         for kind in KINDS:
@@ -48,6 +70,9 @@ def files_of(report, folder):
                 file = folder / f"{sample}-{at}-{kind}"
                 file.write_bytes(bend(octets))
                 yield file
+    for name, octets in small_files():
+        (folder / name).write_bytes(octets)
+        yield folder / name
 
 
 def made(report, folder):
@@ -77,11 +102,12 @@ def check_text(report, folder):
 
 
 def list_all(report, folder, files):
-    """What the worker of the page gives for each of these files, or nothing where there is no node that could run it."""
+    """What the worker of the page gives for each of these files, or for some rows of a file, or nothing where there is no node that
+    could run it."""
     node = shutil.which("node")
     if not node:
         return None
-    (folder / "files.json").write_text(json.dumps([str(file) for file in files]))
+    (folder / "files.json").write_text(json.dumps(files))
     words = [report.top / "scripts/checks/page_worker.mjs", report.top / "share/page/worker.js", folder / "page.wasm"]
     for options in ([], ["--experimental-wasm-memory64"]):
         ran = subprocess.run([node, *options, *words, folder / "files.json", folder / "told.json"], capture_output=True, text=True)
@@ -94,10 +120,16 @@ def list_all(report, folder, files):
     return None
 
 
-def expect_same(report, file, told):
+def shown(report, files):
+    """What `show` prints of each of these files, in each form."""
+    with concurrent.futures.ThreadPoolExecutor(os.cpu_count()) as pool:
+        yield from pool.map(lambda file: [report.call("show", file, *words) for words in FORMS], files)
+
+
+def expect_same(report, file, told, printed):
     """The page shows of a file what `show` prints of it."""
     name = f"{file.parent.name}/{file.name}"
-    text, strip, as_json = (report.call("show", file, *words) for words in ((), ("--strip",), ("--json",)))
+    text, strip, as_json = printed
     lines = text.out.decode().splitlines()
     fault = text.err.decode().removeprefix(f"error: {file}: ").rstrip("\n")
     wanted = lines if text.status == 0 else [*lines, fault]
@@ -133,14 +165,50 @@ def addresses(value):
 
 def check_worker(report, folder):
     files = list(files_of(report, folder))
-    told = list_all(report, folder, files)
+    told = list_all(report, folder, [str(file) for file in files])
     if told is None:
         report.skip(1, "no node with 64-bit memory for WebAssembly")
         return
-    for file, shown in zip(files, told, strict=True):
-        report.expect(f"{file.name}: it can be opened", "error" not in shown, shown)
-        if "error" not in shown:
-            expect_same(report, file, shown)
+    for file, had, printed in zip(files, told, shown(report, files), strict=True):
+        report.expect(f"{file.name}: it can be opened", "error" not in had, had)
+        if "error" not in had:
+            expect_same(report, file, had, printed)
+
+
+def longest(frames):
+    """Octets of the longest uplink, which repeats these frames, and how many bursts stand before each frame of one round."""
+    ends, before = [0], [0]
+    while ends[-1] < len(frames):
+        at, bursts = ends[-1], before[-1]
+        for _ in range(2):
+            bursts += frames[at]
+            at += 34 if frames[at] else 1
+        ends.append(at)
+        before.append(bursts)
+    rounds, rest = divmod(it.LIMIT, len(ends) - 1)
+    return it.UPLINK_HEAD + frames * rounds + frames[: ends[rest]], before
+
+
+def check_longest(report, folder):
+    """The longest recording is shown within a GB of memory: its frames at the begin, in the middle and at the end."""
+    octets, before = longest((report.top / "samples/mixed_damaged/uplink.dmru").read_bytes()[8:])
+    file = folder / "the longest.dmru"
+    file.write_bytes(octets)
+    rows, wanted, count = [], [], len(before) - 1
+    for first in (0, it.LIMIT // 2, it.LIMIT - FRAMES_SHOWN):
+        begin, end = (at // count * before[count] + before[at % count] for at in (first, first + FRAMES_SHOWN))
+        rows += range(begin, end)
+        printed = report.call("show", file, "--from", first, "--to", first + FRAMES_SHOWN - 1).out.decode().splitlines()
+        wanted += printed[1:-1]
+    told = list_all(report, folder, [{"path": str(file), "rows": rows}])
+    if told is None:
+        report.skip(1, "no node with 64-bit memory for WebAssembly")
+        return
+    had = told[0]
+    report.expect("the longest recording can be opened", "error" not in had, had)
+    report.expect("the longest recording: its lines", had.get("lines") == wanted and len(wanted) > FRAMES_SHOWN, had)
+    report.expect("the longest recording: its last line", had.get("last") == printed[-1], had)
+    report.expect("the longest recording is shown within a GB of memory", had.get("memory", 10**9) < 10**9, had)
 
 
 def check_browser(report, folder):
@@ -178,4 +246,5 @@ def check(report):
         if made(report, folder):
             check_text(report, folder)
             check_worker(report, folder)
+            check_longest(report, folder)
             check_browser(report, folder)

@@ -172,6 +172,20 @@ bool dmr_opens(const uint8_t block[12], uint8_t block_use);
 void dmr_embed(const uint8_t octets[9], uint32_t fields[4]);
 uint8_t dmr_extract(const uint32_t fields[4], uint8_t octets[9]);
 
+/* Full link control: who calls whom. dmr_lc_write gives the twelve octets that the product code carries, for a use: 0 a voice LC
+ * header, and any other a terminator with LC. Of the opcode only the 6 lowest bits are read. dmr_lc_read reads it of the bits that
+ * dmr_read_info gives, and corrects one wrong octet behind the product code. It answers 0, or 1 for no word of the product code and
+ * 2 for a wrong parity, and then nothing is written. Clause 7.1, annexes B.3.6 and B.3.12. */
+typedef struct {
+    bool protect;     /* PF: the contents are protected */
+    bool reserved;    /* the reserved bit */
+    uint8_t flco;     /* the opcode, of 6 bits */
+    uint8_t fid;      /* the feature set */
+    uint8_t body[7];  /* what the opcode gives its meaning */
+} dmr_link_control;
+void dmr_lc_write(const dmr_link_control *lc, uint8_t lc_use, uint8_t message[12]);
+uint8_t dmr_lc_read(const uint8_t received[25], uint8_t lc_use, dmr_link_control *lc);
+
 /* The four fragments of 17 bits that carry a Short LC, of 4 bits of opcode and 24 of body. Annex B.2.3. */
 void dmr_short_lc(uint8_t slco, uint32_t body, uint32_t fragments[4]);
 

@@ -1,5 +1,6 @@
 -- What the slots that a host passes, and is given, stand for.
-use Rattle.std.specs.Prelude.{ℕ, List, Option, None, Some, map, if◌then◌else◌}
+use Rattle.std.specs.Prelude.{◌≡◌, ℕ, false, List, Option, None, Some, map, replicate, if◌then◌else◌}
+use Rattle.std.specs.List.{AllByRecursion}
 use Rattle.dmr_c.specs.declared.values.UplinkSlot.{UplinkSlot}
 use Rattle.dmr_c.specs.declared.values.DownlinkSlot.{DownlinkSlot}
 
@@ -18,3 +19,12 @@ record_given_in slot = if slot.sent then Some (slot.cach, slot.burst) else None
 -- The frame of the downlink in both slots.
 abbrev pub downlink_given : List DownlinkSlot → List (Option (List ℕ × List ℕ))
 downlink_given slots = map record_given_in slots
+
+-- A slot of the downlink that sends nothing has zeros.
+pub record IsZeroWhereSilent (slot : DownlinkSlot) : Type 0 where
+  pub cach : slot.sent ≡ false → slot.cach ≡ replicate 3 0
+  pub burst : slot.sent ≡ false → slot.burst ≡ replicate 33 0
+
+-- each slot of a frame does
+abbrev pub AreZeroWhereSilent : List DownlinkSlot → Type 0
+AreZeroWhereSilent slots = AllByRecursion IsZeroWhereSilent slots

@@ -5,7 +5,7 @@ ghost use Rattle.dmr_gateway.specs.GatewayRules.{next_received};
 ghost use Rattle.dmr_station.specs.Station.{IsExchanged, IsOffered, fresh, taken_once};
 ghost use Rattle.dmr_c.specs.Calls.{AreCounts, Becomes, IsTold, offer_of, settings_passed};
 ghost use Rattle.dmr_c.specs.Calls.{counts_status, exchange_status, offer_status, take_status};
-ghost use Rattle.dmr_c.specs.Slots.{uplink_passed, downlink_given};
+ghost use Rattle.dmr_c.specs.Slots.{AreZeroWhereSilent, uplink_passed, downlink_given};
 ghost use Rattle.dmr_c.specs.Status as status;
 
 use crate::handle::StationHandle;
@@ -158,6 +158,7 @@ fn exchange_with(
     ensures status { result ≡ exchange_status (Some station.old) }
     ensures done { result ≡ status.done
         → IsExchanged station.old (uplink_passed uplink.now) (downlink_given downlink.new) station.new }
+    ensures zeros { result ≡ status.done → AreZeroWhereSilent downlink.new }
     ensures refused { (result ≡ status.done → ⊥) → station.new ≡ station.old }
     ensures unwritten { (result ≡ status.done → ⊥) → downlink.new ≡ downlink.old }
 {
@@ -180,6 +181,7 @@ pub extern "C" fn dmr_station_exchange(
     ensures status { result ≡ exchange_status handle.old.held }
     ensures done { result ≡ status.done → Becomes handle.old.held handle.new.held
         (λ before after. IsExchanged before (uplink_passed uplink.now) (downlink_given downlink.new) after) }
+    ensures zeros { result ≡ status.done → AreZeroWhereSilent downlink.new }
     ensures refused { (result ≡ status.done → ⊥) → handle.new.held ≡ handle.old.held }
     ensures unwritten { (result ≡ status.done → ⊥) → downlink.new ≡ downlink.old }
 {

@@ -1,6 +1,7 @@
 //! Slots as a host passes them.
 ghost use Rattle.std.specs.Prelude.{◌≡◌, Some, None};
-ghost use Rattle.dmr_c.specs.Slots.{uplink_passed, downlink_given, burst_passed, record_given_in};
+ghost use Rattle.dmr_c.specs.Slots.{AreZeroWhereSilent, IsZeroWhereSilent, burst_passed, downlink_given, record_given_in};
+ghost use Rattle.dmr_c.specs.Slots.{uplink_passed};
 
 use crate::values::{DownlinkSlot, UplinkSlot};
 use dmr_station::{DownlinkFrame, UplinkFrame};
@@ -22,6 +23,7 @@ pub(crate) fn heard_in_both(slots: &[UplinkSlot; 2]) -> UplinkFrame
 /// A slot that sends a CACH and a burst.
 fn slot_with(cach: [u8; 3], burst: [u8; 33]) -> DownlinkSlot
     ensures value { record_given_in result ≡ Some (cach, burst) }
+    ensures zeros { IsZeroWhereSilent result }
 {
     DownlinkSlot {
         sent: true,
@@ -33,6 +35,7 @@ fn slot_with(cach: [u8; 3], burst: [u8; 33]) -> DownlinkSlot
 /// A slot that sends nothing.
 fn silent_slot() -> DownlinkSlot
     ensures value { record_given_in result ≡ None }
+    ensures zeros { IsZeroWhereSilent result }
 {
     let cach = [0; 3];
     let burst = [0; 33];
@@ -46,6 +49,7 @@ fn silent_slot() -> DownlinkSlot
 /// A slot that sends this.
 fn slot_of(sending: Option<([u8; 3], [u8; 33])>) -> DownlinkSlot
     ensures value { record_given_in result ≡ sending }
+    ensures zeros { IsZeroWhereSilent result }
 {
     match sending {
         Some(sent) => slot_with(sent.0, sent.1),
@@ -56,6 +60,7 @@ fn slot_of(sending: Option<([u8; 3], [u8; 33])>) -> DownlinkSlot
 /// Both slots of a frame that sends this.
 pub(crate) fn put_frame(slots: &mut [DownlinkSlot; 2], records: &DownlinkFrame)
     ensures value { downlink_given slots.new ≡ records.now }
+    ensures zeros { AreZeroWhereSilent slots.new }
 {
     *slots = [slot_of(records[0]), slot_of(records[1])];
 }

@@ -1,2 +1,3 @@
 pub mod Fragments
+pub mod LinkControls
 pub mod Spelling

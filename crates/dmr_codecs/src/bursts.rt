@@ -1,5 +1,5 @@
 //! The parts of a burst of 33 octets, and of the common announcement channel before it.
-ghost use Rattle.std.specs.Prelude.{◌≡◌, ◌%◌, ◌^◌, ◌<◌, true, false};
+ghost use Rattle.std.specs.Prelude.{◌≡◌, ◌%◌, ◌^◌, ◌<◌, ◌≤◌, true, false};
 ghost use Rattle.dmr_bits.specs.Bits.{bits_of, bits_of_octets, number_of};
 ghost use Rattle.dmr_burst.specs.Cach.{IsCach};
 ghost use Rattle.dmr_burst.specs.Emb.{HasEmb};
@@ -18,6 +18,7 @@ use dmr_burst::{Side, cach, read_emb, read_embedded, read_slot_type, read_sync};
 /// The number of a side.
 pub(crate) fn number_of_side(side: Side) -> u8
     ensures told { sender_told result ≡ side }
+    ensures number { result ≤ 1 }
 {
     match side {
         Side::Bs => 0,
@@ -31,6 +32,7 @@ pub(crate) fn number_of_side(side: Side) -> u8
 pub extern "C" fn dmr_read_sync(burst: &[u8; 33], sync: &mut BurstSync) -> bool
     ensures within { result ≡ true → HasSync (sync_told sync.new) (bits_of_octets burst.now) }
     ensures only { (one : Sync) → HasSync one (bits_of_octets burst.now) → (result ≡ true) × (sync_told sync.new ≡ one) }
+    ensures side { result ≡ true → sync.new.side ≤ 1 }
     ensures unwritten { result ≡ false → sync.new ≡ sync.old }
 {
     match read_sync(burst) {

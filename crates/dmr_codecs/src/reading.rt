@@ -1,8 +1,8 @@
 //! What one burst is read as.
-ghost use Rattle.std.specs.Prelude.{◌≡◌};
+ghost use Rattle.std.specs.Prelude.{◌≡◌, ◌≤◌};
 ghost use Rattle.dmr_bits.specs.Bits.{bits_of_octets};
 ghost use Rattle.dmr_reading.specs.Reading.{IsReadAs};
-ghost use Rattle.dmr_codecs.specs.Told.{information_told, reading_told};
+ghost use Rattle.dmr_codecs.specs.Told.{cleared, information_told, reading_told};
 
 use crate::bursts::number_of_side;
 use crate::values::BurstReading;
@@ -25,6 +25,8 @@ const NOTHING: BurstReading = BurstReading {
 #[unsafe(no_mangle)]
 pub extern "C" fn dmr_read_burst(burst: &[u8; 33], reading: &mut BurstReading) -> u8
     ensures read { IsReadAs (bits_of_octets burst.now) (reading_told result reading.new) }
+    ensures zeros { reading.new ≡ cleared result reading.new }
+    ensures numbers { (result ≤ 4) × (reading.new.side ≤ 1) × (reading.new.information ≤ 2) }
 {
     match read_burst(burst) {
         Reading::Data(side, SlotType { colour, kind }, information) => {

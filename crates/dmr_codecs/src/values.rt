@@ -32,6 +32,22 @@ pub struct BurstEmb {
     pub lcss: u8,
 }
 
+/// The fields of a full link control.
+#[repr(C)]
+#[derive(Drop)]
+pub struct BurstLinkControl {
+    /// PF: the contents are protected.
+    pub protect: bool,
+    /// The reserved bit.
+    pub reserved: bool,
+    /// The opcode (FLCO), of six bits.
+    pub flco: u8,
+    /// The feature set (FID).
+    pub fid: u8,
+    /// The 56 bits whose meaning the opcode gives.
+    pub body: [u8; 7],
+}
+
 /// What a burst is read as, with zeros where it has no such field.
 #[repr(C)]
 #[derive(Drop)]

@@ -1,5 +1,5 @@
 -- What a call gives, by how it ended.
-use Rattle.std.proofs.Common.{◌≡◌, ℕ, List, [], Option, Some, refl, sym, ◌∙◌, subst}
+use Rattle.std.proofs.Common.{◌≡◌, ℕ, Bool, List, [], Option, Some, refl, sym, ◌∙◌, subst}
 use Rattle.std.specs.Prelude.{Result, Ok, Err, IfErr, OnOk}
 use Rattle.std.specs.Io.KnownBytes.{IsAtEnd}
 use Rattle.dmr_lines.specs.Line.{PutsLine}
@@ -12,11 +12,12 @@ use Rattle.dmr_recording.specs.declared.stop.Stop.TheVariants.{File, Output}
 use Rattle.dmr_show.proofs.Printed.{puts_one}
 use Rattle.dmr_show.specs.Showing.{IsHeadFault, format_of}
 use Rattle.dmr_web.specs.Calls.{IsAllListed, IsAllPictured, IsFaultListed, IsFaultPictured, IsHeadFaultListed, IsHeadListed}
-use Rattle.dmr_web.specs.Calls.{IsPartListed, status_at, status_by_end, told_at, told_by_end}
+use Rattle.dmr_web.specs.Calls.{IsPartListed, notation_asked, status_at, status_by_end, told_at, told_by_end}
 use Rattle.dmr_web.specs.Numbers.{all_listed, fault_met, format_number, numbered_format, text_full, told_text}
 use Rattle.dmr_web.specs.Pictures.{IsPicturedToEnd, IsPicturedToFault}
 use Rattle.dmr_web.specs.Windows.{IsHeadRead, IsListedInPart, IsListedToEnd, IsListedToFault, front_held}
 use Rattle.dmr_web.specs.declared.numbers.Told.{Told}
+use Rattle.dmr_web.specs.declared.window.WrittenAs.{WrittenAs}
 
 -- no status is another one
 wrong_fault : fault_met ≡ all_listed → ⊥
@@ -37,76 +38,82 @@ wrong_none e = cc
 wrong_met : fault_met ≡ text_full → ⊥
 wrong_met e = cc
 
-pub all_by_end : {T : Type 0} (r : Result T Stop) (status number from left_out length next : ℕ) (octets text : List ℕ)
-    (told : Told) (format : FileFormat) (a b h k : Option (List ℕ)) → status ≡ status_by_end r → told ≡ told_by_end r length next
-    → numbered_format number ≡ Some format → a ≡ Some octets → h ≡ Some [] → left_out ≡ from
-    → OnOk r (IsListedToEnd format left_out next 1 a b h k) → OnOk r (IsAtEnd b) → k ≡ front_held text length
-    → status ≡ all_listed → IsAllListed number from octets text told
-all_by_end (Ok x) status number from left_out length next octets text told format a b h k is tells asked of none out listed end
-    shown met =
-    subst (λ t. IsAllListed number from octets text t) (sym tells) (record {
+-- what is told of a window of its notation, its frame and what it leaves out, is told of the arguments
+asked_of : (P : WrittenAs → ℕ → ℕ → Option (List ℕ) → Option (List ℕ) → Option (List ℕ) → Type 0) (written asked : WrittenAs)
+    (counted frame left_out from : ℕ) (a a' h h' k k' : Option (List ℕ)) → written ≡ asked → counted ≡ frame → left_out ≡ from
+    → a ≡ a' → h ≡ h' → k ≡ k' → P written counted left_out a h k → P asked frame from a' h' k'
+asked_of P written asked counted frame left_out from a a' h h' k k' notation first out of none shown holds =
+    subst (λ w. P w frame from a' h' k') notation (subst (λ f. P written f from a' h' k') first
+    (subst (λ n. P written counted n a' h' k') out (subst (λ o. P written counted left_out o h' k') of
+    (subst (λ o. P written counted left_out a o k') none (subst (λ o. P written counted left_out a h o) shown holds)))))
+
+pub all_by_end : {T : Type 0} (r : Result T Stop) (is_json : Bool) (written : WrittenAs)
+    (status number frame from counted left_out length next : ℕ) (octets text : List ℕ) (told : Told) (format : FileFormat)
+    (a b h k : Option (List ℕ)) → status ≡ status_by_end r → told ≡ told_by_end r length next
+    → numbered_format number ≡ Some format → a ≡ Some octets → h ≡ Some [] → written ≡ notation_asked is_json → counted ≡ frame
+    → left_out ≡ from → OnOk r (IsListedToEnd format written counted left_out next 1 a b h k) → OnOk r (IsAtEnd b)
+    → k ≡ front_held text length → status ≡ all_listed → IsAllListed number is_json frame from octets text told
+all_by_end (Ok x) is_json written status number frame from counted left_out length next octets text told format a b h k is tells
+    asked of none notation first out listed end shown met =
+    subst (λ t. IsAllListed number is_json frame from octets text t) (sym tells) (record {
       format = format;
       asked = asked;
       left = b;
-      listed = subst (λ o. IsListedToEnd format from next 1 o b (Some []) (front_held text length)) of
-          (subst (λ o. IsListedToEnd format from next 1 a b o (front_held text length)) none
-          (subst (λ n. IsListedToEnd format n next 1 a b h (front_held text length)) out
-          (subst (λ o. IsListedToEnd format left_out next 1 a b h o) shown listed)));
+      listed = asked_of (λ w f n o i j. IsListedToEnd format w f n next 1 o b i j) written (notation_asked is_json) counted frame
+          left_out from a (Some octets) h (Some []) k (front_held text length) notation first out of none shown listed;
       end = end;
     })
-all_by_end (Err (File fault)) status number from left_out length next octets text told format a b h k is tells asked of none out
-    listed end shown met =
+all_by_end (Err (File fault)) is_json written status number frame from counted left_out length next octets text told format a b h k
+    is tells asked of none notation first out listed end shown met =
     absurd (wrong_fault (sym is ∙ met))
-all_by_end (Err Output) status number from left_out length next octets text told format a b h k is tells asked of none out listed
-    end shown met =
+all_by_end (Err Output) is_json written status number frame from counted left_out length next octets text told format a b h k
+    is tells asked of none notation first out listed end shown met =
     absurd (wrong_part (sym is ∙ met))
 
-pub fault_by_end : {T : Type 0} (r : Result T Stop) (status number from left_out length next : ℕ) (octets text : List ℕ)
-    (told : Told) (format : FileFormat) (a b h k : Option (List ℕ)) → status ≡ status_by_end r → told ≡ told_by_end r length next
-    → numbered_format number ≡ Some format → a ≡ Some octets → h ≡ Some [] → left_out ≡ from
-    → IfErr r (λ e. IfFile e (λ fault. IsListedToFault format left_out next 1 fault a b h k)) → k ≡ front_held text length
-    → status ≡ fault_met → IsFaultListed number from octets text told
-fault_by_end (Ok x) status number from left_out length next octets text told format a b h k is tells asked of none out listed
-    shown met =
+pub fault_by_end : {T : Type 0} (r : Result T Stop) (is_json : Bool) (written : WrittenAs)
+    (status number frame from counted left_out length next : ℕ) (octets text : List ℕ) (told : Told) (format : FileFormat)
+    (a b h k : Option (List ℕ)) → status ≡ status_by_end r → told ≡ told_by_end r length next
+    → numbered_format number ≡ Some format → a ≡ Some octets → h ≡ Some [] → written ≡ notation_asked is_json → counted ≡ frame
+    → left_out ≡ from → IfErr r (λ e. IfFile e (λ fault. IsListedToFault format written counted left_out next 1 fault a b h k))
+    → k ≡ front_held text length → status ≡ fault_met → IsFaultListed number is_json frame from octets text told
+fault_by_end (Ok x) is_json written status number frame from counted left_out length next octets text told format a b h k
+    is tells asked of none notation first out listed shown met =
     absurd (wrong_all (sym is ∙ met))
-fault_by_end (Err (File fault)) status number from left_out length next octets text told format a b h k is tells asked of none out
-    listed shown met =
-    subst (λ t. IsFaultListed number from octets text t) (sym tells) (record {
+fault_by_end (Err (File fault)) is_json written status number frame from counted left_out length next octets text told format a b h
+    k is tells asked of none notation first out listed shown met =
+    subst (λ t. IsFaultListed number is_json frame from octets text t) (sym tells) (record {
       format = format;
       asked = asked;
       left = b;
       fault = fault;
-      listed = subst (λ o. IsListedToFault format from next 1 fault o b (Some []) (front_held text length)) of
-          (subst (λ o. IsListedToFault format from next 1 fault a b o (front_held text length)) none
-          (subst (λ n. IsListedToFault format n next 1 fault a b h (front_held text length)) out
-          (subst (λ o. IsListedToFault format left_out next 1 fault a b h o) shown listed)));
+      listed = asked_of (λ w f n o i j. IsListedToFault format w f n next 1 fault o b i j) written (notation_asked is_json) counted
+          frame left_out from a (Some octets) h (Some []) k (front_held text length) notation first out of none shown listed;
       which = refl;
     })
-fault_by_end (Err Output) status number from left_out length next octets text told format a b h k is tells asked of none out
-    listed shown met =
+fault_by_end (Err Output) is_json written status number frame from counted left_out length next octets text told format a b h k
+    is tells asked of none notation first out listed shown met =
     absurd (wrong_full (sym is ∙ met))
 
-pub part_by_end : {T : Type 0} (r : Result T Stop) (status number from left_out length next : ℕ) (octets text : List ℕ)
-    (told : Told) (format : FileFormat) (a b h k : Option (List ℕ)) → status ≡ status_by_end r → told ≡ told_by_end r length next
-    → numbered_format number ≡ Some format → a ≡ Some octets → h ≡ Some [] → left_out ≡ from
-    → IfErr r (λ e. IfNotWritten e (IsListedInPart format left_out next a b h k)) → k ≡ front_held text length
-    → status ≡ text_full → IsPartListed number from octets text told
-part_by_end (Ok x) status number from left_out length next octets text told format a b h k is tells asked of none out listed shown
-    met =
+pub part_by_end : {T : Type 0} (r : Result T Stop) (is_json : Bool) (written : WrittenAs)
+    (status number frame from counted left_out length next : ℕ) (octets text : List ℕ) (told : Told) (format : FileFormat)
+    (a b h k : Option (List ℕ)) → status ≡ status_by_end r → told ≡ told_by_end r length next
+    → numbered_format number ≡ Some format → a ≡ Some octets → h ≡ Some [] → written ≡ notation_asked is_json → counted ≡ frame
+    → left_out ≡ from → IfErr r (λ e. IfNotWritten e (IsListedInPart format written counted left_out next a b h k))
+    → k ≡ front_held text length → status ≡ text_full → IsPartListed number is_json frame from octets text told
+part_by_end (Ok x) is_json written status number frame from counted left_out length next octets text told format a b h k
+    is tells asked of none notation first out listed shown met =
     absurd (wrong_none (sym is ∙ met))
-part_by_end (Err (File fault)) status number from left_out length next octets text told format a b h k is tells asked of none out
-    listed shown met =
+part_by_end (Err (File fault)) is_json written status number frame from counted left_out length next octets text told format a b h
+    k is tells asked of none notation first out listed shown met =
     absurd (wrong_met (sym is ∙ met))
-part_by_end (Err Output) status number from left_out length next octets text told format a b h k is tells asked of none out listed
-    shown met =
-    subst (λ t. IsPartListed number from octets text t) (sym tells) (record {
+part_by_end (Err Output) is_json written status number frame from counted left_out length next octets text told format a b h k
+    is tells asked of none notation first out listed shown met =
+    subst (λ t. IsPartListed number is_json frame from octets text t) (sym tells) (record {
       format = format;
       asked = asked;
       left = b;
-      listed = subst (λ o. IsListedInPart format from next o b (Some []) (front_held text length)) of
-          (subst (λ o. IsListedInPart format from next a b o (front_held text length)) none
-          (subst (λ n. IsListedInPart format n next a b h (front_held text length)) out
-          (subst (λ o. IsListedInPart format left_out next a b h o) shown listed)));
+      listed = asked_of (λ w f n o i j. IsListedInPart format w f n next o b i j) written (notation_asked is_json) counted frame
+          left_out from a (Some octets) h (Some []) k (front_held text length) notation first out of none shown listed;
     })
 
 pub pictured_by_end : {T : Type 0} (r : Result T Stop) (status number length next : ℕ) (frames : Frames) (octets text : List ℕ)

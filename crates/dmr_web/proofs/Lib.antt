@@ -1,4 +1,5 @@
 mod Ended
+mod Heads
 mod LookingBack
 mod Pictures
 mod Texts

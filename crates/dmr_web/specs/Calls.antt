@@ -1,5 +1,5 @@
 -- What each call of a page gives.
-use Rattle.std.specs.Prelude.{◌≡◌, ℕ, List, [], Option, Some, Result, Ok, Err}
+use Rattle.std.specs.Prelude.{◌≡◌, ℕ, Bool, List, [], Option, Some, Result, Ok, Err, if◌then◌else◌}
 use Rattle.std.specs.Io.KnownBytes.{IsAtEnd}
 use Rattle.dmr_listing.specs.declared.frames.Frames.{Frames}
 use Rattle.dmr_record.specs.declared.head.FileFormat.{FileFormat}
@@ -13,6 +13,8 @@ use Rattle.dmr_web.specs.Numbers.{all_listed, fault_met, format_number, numbered
 use Rattle.dmr_web.specs.Pictures.{IsPicturedToEnd, IsPicturedToFault}
 use Rattle.dmr_web.specs.Windows.{IsHeadRead, IsListedInPart, IsListedToEnd, IsListedToFault, front_held}
 use Rattle.dmr_web.specs.declared.numbers.Told.{Told}
+use Rattle.dmr_web.specs.declared.window.WrittenAs.{WrittenAs}
+use Rattle.dmr_web.specs.declared.window.WrittenAs.TheVariants.{Json, Text}
 
 -- the status of a call that stopped before the end
 abbrev pub status_at : Stop → ℕ
@@ -38,6 +40,10 @@ told_by_end (Err stop) length next = told_at stop length next
 abbrev pub TellsInNumbers : FaultLine → Told → Type 0
 TellsInNumbers fault told = told ≡ told_fault fault (told_text told.length told.next)
 
+-- what lines are written in
+abbrev pub notation_asked : Bool → WrittenAs
+notation_asked is_json = if is_json then Json else Text
+
 -- The file begins with the head of one of the four formats, which is told, and the text has one line.
 pub record IsHeadListed (file text : List ℕ) (told : Told) : Type 0 where
   pub format : FileFormat
@@ -56,28 +62,31 @@ pub record IsHeadFaultListed (file text : List ℕ) (told : Told) : Type 0 where
 
 -- The octets are all records of a file of the format of this number. The text has a line for each from one of them on, and a last
 -- one. How many there are is told.
-pub record IsAllListed (number from : ℕ) (octets text : List ℕ) (told : Told) : Type 0 where
+pub record IsAllListed (number : ℕ) (is_json : Bool) (frame from : ℕ) (octets text : List ℕ) (told : Told) : Type 0 where
   pub format : FileFormat
   pub asked : numbered_format number ≡ Some format
   pub left : Option (List ℕ)
-  pub listed : IsListedToEnd format from told.next 1 (Some octets) left (Some []) (front_held text told.length)
+  pub listed : IsListedToEnd format (notation_asked is_json) frame from told.next 1
+      (Some octets) left (Some []) (front_held text told.length)
   pub end : IsAtEnd left
 
 -- The same up to a record that shows this fault, which is told.
-pub record IsFaultListed (number from : ℕ) (octets text : List ℕ) (told : Told) : Type 0 where
+pub record IsFaultListed (number : ℕ) (is_json : Bool) (frame from : ℕ) (octets text : List ℕ) (told : Told) : Type 0 where
   pub format : FileFormat
   pub asked : numbered_format number ≡ Some format
   pub left : Option (List ℕ)
   pub fault : FaultLine
-  pub listed : IsListedToFault format from told.next 1 fault (Some octets) left (Some []) (front_held text told.length)
+  pub listed : IsListedToFault format (notation_asked is_json) frame from told.next 1 fault
+      (Some octets) left (Some []) (front_held text told.length)
   pub which : TellsInNumbers fault told
 
 -- The same up to a line for which the text had no room. How many bursts or records came before is told.
-pub record IsPartListed (number from : ℕ) (octets text : List ℕ) (told : Told) : Type 0 where
+pub record IsPartListed (number : ℕ) (is_json : Bool) (frame from : ℕ) (octets text : List ℕ) (told : Told) : Type 0 where
   pub format : FileFormat
   pub asked : numbered_format number ≡ Some format
   pub left : Option (List ℕ)
-  pub listed : IsListedInPart format from told.next (Some octets) left (Some []) (front_held text told.length)
+  pub listed : IsListedInPart format (notation_asked is_json) frame from told.next
+      (Some octets) left (Some []) (front_held text told.length)
 
 -- The octets are all records of a recording of the format of this number. The text has the strips of these frames, and a last line.
 pub record IsAllPictured (number : ℕ) (frames : Frames) (octets text : List ℕ) (told : Told) : Type 0 where

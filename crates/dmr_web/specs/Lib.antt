@@ -1,4 +1,5 @@
 pub mod Calls
+pub mod Heads
 pub mod LookingBack
 pub mod Numbers
 pub mod Pictures

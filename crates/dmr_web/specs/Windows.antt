@@ -1,7 +1,8 @@
 -- What a window of a file holds: a line for each of its bursts or records from one of them on, each once.
-use Rattle.std.specs.Prelude.{◌≡◌, ℕ, ◌+◌, ◌-◌, List, [], Option, Some, length, take}
+use Rattle.std.specs.Prelude.{◌≡◌, ℕ, List, [], ◌++◌, Option, Some, drop, length, replicate, take}
 use Rattle.std.specs.Io.KnownBytes.{Consumes}
 use Rattle.dmr_listing.specs.ListingRules as recording
+use Rattle.dmr_listing.specs.ListingRules.{GivenInTurn}
 use Rattle.dmr_listing.specs.OutgoingListings as outgoing
 use Rattle.dmr_listing.specs.ReceivedListings as received
 use Rattle.dmr_record.specs.Head.{head_octets, magic_of}
@@ -9,17 +10,14 @@ use Rattle.dmr_record.specs.declared.head.FileFormat.{FileFormat}
 use Rattle.dmr_record.specs.declared.head.FileFormat.TheVariants.{Uplink, Downlink, Outgoing, Received}
 use Rattle.dmr_recording.specs.declared.fault_line.FaultLine.{FaultLine}
 use Rattle.dmr_recording.specs.declared.recording.Recording.TheVariants as kind
-use Rattle.dmr_show.specs.Printed.{PutsLines}
 use Rattle.dmr_show.specs.Records.{Records, Slots, Sendings, Receipts, places_of}
 use Rattle.dmr_show.specs.Showing.{IsFileReadUpToFault}
+use Rattle.dmr_web.specs.Heads.{PutsHeadedLine, heads_of}
+use Rattle.dmr_web.specs.declared.window.WrittenAs.{WrittenAs}
 
 -- the first so many octets of a text
 abbrev pub front_held : List ℕ → ℕ → Option (List ℕ)
 front_held text count = Some (take count text)
-
--- how many lines one burst or record has, where so many are still left out: none of them has one
-abbrev pub lines_past : ℕ → ℕ
-lines_past left_out = 1 - left_out
 
 -- The head of a file of this format was read.
 pub record IsHeadRead (format : FileFormat) (left_old left_new : Option (List ℕ)) : Type 0 where
@@ -50,26 +48,26 @@ abbrev pub entry_count : Records → ℕ
 entry_count records = length (places_of records)
 
 -- All that stands behind the head of a file was read, and the text holds the lines of its bursts or records but for the first so
--- many, each once, and others behind them.
-pub record IsListedToEnd (format : FileFormat) (from next others : ℕ) (left_old left_new held_old held_new : Option (List ℕ))
-    : Type 0 where
+-- many, each once and in order, each with its head, and others behind them. The first frame has this number.
+pub record IsListedToEnd (format : FileFormat) (notation : WrittenAs) (frame from next others : ℕ)
+    (left_old left_new held_old held_new : Option (List ℕ)) : Type 0 where
   pub records : Records
   pub read : IsAllRead format records left_old left_new
   pub many : next ≡ entry_count records
-  pub put : PutsLines (entry_count records - from + others) held_old held_new
+  pub put : GivenInTurn PutsHeadedLine held_old (drop from (heads_of notation frame records) ++ replicate others []) held_new
 
 -- The same up to a record that shows this fault.
-pub record IsListedToFault (format : FileFormat) (from next others : ℕ) (fault : FaultLine)
+pub record IsListedToFault (format : FileFormat) (notation : WrittenAs) (frame from next others : ℕ) (fault : FaultLine)
     (left_old left_new held_old held_new : Option (List ℕ)) : Type 0 where
   pub records : Records
   pub read : IsFileReadUpToFault format records fault left_old left_new
   pub many : next ≡ entry_count records
-  pub put : PutsLines (entry_count records - from + others) held_old held_new
+  pub put : GivenInTurn PutsHeadedLine held_old (drop from (heads_of notation frame records) ++ replicate others []) held_new
 
 -- The same up to a line for which there was no room: so many bursts or records were gone by.
-pub record IsListedInPart (format : FileFormat) (from next : ℕ) (left_old left_new held_old held_new : Option (List ℕ))
-    : Type 0 where
+pub record IsListedInPart (format : FileFormat) (notation : WrittenAs) (frame from next : ℕ)
+    (left_old left_new held_old held_new : Option (List ℕ)) : Type 0 where
   pub records : Records
   pub read : IsFrontRead format records left_old left_new
   pub many : next ≡ entry_count records
-  pub put : PutsLines (entry_count records - from) held_old held_new
+  pub put : GivenInTurn PutsHeadedLine held_old (drop from (heads_of notation frame records)) held_new

@@ -2,6 +2,7 @@
 ghost use Rattle.std.specs.Prelude.{◌≡◌, ◌≢◌, ◌≤◌, false, length, IfNone, IfSome, None};
 ghost use Rattle.dmr_show.specs.Showing.{format_of, has_strip};
 ghost use Rattle.dmr_web.specs.Calls.{IsAllListed, IsAllPictured, IsFaultListed, IsFaultPictured, IsHeadFaultListed, IsHeadListed};
+ghost use Rattle.dmr_web.specs.Calls as spec;
 ghost use Rattle.dmr_web.specs.Calls.{IsPartListed, status_at, status_by_end, told_at, told_by_end};
 ghost use Rattle.dmr_web.specs.Numbers.{all_listed, fault_met, not_listed, numbered_format, text_full};
 
@@ -54,7 +55,9 @@ fn told_by_end(ended: Result<(), Stop>, window: &TextWindow<'_>) -> Told
 }
 
 /// What lines are written in.
-fn notation_of(is_json: bool) -> WrittenAs {
+fn notation_of(is_json: bool) -> WrittenAs
+    ensures value { result ≡ spec.notation_asked is_json }
+{
     if is_json {
         WrittenAs::Json
     } else {
@@ -106,9 +109,9 @@ pub extern "C" fn page_list(
     text: &mut [u8],
     told: &mut Told,
 ) -> u32
-    ensures all { result ≡ all_listed → IsAllListed format from octets.now text.new told.new }
-    ensures fault { result ≡ fault_met → IsFaultListed format from octets.now text.new told.new }
-    ensures part { result ≡ text_full → IsPartListed format from octets.now text.new told.new }
+    ensures all { result ≡ all_listed → IsAllListed format is_json frame from octets.now text.new told.new }
+    ensures fault { result ≡ fault_met → IsFaultListed format is_json frame from octets.now text.new told.new }
+    ensures part { result ≡ text_full → IsPartListed format is_json frame from octets.now text.new told.new }
     ensures refused { result ≡ not_listed → (text.new ≡ text.old) × (told.new ≡ told.old) }
     ensures no_needless_refusal { numbered_format format ≢ None → 65535 ≤ length room.old → result ≢ not_listed }
     ensures status { result ≤ 3 }

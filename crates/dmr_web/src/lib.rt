@@ -7,8 +7,9 @@
 //! A part of a recording that begins with a frame is listed as a recording of its own, whose frames are counted from any number on.
 //! Then the lines of its first frames don't know what came before.
 //!
-//! Contracts cite `specs/Windows.antt` for what a window holds, `specs/Pictures.antt` for strips, and `specs/Numbers.antt` for the
-//! numbers that stand for statuses, formats and faults. They leave open what the texts are, but that each is one line.
+//! Contracts cite `specs/Windows.antt` for what a window holds, and `specs/Heads.antt` for what its lines begin with. They cite
+//! `specs/Pictures.antt` for strips, and `specs/Numbers.antt` for the numbers that stand for statuses, formats and faults. They
+//! leave open what follows in the texts, but that each is one line.
 #![tactic(auto)]
 
 mod calls;
@@ -16,4 +17,5 @@ pub mod laws;
 mod line;
 mod listing;
 mod numbers;
+mod place;
 mod window;

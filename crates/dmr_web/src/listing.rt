@@ -109,14 +109,17 @@ fn list_entries<S: Source>(
     requires well { window.old.is_full ≡ false }
     requires begun { window.old.taken ≡ 0 }
     requires room { 65535 ≤ length room.old }
-    ensures whole { OnOk result (IsListedToEnd format window.old.left_out window.new.taken 0
+    ensures whole { OnOk result (IsListedToEnd format
+        window.old.notation window.old.frame window.old.left_out window.new.taken 0
         (S.left source.old) (S.left source.new) (front_held window.old.text.now window.old.length)
         (front_held window.new.text.now window.new.length)) }
     ensures end { OnOk result (IsAtEnd (S.left source.new)) }
-    ensures fault { IfErr result (λ e. IfFile e (λ fault. IsListedToFault format window.old.left_out window.new.taken 0 fault
+    ensures fault { IfErr result (λ e. IfFile e (λ fault. IsListedToFault format
+        window.old.notation window.old.frame window.old.left_out window.new.taken 0 fault
         (S.left source.old) (S.left source.new) (front_held window.old.text.now window.old.length)
         (front_held window.new.text.now window.new.length))) }
-    ensures part { IfErr result (λ e. IfNotWritten e (IsListedInPart format window.old.left_out window.new.taken
+    ensures part { IfErr result (λ e. IfNotWritten e (IsListedInPart format
+        window.old.notation window.old.frame window.old.left_out window.new.taken
         (S.left source.old) (S.left source.new) (front_held window.old.text.now window.old.length)
         (front_held window.new.text.now window.new.length))) }
     ensures well { OnOk result (window.new.is_full ≡ false) }
@@ -173,14 +176,17 @@ pub(crate) fn list_window<S: Source>(
     requires well { window.old.is_full ≡ false }
     requires begun { window.old.taken ≡ 0 }
     requires room { 65535 ≤ length room.old }
-    ensures whole { OnOk result (IsListedToEnd format window.old.left_out window.new.taken 1
+    ensures whole { OnOk result (IsListedToEnd format
+        window.old.notation window.old.frame window.old.left_out window.new.taken 1
         (S.left source.old) (S.left source.new) (front_held window.old.text.now window.old.length)
         (front_held window.new.text.now window.new.length)) }
     ensures end { OnOk result (IsAtEnd (S.left source.new)) }
-    ensures fault { IfErr result (λ e. IfFile e (λ fault. IsListedToFault format window.old.left_out window.new.taken 1 fault
+    ensures fault { IfErr result (λ e. IfFile e (λ fault. IsListedToFault format
+        window.old.notation window.old.frame window.old.left_out window.new.taken 1 fault
         (S.left source.old) (S.left source.new) (front_held window.old.text.now window.old.length)
         (front_held window.new.text.now window.new.length))) }
-    ensures part { IfErr result (λ e. IfNotWritten e (IsListedInPart format window.old.left_out window.new.taken
+    ensures part { IfErr result (λ e. IfNotWritten e (IsListedInPart format
+        window.old.notation window.old.frame window.old.left_out window.new.taken
         (S.left source.old) (S.left source.new) (front_held window.old.text.now window.old.length)
         (front_held window.new.text.now window.new.length))) }
     ensures same_text { window.new.text.ghost_name ≡ window.old.text.ghost_name }

@@ -26,6 +26,33 @@ static int check_codes(void) {
     return 0;
 }
 
+/* The header of a call of radio 2 to talk group 1, as the radio sends it. */
+static const uint8_t HEADER[33] = {
+    0x00, 0x10, 0x01, 0x5E, 0x02, 0x88, 0x12, 0x38, 0x0E, 0x30, 0x44, 0x40, 0x04, 0x6D, 0x5D, 0x7F, 0x77,
+    0xFD, 0x75, 0x7E, 0x32, 0x2C, 0x03, 0x28, 0x01, 0x90, 0x07, 0xA0, 0x05, 0x41, 0x0D, 0x00, 0x55};
+
+/* The link control of that header is read, and read again of what it is written as, with an octet and a bit wrong. The masks of a
+ * header's parity and a terminator's are 0x96 and 0x99 in each octet. */
+static int check_link_control(void) {
+    const uint8_t body[7] = {0, 0, 0, 1, 0, 0, 2};
+    uint8_t received[25], message[12], written[12];
+    dmr_link_control lc, back;
+    dmr_read_info(HEADER, received);
+    if (dmr_lc_read(received, 0, &lc)) return 20;
+    if (lc.protect || lc.reserved || lc.flco || lc.fid || memcmp(lc.body, body, 7)) return 21;
+    dmr_lc_write(&lc, 0, written);
+    if (!dmr_bptc_decode(received, message) || memcmp(message, written, 12)) return 22;
+    written[5] ^= 0x77;
+    dmr_bptc_encode(written, received);
+    received[3] ^= 0x10;
+    if (dmr_lc_read(received, 0, &back) || back.flco || back.fid || memcmp(back.body, body, 7)) return 23;
+    dmr_lc_write(&lc, 1, written);
+    for (int at = 0; at < 12; at++) {
+        if ((message[at] ^ written[at]) != (at < 9 ? 0 : 0x0F)) return 24;
+    }
+    return 0;
+}
+
 /* The station repeats a control block of colour code 1 in slot 1, with idle bursts around it. The codes read each as data of a base
  * station. */
 int main(void) {
@@ -37,7 +64,7 @@ int main(void) {
         0xFD, 0x75, 0x7A, 0xC8, 0x18, 0x00, 0x28, 0x02, 0x50, 0x02, 0x80, 0x00, 0xC0, 0x12, 0x00, 0x22}}};
     dmr_reading reading;
     int wrong = check_codes(), bursts = 0, blocks = 0;
-    if (wrong) return wrong;
+    if (wrong || (wrong = check_link_control())) return wrong;
     if (dmr_station_open(&station, &settings) != DMR_DONE) return 10;
     for (int frame = 0; frame < 20; frame++) {
         if (dmr_station_exchange(&station, uplink, downlink) != DMR_DONE) return 11;
