@@ -13,9 +13,9 @@ pub struct RecordingEnd {
 
 /// How many records so many frames have.
 #[derive(Drop)]
-struct Records(u32);
+struct RecordCount(u32);
 
-impl fmt::Display for Records {
+impl fmt::Display for RecordCount {
     ghost output = { λ frames. Some (decimal (2 * frames.0)) };
 
     fn fmt<W: fmt::Write>(&self, f: &mut fmt::Formatter<W>) -> fmt::Result {
@@ -29,7 +29,7 @@ impl fmt::Display for RecordingEnd {
 
     fn fmt<W: fmt::Write>(&self, f: &mut fmt::Formatter<W>) -> fmt::Result {
         let frames = self.frames;
-        let records = Records(frames);
+        let records = RecordCount(frames);
         write!(f, "{{\"frames\":{frames},\"records\":{records}}}")
     }
 }

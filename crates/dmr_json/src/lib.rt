@@ -6,9 +6,9 @@
 //! as numbers and digits alone. `null` stands where something couldn't be read.
 //!
 //! What is printed of a data header of format 1 to 3, and of what a control signalling block means, is a clause, letter by letter
-//! (`specs/DataHeaders.antt`, `ControlBlocks`). So are the objects of a file, of a record of either list and of the end of a listing
-//! (`specs/Records.antt`). How keys and values are written is said once (`specs/Values.antt`). Nothing is promised of the other
-//! texts beyond safety; they are tested.
+//! (`specs/DataHeaders.antt`, `ControlBlocks`). So are the objects of a file, of a record of either list and of the end of a
+//! listing (`specs/Records.antt`). How keys and values are written is said once (`specs/Values.antt`). Nothing is promised of the
+//! other texts beyond safety; they are tested.
 #![tactic(auto)]
 
 mod burst;
