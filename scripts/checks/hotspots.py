@@ -369,7 +369,7 @@ def check_streams(report, folder):
     had = [(sent.frame, sent.slot, sent.burst) for sent in packets]
     is_so = ran.out[:24] == HEAD and had == marked and all(sent.is_well() for sent in packets)
     report.expect(f"packets of {folder.name}", ran.status == 0 and is_so, ran)
-    every = sum(record is not None for record in talks.slots_of(downlink, talks.OF_DOWNLINK))
+    every = sum(bool(record) for record in talks.slots_of(downlink, talks.OF_DOWNLINK))
     line = f"records {every} written {len(marked)} left-out {every - len(marked)}\n"
     report.expect(f"counts of {folder.name}", ran.err.decode() == line, ran)
     frames = dict(repeated_in(downlink))
