@@ -150,7 +150,7 @@ def of_repeaters():
 
 
 def lossy_call(report):
-    """The bursts of a call of which two are lost, and their packets, up to 20 milliseconds late, with the syncs of a base station."""
+    """The bursts of a call of which two are lost, and their packets, up to 20 milliseconds late, with a base station's syncs."""
     call = call_of(report, "talker_alias")
     lost = [None if frame in (9, 10) else burst for frame, burst in enumerate(call)]
     kept = call_packets(call, [*range(len(call))], delay=lambda frame: frame * 7_919 % 20_000, change=station_burst)
