@@ -29,8 +29,8 @@ fn seconds_text(milliseconds: u64) -> Option<ArrayString<32>>
     }
 }
 
-/// What the line of a burst begins with: seconds to the hundredth, frame and slot in columns. A `Place` is printed the same, though no
-/// clause says so.
+/// What the line of a burst begins with: seconds to the hundredth, frame and slot in columns. A `Place` is printed the same, though
+/// no clause says so.
 pub(crate) fn place_columns(place: Place) -> Option<ArrayString<64>>
     ensures text { IfSome result (λ columns. columns.bytes ≡ spec.place_text place) }
 {
