@@ -1,5 +1,6 @@
 pub mod Bodies
 pub mod CallSlots
+pub mod Existing
 pub mod Flags
 pub mod Frames
 pub mod Lines
@@ -8,6 +9,7 @@ pub mod SameBursts
 pub mod Recorded
 pub mod Seen
 pub mod SeenTries
+pub mod SmallOctets
 pub mod Standing
 pub mod Superframes
 pub mod TryFits

@@ -100,7 +100,7 @@ one_picking blocks (s ∷ serials) (x ∷ a) (y ∷ b) p q =
     cc
 
 -- each block that is picked is as the others
-picked_fit : (P : Block → Type 0) (blocks : List Block) (serials : List ℕ) (some : List Block) → All P blocks
+pub picked_fit : (P : Block → Type 0) (blocks : List Block) (serials : List ℕ) (some : List Block) → All P blocks
     → ArePicked blocks serials some → All P some
 picked_fit P blocks [] [] all p = λ k d lt. absurd (omega arith)
 picked_fit P blocks [] (x ∷ some) all p = absurd p

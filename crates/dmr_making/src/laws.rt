@@ -6,6 +6,7 @@ ghost use Rattle.dmr_making.specs.Made.{IsMade};
 ghost use Rattle.dmr_making.specs.Seen.{AreSeenAs};
 ghost use Rattle.dmr_making.specs.Senders.{IsSendable};
 ghost use Rattle.dmr_making.specs.Sends.{Transmitted, SendsSaid};
+ghost use Rattle.dmr_script.specs.Fits.{FitsTransmission};
 ghost use Rattle.dmr_script.specs.declared.packet.PacketTry.{PacketTry};
 ghost use Rattle.dmr_script.specs.declared.statement.Transmission.{Transmission};
 
@@ -20,4 +21,10 @@ pub fn made_is_recorded()
 pub fn transmissions_are_sent()
     ensures law { (colour : ℕ) (last : Option PacketTry) (said : Transmission) (sent : Transmitted) → IsSendable last said
         → SendsSaid colour last said sent → AreSeenAs colour sent }
+{}
+
+/// A transmission of a script that fits its fields, and that may be sent, sends something.
+pub fn transmissions_send_something()
+    ensures law { (colour : ℕ) (last : Option PacketTry) (said : Transmission) → FitsTransmission said → IsSendable last said
+        → (sent : Transmitted) × SendsSaid colour last said sent }
 {}

@@ -2,6 +2,7 @@ mod CallPlaces
 mod CallSlots
 mod Counts
 mod Examples
+mod Existing
 mod Held
 mod Listing
 mod OneRecorded

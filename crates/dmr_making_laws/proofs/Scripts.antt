@@ -4,29 +4,36 @@ use Rattle.std.proofs.Common.{ap, subst, sym, ◌∙◌, arith}
 use Rattle.std.proofs.lemmas.List.{length-map}
 use Rattle.std.specs.Io.KnownBytes.{Appends}
 use Rattle.std.specs.List.{AllByRecursion}
-use Rattle.dmr_making.specs.Playing.{AreFramesMade, IsOrdered}
+use Rattle.dmr_making.specs.Playing.{AreFramesMade, IsFitPlaced, IsOrdered}
 use Rattle.dmr_making.specs.declared.playing.PlacedTransmission.{PlacedTransmission}
+use Rattle.dmr_making_laws.proofs.Existing.{list_somehow}
 use Rattle.dmr_making_laws.proofs.Listing.{listed}
 use Rattle.dmr_making_laws.proofs.OtherColours.{other_colours}
 use Rattle.dmr_making_laws.proofs.Placing.{AreOthers, AreWellPlaced, EndWithin, planned_well, slots_within}
 use Rattle.dmr_making_laws.proofs.SlotLines.{IsListRecorded, frames_made, frames_made_too, list_recorded}
 use Rattle.dmr_making_laws.proofs.WellSaid.{IsWellPlaced}
-use Rattle.dmr_making_laws.specs.Lists.{silences_in_front}
-use Rattle.dmr_making_laws.specs.Scripts.{IsPlannedScript, IsRecordingOfLists, ListsAreWellFormed, RecordingsAreOfTheirLists}
-use Rattle.dmr_making_laws.specs.Scripts.{RunsWriteWhatScriptsMean, first_sent, second_sent}
+use Rattle.dmr_making_laws.specs.Lists.{AreListsOf, silences_in_front}
+use Rattle.dmr_making_laws.specs.Scripts.{IsPlannedScript, IsRecordingOfLists, ListsAreWellFormed, PlansHaveLists}
+use Rattle.dmr_making_laws.specs.Scripts.{RecordingsAreOfTheirLists, RunsOverUplink, RunsWriteWhatScriptsMean}
+use Rattle.dmr_making_laws.specs.Scripts.{WritesWhatTheListsMean, first_sent, second_sent}
 use Rattle.dmr_planning.proofs.Pausing.{pauses}
 use Rattle.dmr_planning.proofs.Planned.{EndsBy, IsAllFit, planned_fits}
 use Rattle.dmr_planning.specs.Pausing.{ArePausedBetween}
 use Rattle.dmr_planning.specs.Planning.{own_colour}
-use Rattle.dmr_planning.specs.Plans.{IsPlanOf}
+use Rattle.dmr_planning.specs.Plans.{IsPlanOf, WritesPlan}
+use Rattle.dmr_planning.specs.declared.plan.Made.{Made}
 use Rattle.dmr_planning.specs.declared.plan.Plan.{Plan}
+use Rattle.dmr_record.specs.Outgoing.{Sending}
 use Rattle.dmr_record.specs.Uplink.{UplinkSlots, uplink_file}
-use Rattle.dmr_repeater.specs.Files.{KnownOctets}
+use Rattle.dmr_repeater.specs.Files.{Files, KnownOctets}
 use Rattle.dmr_repeater.specs.Headline.{ForWhatWasSent, HasRecording, LeavesAsMeant}
+use Rattle.dmr_repeater.specs.declared.summary.Summary.{Summary}
 use Rattle.dmr_script.specs.Order.{said_nothing}
 use Rattle.dmr_script.specs.declared.script.Script.{Script}
 use Rattle.dmr_script.specs.declared.statement.NumberedStatement.{NumberedStatement}
 use Rattle.dmr_station.specs.DownlinkRules.{slots_in}
+use Rattle.dmr_station.specs.StationRules.{Settings}
+use Rattle.dmr_voice.specs.CallMeaning.{Transmission}
 
 -- 1. What holds of a slot of a plan.
 
@@ -36,6 +43,7 @@ pub record IsSlotPlanned (own : ℕ) (all : List NumberedStatement) (frames : �
   pub paused : ArePausedBetween all own placed
   pub ordered : IsOrdered 0 placed
   pub ends : All (EndsBy frames) placed
+  pub there : All (IsFitPlaced all) placed
 
 -- and of both
 record AreBothPlanned (p : Plan) : Type 0 where
@@ -47,13 +55,14 @@ ends_by end later placed le all = λ k d lt. let h = all k d lt in omega (arith,
 
 slot_planned : (own frames end : ℕ) (all : List NumberedStatement) (placed items : List PlacedTransmission) → items ≡ placed
     → AllByRecursion (IsWellPlaced own all) placed → ArePausedBetween all own placed → IsOrdered 0 placed
-    → All (EndsBy end) placed → end ≤ frames → IsSlotPlanned own all frames items
-slot_planned own frames end all placed items e well paused ordered ends le =
+    → All (EndsBy end) placed → All (IsFitPlaced all) placed → end ≤ frames → IsSlotPlanned own all frames items
+slot_planned own frames end all placed items e well paused ordered ends there le =
     subst (IsSlotPlanned own all frames) (sym e) (record {
       well = well;
       paused = paused;
       ordered = ordered;
       ends = ends_by end frames placed le ends;
+      there = there;
     })
 
 both_planned : (script : Script) (taken : Bool) (p : Plan) → IsPlannedScript script taken p → AreBothPlanned p
@@ -68,10 +77,10 @@ both_planned script taken p s =
     let within : EndWithin p.frames q.planned = slots_within q.planned p.frames q.frames in
     let first : IsSlotPlanned own all p.frames p.first.items =
     slot_planned own p.frames q.planned.first.state.end all q.planned.first.placed p.first.items q.first placed.first paused.0
-    fit.first.ordered fit.first.ends within.first in
+    fit.first.ordered fit.first.ends fit.first.placed within.first in
     let second : IsSlotPlanned own all p.frames p.second.items =
     slot_planned own p.frames q.planned.second.state.end all q.planned.second.placed p.second.items q.second placed.second paused.1
-    fit.second.ordered fit.second.ends within.second in
+    fit.second.ordered fit.second.ends fit.second.placed within.second in
     record {
       first = subst (λ (o : ℕ). IsSlotPlanned o p.statements.now p.frames p.first.items) (sym q.own)
           (subst (λ (ss : List NumberedStatement). IsSlotPlanned own ss p.frames p.first.items) (sym q.statements) first);
@@ -121,9 +130,20 @@ recordings_are_of_their_lists script taken p made first second uplink s lists w 
       };
     }
 
--- A run over it writes what they mean.
-pub runs_write_what_scripts_mean : RunsWriteWhatScriptsMean
-runs_write_what_scripts_mean script taken p made first second uplink s sendings summary old new planned lists w run =
+-- A plan has lists.
+pub plans_have_lists : PlansHaveLists
+plans_have_lists script taken p s =
+    let b : AreBothPlanned p = both_planned script taken p s in
+    let (first, is_first) = list_somehow p.own p.statements.now p.frames p.first.items b.first.well b.first.there in
+    let (second, is_second) = list_somehow p.own p.statements.now p.frames p.second.items b.second.well b.second.there in
+    record { first = first; second = second; are = record { first_slot = is_first; second_slot = is_second } }
+
+-- A run over a recording of lists writes what they mean,
+lists_are_meant : (script : Script) (taken : Bool) (p : Plan) (made : Made) (first second : List (Transmission × ℕ))
+    → (uplink : KnownOctets) (s : Settings) (sendings : List Sending) (summary : Summary) (old new : Files)
+    → IsPlannedScript script taken p → AreListsOf p first second → WritesPlan p made (Some []) uplink
+    → RunsOverUplink s p sendings summary uplink old new → WritesWhatTheListsMean s p first second sendings summary old new
+lists_are_meant script taken p made first second uplink s sendings summary old new planned lists w run =
     let wf = lists_are_well_formed script taken p first second planned lists in
     let of_lists : IsRecordingOfLists p first second uplink =
     recordings_are_of_their_lists script taken p made first second uplink planned lists w in
@@ -139,3 +159,11 @@ runs_write_what_scripts_mean script taken p made first second uplink s sendings 
       written = (meant (silences_in_front p.frames p.first.items) (silences_in_front p.frames p.second.items) first second
           of_lists.frames sendings wf.0 wf.1 has run.outgoing).0;
     }
+
+-- and so what the script means.
+pub runs_write_what_scripts_mean : RunsWriteWhatScriptsMean
+runs_write_what_scripts_mean script taken p made uplink s sendings summary old new planned w run = record {
+  lists = plans_have_lists script taken p planned;
+  written = λ first second lists.
+      lists_are_meant script taken p made first second uplink s sendings summary old new planned lists w run;
+}

@@ -71,3 +71,9 @@ silences_in_front frames (p ∷ placed) = p.start
 pub record AreListsOf (p : Plan) (first second : List (Transmission × ℕ)) : Type 0 where
   pub first_slot : IsListOf p.own p.statements.now p.frames p.first.items first
   pub second_slot : IsListOf p.own p.statements.now p.frames p.second.items second
+
+-- There are such lists.
+pub record HasLists (p : Plan) : Type 0 where
+  pub first : List (Transmission × ℕ)
+  pub second : List (Transmission × ℕ)
+  pub are : AreListsOf p first second

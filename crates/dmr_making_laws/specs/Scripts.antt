@@ -1,6 +1,6 @@
 -- The laws of whole scripts: what `make` writes of one is a recording of what the script means, and a run repeats that.
 use Rattle.std.specs.Prelude.{◌≡◌, ℕ, Bool, All, List, [], Some, Ok, length}
-use Rattle.dmr_making_laws.specs.Lists.{AreListsOf, silences_in_front}
+use Rattle.dmr_making_laws.specs.Lists.{AreListsOf, HasLists, silences_in_front}
 use Rattle.dmr_planning.specs.Plans.{IsPlanOf, WritesPlan}
 use Rattle.dmr_planning.specs.declared.plan.Made.{Made}
 use Rattle.dmr_planning.specs.declared.plan.Plan.{Plan}
@@ -33,6 +33,10 @@ first_sent p list = sent_list p.own (silences_in_front p.frames p.first.items) l
 
 abbrev pub second_sent : Plan → List (Transmission × ℕ) → List Cell
 second_sent p list = sent_list p.own (silences_in_front p.frames p.second.items) list
+
+-- Each plan has lists: there are slots that each of its transmissions sends.
+abbrev pub PlansHaveLists : Type 0
+PlansHaveLists = (script : Script) (taken : Bool) (p : Plan) → IsPlannedScript script taken p → HasLists p
 
 -- The list of each slot of a plan is well formed as a whole.
 abbrev pub ListsAreWellFormed : Type 0
@@ -76,10 +80,17 @@ pub record WritesWhatTheListsMean (s : Settings) (p : Plan) (first second : List
   pub written : WritesWhatIsMeant s (first_sent p first) (second_sent p second) frames sendings summary.repeated
       (counts_in summary) old new
 
+-- It wrote what the script means: the script has lists, and whichever they are, that is what they mean.
+pub record WritesWhatTheScriptMeans (s : Settings) (p : Plan) (sendings : List Sending) (summary : Summary)
+    (old new : Files) : Type 0 where
+  pub lists : HasLists p
+  pub written : (first second : List (Transmission × ℕ)) → AreListsOf p first second
+      → WritesWhatTheListsMean s p first second sendings summary old new
+
 -- Over what `make` wrote, a run that ends well wrote the exact encoding of what the script means.
 abbrev pub RunsWriteWhatScriptsMean : Type 0
 RunsWriteWhatScriptsMean =
-    (script : Script) (taken : Bool) (p : Plan) (made : Made) (first second : List (Transmission × ℕ)) (uplink : KnownOctets) →
+    (script : Script) (taken : Bool) (p : Plan) (made : Made) (uplink : KnownOctets) →
     (s : Settings) (sendings : List Sending) (summary : Summary) (old new : Files) →
-    IsPlannedScript script taken p → AreListsOf p first second → WritesPlan p made (Some []) uplink →
-    RunsOverUplink s p sendings summary uplink old new → WritesWhatTheListsMean s p first second sendings summary old new
+    IsPlannedScript script taken p → WritesPlan p made (Some []) uplink →
+    RunsOverUplink s p sendings summary uplink old new → WritesWhatTheScriptMeans s p sendings summary old new

@@ -2,7 +2,8 @@
 ghost use Rattle.std.specs.Prelude.{◌≡◌, ℕ, Option, length};
 ghost use Rattle.dmr_making.specs.Senders.{IsSendable};
 ghost use Rattle.dmr_making.specs.Sends.{SendsSaid, Transmitted};
-ghost use Rattle.dmr_making_laws.specs.Scripts.{ListsAreWellFormed, RecordingsAreOfTheirLists, RunsWriteWhatScriptsMean};
+ghost use Rattle.dmr_making_laws.specs.Scripts.{ListsAreWellFormed, PlansHaveLists};
+ghost use Rattle.dmr_making_laws.specs.Scripts.{RecordingsAreOfTheirLists, RunsWriteWhatScriptsMean};
 ghost use Rattle.dmr_planning.specs.Counting.{slot_count};
 ghost use Rattle.dmr_script.specs.declared.packet.PacketTry.{PacketTry};
 ghost use Rattle.dmr_script.specs.declared.statement.Transmission.{Transmission};
@@ -11,6 +12,11 @@ ghost use Rattle.dmr_script.specs.declared.statement.Transmission.{Transmission}
 pub fn transmissions_have_their_slots()
     ensures law { (colour : ℕ) (last : Option PacketTry) (said : Transmission) (sent : Transmitted) → IsSendable last said
         → SendsSaid colour last said sent → length sent.slots ≡ slot_count said last }
+{}
+
+/// Each plan of a script has lists: there are slots that each of its transmissions sends.
+pub fn plans_have_lists()
+    ensures law { PlansHaveLists }
 {}
 
 /// The transmissions of each slot of a script, each with the silences behind it, are well formed as a whole.
@@ -24,7 +30,7 @@ pub fn recordings_are_of_their_lists()
 {}
 
 /// Over what is written of a script, a run that ends well wrote the exact encoding of what the script means, and of what the
-/// gateway sends.
+/// gateway sends. The script has lists, and it is so whichever they are.
 pub fn runs_write_what_scripts_mean()
     ensures law { RunsWriteWhatScriptsMean }
 {}

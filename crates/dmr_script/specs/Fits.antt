@@ -1,5 +1,6 @@
 -- Which numbers statements have, and how many blocks the shape of a packet has.
-use Rattle.std.specs.Prelude.{◌≡◌, ℕ, ◌+◌, ◌*◌, ◌^◌, ◌<◌, ◌≤◌, ◌==◌, ◌||◌, false, All, length, IfSome, if◌then◌else◌, nat_lt}
+use Rattle.std.specs.Prelude.{◌≡◌, ℕ, ◌+◌, ◌*◌, ◌^◌, ◌<◌, ◌≤◌, ◌==◌, ◌||◌, false, All, List, length, IfSome, if◌then◌else◌}
+use Rattle.std.specs.Prelude.{nat_lt}
 use Rattle.dmr_csbk.specs.Block.{FitsCsbk}
 use Rattle.dmr_data.specs.Block.{payload}
 use Rattle.dmr_data.specs.declared.header.Status.{Status}
@@ -37,7 +38,18 @@ use Rattle.dmr_script.specs.declared.statement.Transmission.{Transmission}
 use Rattle.dmr_script.specs.declared.statement.Transmission.TheVariants as transmission
 use Rattle.dmr_script.specs.declared.statement.Transmit.{Transmit}
 
--- 1. Packets.
+-- 1. Octets.
+
+-- Each of these numbers is one of eight bits.
+abbrev pub AreEightBits : List ℕ → Type 0
+AreEightBits octets = All (λ octet. octet < 256) octets
+
+-- These are so many octets.
+pub record AreSoManyOctets (many : ℕ) (octets : List ℕ) : Type 0 where
+  pub count : length octets ≡ many
+  pub small : AreEightBits octets
+
+-- 2. Packets.
 
 -- The shape of a packet has so many blocks, at most 127, and each of its preambles can count what follows it.
 pub record HasBlocks (blocks : ℕ) (shape : PacketShape) : Type 0 where
@@ -62,12 +74,13 @@ body_octets sap (body.Udp m) =
     then 5 + compressed_port_octets m.source_port + compressed_port_octets m.destination_port + length m.data.items
     else 28 + length m.data.items
 
--- The data of a datagram fit into it.
-abbrev pub FitsMessage : UdpMessage → Type 0
-FitsMessage m = length m.data.items ≤ 1372
+-- The data of a datagram are octets, and fit into it.
+pub record FitsMessage (m : UdpMessage) : Type 0 where
+  pub room : length m.data.items ≤ 1372
+  pub octets : AreEightBits m.data.items
 
 abbrev pub FitsBody : Body → Type 0
-FitsBody (body.Octets octets) = Unit {0}
+FitsBody (body.Octets octets) = AreEightBits octets.items
 FitsBody (body.Udp m) = FitsMessage m
 
 pub record FitsPacket (p : PacketTry) : Type 0 where
@@ -91,6 +104,7 @@ pub record FitsShortData (s : ShortDataTry) : Type 0 where
   pub source : s.source < 2 ^ 24
   pub destination : s.destination < 2 ^ 24
   pub format : s.format < 64
+  pub octets : AreEightBits s.octets.items
   pub holds : HoldsBody (length s.shape.blocks.items) (length s.octets.items) (payload Half false)
   pub most : length s.shape.blocks.items ≤ 63
   pub shape : HasBlocks (length s.shape.blocks.items) s.shape
@@ -132,7 +146,7 @@ pub record FitsAnswer (a : Answer) : Type 0 where
   pub kind : FitsKind a.kind
   pub shape : HasBlocks (answer_flag_blocks a.kind) a.shape
 
--- 2. Calls and single bursts.
+-- 3. Calls and single bursts.
 
 abbrev pub FitsCarried : Carried → Type 0
 FitsCarried carried.Own = Unit {0}
@@ -141,14 +155,21 @@ FitsCarried (carried.LinkControl lc) = FitsFullLc lc
 
 pub record FitsCall (c : Call) : Type 0 where
   pub link_control : FitsFullLc c.link_control
+  pub key : AreSoManyOctets 10 c.key
   pub carried : All FitsCarried c.carried.items
   pub shape : IsCallShape c.shape
 
 abbrev pub FitsBurst : LoneBurst → Type 0
 FitsBurst (burst.Terminator lc) = FitsFullLc lc
-FitsBurst _ = Unit {0}
+FitsBurst (burst.PiHeader octets) = length octets ≡ 12
+FitsBurst (burst.MbcHeader octets) = length octets ≡ 12
+FitsBurst (burst.MbcBlock octets) = length octets ≡ 12
+FitsBurst (burst.UnifiedBlock octets) = length octets ≡ 12
+FitsBurst (burst.RateHalf octets) = length octets ≡ 12
+FitsBurst (burst.RateThreeQuarters bits) = length bits ≡ 196
+FitsBurst (burst.RateOne bits) = length bits ≡ 196
 
--- 3. Statements.
+-- 4. Statements.
 
 abbrev pub FitsTransmission : Transmission → Type 0
 FitsTransmission (transmission.Call c) = FitsCall c
@@ -170,7 +191,7 @@ pub record FitsTransmit (t : Transmit) : Type 0 where
   pub transmission : FitsTransmission t.transmission
 
 abbrev pub FitsSending : Datagram → Type 0
-FitsSending (datagram.Octets octets) = length octets.items < 2 ^ 16
+FitsSending (datagram.Octets octets) = (length octets.items < 2 ^ 16) × AreEightBits octets.items
 FitsSending (datagram.Udp m) = FitsMessage m.message
 
 abbrev pub FitsStatement : Statement → Type 0

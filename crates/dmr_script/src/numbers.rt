@@ -1,5 +1,6 @@
 //! Numbers and octets of a line.
 ghost use Rattle.std.specs.Prelude.{◌≡◌, ◌*◌, ◌<◌, ◌≤◌, ◌^◌, length, IfOk, OnOk};
+ghost use Rattle.dmr_script.specs.Fits.{AreEightBits};
 
 use crate::expected::Expected;
 use crate::fault::Refusal;
@@ -9,7 +10,7 @@ use crate::token::{Cursor, Token};
 use dmr_bits::Bits;
 use dmr_words::decimal;
 use hex::{FromHexError, decode, decode_to_slice};
-use std::alloc::Global;
+use std::alloc::{AllocError, Global};
 
 /// The greatest address of 24 bits.
 const LAST_ADDRESS: u32 = 0xff_ffff;
@@ -82,7 +83,9 @@ pub(crate) fn octets<const N: usize>(cursor: &mut Cursor, digits: u32) -> Result
 }
 
 /// 196 bits, as 49 hexadecimal digits.
-pub(crate) fn information(cursor: &mut Cursor) -> Result<Bits<196>, Refusal> {
+pub(crate) fn information(cursor: &mut Cursor) -> Result<Bits<196>, Refusal>
+    ensures bits { IfOk result (λ bits. length bits ≡ 196) }
+{
     let wanted = Expected::Digits(49);
     let word = cursor.word(wanted)?;
     let mut digits = [b'0'; 50];
@@ -100,6 +103,7 @@ pub(crate) fn information(cursor: &mut Cursor) -> Result<Bits<196>, Refusal> {
 /// The octets that a word says: two hexadecimal digits each, or a hyphen for none.
 fn octets_of(alloc: Global, word: &[u8], wanted: Expected) -> Result<Vec<u8>, Halt>
     ensures few { IfOk result (λ octets. length octets.items ≤ length word.now) }
+    ensures small { IfOk result (λ octets. AreEightBits octets.items) }
 {
     if word == b"-".as_slice() {
         return Ok(Vec::new(alloc));
@@ -114,19 +118,29 @@ fn octets_of(alloc: Global, word: &[u8], wanted: Expected) -> Result<Vec<u8>, Ha
 /// Octets, however many.
 pub(crate) fn all_octets(alloc: Global, cursor: &mut Cursor) -> Result<Vec<u8>, Halt>
     ensures few { IfOk result (λ octets. length octets.items ≤ length cursor.old.rest.now) }
+    ensures small { IfOk result (λ octets. AreEightBits octets.items) }
 {
     let word = cursor.word(Expected::Octets)?;
     octets_of(alloc, word, Expected::Octets)
 }
 
+/// The octets of a text.
+fn octets_of_text(alloc: Global, text: &[u8]) -> Result<Vec<u8>, AllocError>
+    ensures small { IfOk result (λ octets. AreEightBits octets.items) }
+{
+    let octets = text.to_vec(alloc)?;
+    Ok(octets)
+}
+
 /// The data of a datagram, as octets or as a text.
 pub(crate) fn data(alloc: Global, cursor: &mut Cursor) -> Result<Vec<u8>, Halt>
     ensures most { IfOk result (λ octets. length octets.items ≤ 1372) }
+    ensures small { IfOk result (λ octets. AreEightBits octets.items) }
 {
     let token = cursor.next();
     let data = match token {
         Token::Word(word) => octets_of(alloc, word, Expected::Data)?,
-        Token::Text(text) => text.to_vec(alloc)?,
+        Token::Text(text) => octets_of_text(alloc, text)?,
         token => return Err(Halt::Refused(token.instead_of(Expected::Data))),
     };
     if data.len() > DATA_LIMIT {

@@ -1,11 +1,12 @@
 //! Transmissions of a line.
 ghost use Rattle.std.specs.Prelude.{◌≡◌, ◌<◌, ◌≤◌, ◌^◌, length, IfOk};
-ghost use Rattle.std.specs.Prelude.{IfSome, OnOk};
+ghost use Rattle.std.specs.Prelude.{All, IfSome, OnOk};
 ghost use Rattle.dmr_link.specs.FullLc.{FitsFullLc};
 ghost use Rattle.dmr_script.specs.Foreign.{MayBeForeign};
-ghost use Rattle.dmr_script.specs.Fits.{FitsCall, FitsTransmission, FitsTransmit};
+ghost use Rattle.dmr_script.specs.Shapes.{IsCallShape};
+ghost use Rattle.dmr_script.specs.Fits.{FitsCall, FitsCarried, FitsTransmission, FitsTransmit};
 
-use crate::call::Call;
+use crate::call::{Call, Carried};
 use crate::call_shapes::{self, call_shape};
 use crate::carrying::carrying;
 use crate::cited::Cited;
@@ -22,6 +23,7 @@ use crate::packet_shapes;
 use crate::packets::{
     full_try, packet_try, partial_try, plain_answer, selective_repeat, short_data_try, status_sent,
 };
+use crate::shape::CallShape;
 use crate::statement::{Sender, Transmission, Transmit};
 use crate::token::{Cursor, Token};
 use dmr_link::FullLc;
@@ -33,6 +35,28 @@ fn key(cursor: &mut Cursor) -> Result<[u8; 10], Refusal> {
         return octets(cursor, 20);
     }
     Ok([0; 10])
+}
+
+/// A call of this link control, with these contents of its PI headers.
+fn call_with(
+    link_control: FullLc,
+    pi: bool,
+    key: [u8; 10],
+    carried: Vec<Carried>,
+    shape: CallShape,
+) -> Call
+    requires link_control { FitsFullLc link_control }
+    requires carried { All FitsCarried carried.items }
+    requires shape { IsCallShape shape }
+    ensures fits { FitsCall result }
+{
+    Call {
+        link_control,
+        pi,
+        key,
+        carried,
+        shape,
+    }
 }
 
 /// A call behind its link control, to the end of the line.
@@ -47,13 +71,7 @@ fn call(alloc: Global, cursor: &mut Cursor, link_control: FullLc) -> Result<Call
         return Err(Halt::Refused(Refusal::NoCallShape));
     };
     let shape = call_shape(alloc, letters.as_slice())?;
-    Ok(Call {
-        link_control,
-        pi,
-        key,
-        carried,
-        shape,
-    })
+    Ok(call_with(link_control, pi, key, carried, shape))
 }
 
 /// What the header of a packet or an answer begins, by the first word, to the end of the line, where it does.

@@ -7,5 +7,6 @@ pub mod Filters
 pub mod Hotspot
 pub mod Listed
 pub mod LogRequest
+pub mod Made
 pub mod Making
 pub mod Request

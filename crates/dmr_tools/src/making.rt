@@ -1,13 +1,14 @@
 //! The recording of a script, and its outgoing list.
-ghost use Rattle.std.specs.Prelude.{◌≡◌, ◌≤◌, ◌⊎◌, false, true, IfSome};
+ghost use Rattle.std.specs.Prelude.{◌≡◌, ◌≤◌, ◌⊎◌, false, true, is_some, IfOk, IfSome, OnOk};
 ghost use Rattle.dmr_lines.specs.Line.{PutsError, PutsLine};
 ghost use Rattle.dmr_lines.specs.Status.{failure, success};
 ghost use Rattle.dmr_planning.specs.Plans.{IsPlan};
+ghost use Rattle.dmr_tools.specs.Made.{HasListOf, HasRecordingOf, IsSomeMaking, PutsMade};
 ghost use Rattle.dmr_tools.specs.Making.{is_any_to_output};
 
 use crate::make_places::MakePlaces;
 use crate::outputs::{BufferedOutput, BufferedOutputs, OutputsFault, open_outputs};
-use crate::printing::{print_counts, print_fault};
+use crate::printing::{print_fault, print_made};
 use dmr_files::{Open, OpenFault, Place, System, open_source, write_out};
 use dmr_lines::{FAILURE, ToldName};
 use dmr_planning::{Made, Plan, PlanFault, plan_script};
@@ -89,13 +90,17 @@ fn write_recording<'a, O: Write + Drop>(
 ) -> Result<Made, MakeFault<'a>>
     requires plan { IsPlan plan.now }
     requires well { ⟦<ToWrite<BufWriter<O>> as Sink>⟧.has_failed output.sink ≡ false }
+    ensures recording { IfOk result
+        (λ made. HasRecordingOf plan.now made (⟦<ToWrite<BufWriter<O>> as Sink>⟧.held output.entry.sink)) }
 {
     let BufferedOutput { place, mut sink } = output;
-    let made = plan.write_uplink(&mut sink);
-    let written = write_out(sink);
-    match (made, written) {
-        (Ok(made), Ok(_)) => Ok(made),
-        _ => Err(MakeFault::Write(place)),
+    let end = plan.write_uplink(&mut sink);
+    let Ok(_) = write_out(sink) else {
+        return Err(MakeFault::Write(place));
+    };
+    match end {
+        Ok(made) => Ok(made),
+        Err(_) => Err(MakeFault::Write(place)),
     }
 }
 
@@ -106,13 +111,16 @@ fn write_list<'a, O: Write + Drop>(
 ) -> Result<(), MakeFault<'a>>
     requires plan { IsPlan plan.now }
     requires well { ⟦<ToWrite<BufWriter<O>> as Sink>⟧.has_failed output.sink ≡ false }
+    ensures list { OnOk result (HasListOf plan.now (⟦<ToWrite<BufWriter<O>> as Sink>⟧.held output.entry.sink)) }
 {
     let BufferedOutput { place, mut sink } = output;
-    let listed = plan.write_outgoing(&mut sink);
-    let written = write_out(sink);
-    match (listed, written) {
-        (Ok(()), Ok(_)) => Ok(()),
-        _ => Err(MakeFault::Write(place)),
+    let end = plan.write_outgoing(&mut sink);
+    let Ok(_) = write_out(sink) else {
+        return Err(MakeFault::Write(place));
+    };
+    match end {
+        Ok(()) => Ok(()),
+        Err(_) => Err(MakeFault::Write(place)),
     }
 }
 
@@ -124,6 +132,10 @@ fn write_files<'a, O: Write + Drop>(
     requires plan { IsPlan plan.now }
     requires uplink { ⟦<ToWrite<BufWriter<O>> as Sink>⟧.has_failed files.uplink.sink ≡ false }
     requires outgoing { IfSome files.outgoing (λ file. ⟦<ToWrite<BufWriter<O>> as Sink>⟧.has_failed file.sink ≡ false) }
+    ensures recording { IfOk result
+        (λ made. HasRecordingOf plan.now made (⟦<ToWrite<BufWriter<O>> as Sink>⟧.held files.entry.uplink.sink)) }
+    ensures list { OnOk result (IfSome files.entry.outgoing
+        (λ file. HasListOf plan.now (⟦<ToWrite<BufWriter<O>> as Sink>⟧.held file.sink))) }
 {
     let BufferedOutputs { uplink, outgoing } = files;
     let made = write_recording(plan, uplink)?;
@@ -138,7 +150,10 @@ fn make<'a, S: System>(
     alloc: Global,
     system: &S,
     places: &MakePlaces<'a>,
-) -> Result<Made, MakeFault<'a>> {
+) -> Result<Made, MakeFault<'a>>
+    // What was written are the files of a plan of what was read, and this counts them.
+    ensures made { IfOk result (λ made. IsSomeMaking (is_some places.now.outgoing) made) }
+{
     if places.is_any_to_output() && system.prints_to_terminal() {
         return Err(MakeFault::Terminal);
     }
@@ -164,6 +179,11 @@ pub(crate) fn make_files<S: System, K: Sink, E: Sink>(
     // What is printed goes to one of the two: a success to the first, but where a file goes to standard output; a fault to the
     // second.
     ensures alone { (out.new ≡ out.old) ⊎ (err.new ≡ err.old) }
+    // A success is the line of the counts of a plan: that of what was read, whose files were written.
+    ensures made { result ≡ success → is_any_to_output places.now ≡ false
+        → PutsMade (is_some places.now.outgoing) (K.held out.old) (K.held out.new) }
+    ensures made_beside { result ≡ success → is_any_to_output places.now ≡ true
+        → PutsMade (is_some places.now.outgoing) (E.held err.old) (E.held err.new) }
     ensures line { result ≡ success → is_any_to_output places.now ≡ false → PutsLine (K.held out.old) (K.held out.new) }
     ensures line_alone { result ≡ success → is_any_to_output places.now ≡ false → err.new ≡ err.old }
     ensures beside_line { result ≡ success → is_any_to_output places.now ≡ true → PutsLine (E.held err.old) (E.held err.new) }
@@ -175,7 +195,7 @@ pub(crate) fn make_files<S: System, K: Sink, E: Sink>(
     ensures err_failed { E.has_failed err.new ≡ true → result ≡ failure }
 {
     match make(alloc, system, places) {
-        Ok(made) => print_counts(&made, places.is_any_to_output(), out, err),
+        Ok(made) => print_made(&made, places.is_any_to_output(), out, err),
         Err(fault) => {
             let script = places.script;
             print_fault(alloc, &ToldFault { fault, script }, err);

@@ -7,6 +7,7 @@ ghost use Rattle.dmr_show.specs.Showing.{TellsFault};
 ghost use Rattle.dmr_tools.specs.Comparing as comparing;
 ghost use Rattle.dmr_tools.specs.Comparing.{TellsTrouble};
 ghost use Rattle.dmr_tools.specs.Listed as listed;
+ghost use Rattle.dmr_tools.specs.Made.{IsMadePrinted};
 ghost use Rattle.dmr_tools.specs.Request.{IsCarrying, IsComparison, IsTool, IsShow, is_to_output, unwritten_status};
 
 use crate::carrying::{Direction, carry_file};
@@ -71,6 +72,9 @@ fn fulfil<S: System, K: Sink, E: Sink>(
         → PutsLine (K.held out.old) (K.held out.new) }
     ensures error { IsCarrying request.entry → result ≡ failure → K.has_failed out.new ≡ false → E.has_failed err.new ≡ false
         → PutsError (E.held err.old) (E.held err.new) }
+    // The line of a script that was made is that of the counts of its plan, whose files were written.
+    ensures made { result ≡ success
+        → IsMadePrinted request.entry (K.held out.old) (K.held out.new) (E.held err.old) (E.held err.new) }
     // Where standard output is what is written, all that is printed goes to the second.
     ensures beside { is_to_output request.entry ≡ true → out.new ≡ out.old }
     ensures beside_line { is_to_output request.entry ≡ true → result ≡ success → PutsLine (E.held err.old) (E.held err.new) }

@@ -1,5 +1,5 @@
 //! The outputs of `make`, opened and told apart once its script was read.
-ghost use Rattle.std.specs.Prelude.{◌≡◌, false, IfOk, IfErr, IfSome};
+ghost use Rattle.std.specs.Prelude.{◌≡◌, false, is_some, IfOk, IfErr, IfSome};
 ghost use Rattle.dmr_files.specs.Identity.{clashes};
 ghost use Rattle.dmr_files.specs.Pair.{IsApartFrom};
 
@@ -67,6 +67,7 @@ fn open_outgoing<'a, S: System>(
 ) -> Result<Option<Output<'a, S::Output>>, OutputsFault<'a>>
     ensures apart { IfOk result (λ list. IfSome list (λ output. IsApartFrom script.now standard.now output.file.identity)) }
     ensures outputs { IfOk result (λ list. IfSome list (λ output. clashes output.file.identity uplink.now ≡ false)) }
+    ensures given { IfOk result (λ list. is_some list ≡ is_some place.entry) }
 {
     let Some(place) = place else {
         return Ok(None);
@@ -129,6 +130,7 @@ fn buffered_outgoing<'a, O: Write + Drop>(
     outgoing: Option<Output<'a, O>>,
 ) -> Result<Option<BufferedOutput<'a, O>>, AllocError>
     ensures well { IfOk result (λ list. IfSome list (λ file. ⟦<ToWrite<BufWriter<O>> as Sink>⟧.has_failed file.sink ≡ false)) }
+    ensures given { IfOk result (λ list. is_some list ≡ is_some outgoing.entry) }
 {
     match outgoing {
         Some(output) => Ok(Some(buffered(alloc, output)?)),
@@ -145,6 +147,7 @@ fn buffered_outputs<'a, O: Write + Drop>(
     ensures uplink { IfOk result (λ files. ⟦<ToWrite<BufWriter<O>> as Sink>⟧.has_failed files.uplink.sink ≡ false) }
     ensures outgoing { IfOk result (λ files. IfSome files.outgoing
         (λ file. ⟦<ToWrite<BufWriter<O>> as Sink>⟧.has_failed file.sink ≡ false)) }
+    ensures given { IfOk result (λ files. is_some files.outgoing ≡ is_some outgoing.entry) }
 {
     Ok(BufferedOutputs {
         uplink: buffered(alloc, uplink)?,
@@ -164,6 +167,8 @@ pub(crate) fn open_outputs<'a, S: System>(
     ensures uplink { IfOk result (λ files. ⟦<ToWrite<BufWriter<S::Output>> as Sink>⟧.has_failed files.uplink.sink ≡ false) }
     ensures outgoing { IfOk result (λ files. IfSome files.outgoing
         (λ file. ⟦<ToWrite<BufWriter<S::Output>> as Sink>⟧.has_failed file.sink ≡ false)) }
+    // There is a list where a place is given for one.
+    ensures given { IfOk result (λ files. is_some files.outgoing ≡ is_some places.now.outgoing) }
 {
     let standard = system.standard_files().in_use(places.is_any_to_output());
     let uplink = open_output(system, places.uplink, script, &standard)?;

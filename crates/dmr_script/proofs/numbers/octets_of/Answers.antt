@@ -1,9 +1,11 @@
-use Rattle.std.proofs.Common.{arith}
+use Rattle.std.proofs.Common.{◌<◌, arith}
+use Rattle.std.proofs.lemmas.List.Elements.{All-from_get_or}
 use Rattle.hex.proofs.HexLemmas.{decode_of-ok}
 use Rattle.dmr_script.proofs.numbers.octets_of.Goals as goal
 
 pub returns-in-Ok : goal.returns-in-Ok
 returns-in-Ok c =
-    let both = decode_of-ok c.args.word.now c.in-Ok.octets.items c.in-Ok.ensures.ok in
+    let octets = c.in-Ok.octets.items in
+    let both = decode_of-ok c.args.word.now octets c.in-Ok.ensures.ok in
     let twice = both.2 in
-    record { few = omega (arith, twice) }
+    record { few = omega (arith, twice); small = All-from_get_or (λ octet. octet < 256) octets 0 (λ k h. both.3 k) }

@@ -1,0 +1,12 @@
+use Rattle.std.proofs.Common.{rules}
+use Rattle.dmr_script.proofs.transmissions.call_with.Goals as goal
+
+pub returns : goal.returns
+returns c = record {
+  fits = record {
+    link_control = c.requires.link_control;
+    key = record { count = search rules; small = search rules };
+    carried = c.requires.carried;
+    shape = c.requires.shape;
+  };
+}
