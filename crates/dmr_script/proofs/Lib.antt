@@ -1,2 +1,3 @@
 mod Lettering
 mod Saying
+mod SmallOctets

@@ -1,3 +1,4 @@
+pub mod Aliases
 pub mod Fits
 pub mod Foreign
 pub mod Letters

@@ -1,6 +1,7 @@
 //! What the superframes of a call carry.
 ghost use Rattle.std.specs.Prelude.{◌≡◌, ◌+◌, ◌<◌, ◌≤◌, length};
 ghost use Rattle.std.specs.Prelude.{All, OnOk, IfOk};
+ghost use Rattle.dmr_script.specs.Aliases.{alias_parts};
 ghost use Rattle.dmr_script.specs.Fits.{FitsCarried};
 
 use crate::call::Carried;
@@ -36,6 +37,7 @@ fn add_alias(carried: &mut Vec<Carried>, alias: &[u8]) -> Result<(), Halt>
     requires most { length alias.now ≤ 27 }
     requires fit { All FitsCarried carried.old.items }
     ensures fit { OnOk result (All FitsCarried carried.new.items) }
+    ensures parts { OnOk result (length carried.new.items ≡ length carried.old.items + alias_parts (length alias.now)) }
 {
     let (front, mut rest) = alias.split_at(alias.len().min(HEADER_LETTERS));
     let count = 0x80 + 2 * alias.len() as u8;

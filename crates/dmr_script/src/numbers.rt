@@ -72,6 +72,7 @@ pub(crate) fn access_point(cursor: &mut Cursor, otherwise: u8) -> Result<u8, Ref
 /// So many octets, as two hexadecimal digits each.
 pub(crate) fn octets<const N: usize>(cursor: &mut Cursor, digits: u32) -> Result<[u8; N], Refusal>
     requires two { digits ≡ 2 * N }
+    ensures small { IfOk result (λ octets. AreEightBits octets) }
     ensures kept { length cursor.new.rest.now ≤ length cursor.old.rest.now }
 {
     let word = cursor.word(Expected::Digits(digits))?;

@@ -4,7 +4,7 @@ ghost use Rattle.std.specs.Prelude.{All, IfSome, OnOk};
 ghost use Rattle.dmr_link.specs.FullLc.{FitsFullLc};
 ghost use Rattle.dmr_script.specs.Foreign.{MayBeForeign};
 ghost use Rattle.dmr_script.specs.Shapes.{IsCallShape};
-ghost use Rattle.dmr_script.specs.Fits.{FitsCall, FitsCarried, FitsTransmission, FitsTransmit};
+ghost use Rattle.dmr_script.specs.Fits.{AreEightBits, FitsCall, FitsCarried, FitsTransmission, FitsTransmit};
 
 use crate::call::{Call, Carried};
 use crate::call_shapes::{self, call_shape};
@@ -30,7 +30,9 @@ use dmr_link::FullLc;
 use std::alloc::Global;
 
 /// The contents of PI headers behind their word, where that stands next behind a comma, and else zeros.
-fn key(cursor: &mut Cursor) -> Result<[u8; 10], Refusal> {
+fn key(cursor: &mut Cursor) -> Result<[u8; 10], Refusal>
+    ensures small { IfOk result (λ key. AreEightBits key) }
+{
     if cursor.takes_further(Keyword::Key) {
         return octets(cursor, 20);
     }
@@ -46,6 +48,7 @@ fn call_with(
     shape: CallShape,
 ) -> Call
     requires link_control { FitsFullLc link_control }
+    requires key { AreEightBits key }
     requires carried { All FitsCarried carried.items }
     requires shape { IsCallShape shape }
     ensures fits { FitsCall result }

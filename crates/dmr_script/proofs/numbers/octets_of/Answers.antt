@@ -1,6 +1,6 @@
-use Rattle.std.proofs.Common.{◌<◌, arith}
-use Rattle.std.proofs.lemmas.List.Elements.{All-from_get_or}
+use Rattle.std.proofs.Common.{arith}
 use Rattle.hex.proofs.HexLemmas.{decode_of-ok}
+use Rattle.dmr_script.proofs.SmallOctets.{small_bytes}
 use Rattle.dmr_script.proofs.numbers.octets_of.Goals as goal
 
 pub returns-in-Ok : goal.returns-in-Ok
@@ -8,4 +8,4 @@ returns-in-Ok c =
     let octets = c.in-Ok.octets.items in
     let both = decode_of-ok c.args.word.now octets c.in-Ok.ensures.ok in
     let twice = both.2 in
-    record { few = omega (arith, twice); small = All-from_get_or (λ octet. octet < 256) octets 0 (λ k h. both.3 k) }
+    record { few = omega (arith, twice); small = small_bytes octets both.3 }

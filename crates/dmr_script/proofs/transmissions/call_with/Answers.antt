@@ -5,7 +5,7 @@ pub returns : goal.returns
 returns c = record {
   fits = record {
     link_control = c.requires.link_control;
-    key = record { count = search rules; small = search rules };
+    key = record { count = search rules; small = c.requires.key };
     carried = c.requires.carried;
     shape = c.requires.shape;
   };
