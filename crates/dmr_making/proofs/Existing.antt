@@ -1,7 +1,7 @@
 -- There are slots that a transmission of a script sends.
 use Rattle.std.proofs.Common.{◌≡◌, ℕ, zero, suc, ◌+◌, ◌*◌, ◌/◌, ◌%◌, ◌^◌, ◌<◌, ◌≤◌, Bool, true, false, List, [], ◌∷◌, ◌++◌, All}
 use Rattle.std.proofs.Common.{length, replicate, take, nat_lt, Option, Some, None, IfSome, slice_get, slice_index_or}
-use Rattle.std.proofs.Common.{arith, lit<, refl, ap, sym, subst, ◌∙◌}
+use Rattle.std.proofs.Common.{arith, lit<, refl, sym, subst, ◌∙◌}
 use Rattle.std.proofs.Math.Nat.{mod-lt, mul-le-mul_right}
 use Rattle.std.proofs.lemmas.List.{length-replicate}
 use Rattle.std.proofs.lemmas.List.Elements.{All-cons, All-get_or, All-head, All-nil, All-tail}
@@ -20,11 +20,9 @@ use Rattle.dmr_csbk.specs.declared.block.Csbk.{Csbk}
 use Rattle.dmr_data.proofs.Existing.{block_somehow, blocks_small, header_somehow, written_packet}
 use Rattle.dmr_data.specs.Block.{FitsBlock, IsWrittenBlock, payload}
 use Rattle.dmr_data.specs.Header.{IsFitHeader}
-use Rattle.dmr_data.specs.Packet.{IsWrittenPacket}
 use Rattle.dmr_data.specs.declared.block.Block.{Block}
 use Rattle.dmr_data.specs.declared.header.Header.{Header}
 use Rattle.dmr_data.specs.declared.packet.Packet.{Packet}
-use Rattle.dmr_data.specs.declared.rate.Rate.{Rate}
 use Rattle.dmr_data.specs.declared.rate.Rate.TheVariants.{Half}
 use Rattle.dmr_hearing.proofs.Whole.{carrier_somehow}
 use Rattle.dmr_link.proofs.Existing.{lc_somehow}
@@ -39,15 +37,15 @@ use Rattle.dmr_making.proofs.TryFits.{full_try_fits, partial_try_fits, picked_fi
 use Rattle.dmr_making.specs.Calls.{AreFieldsOf, AreFormsOf, CallForms, call_of, call_slots, carried_by, carried_lc}
 use Rattle.dmr_making.specs.Controls.{IsLoneInformation, csbk_control, lone_control}
 use Rattle.dmr_making.specs.Information.{IsCsbkInformation, IsHeaderInformation, IsLcInformation, IsPiInformation}
-use Rattle.dmr_making.specs.Packets.{ArePicked, IsAnswerOf, IsFullTry, IsPacketIn, IsPacketOfFlags, IsPartialTry, IsShortDataTry}
+use Rattle.dmr_making.specs.Packets.{IsAnswerOf, IsFullTry, IsPacketIn, IsPacketOfFlags, IsPartialTry, IsShortDataTry}
 use Rattle.dmr_making.specs.Packets.{flags_from, header_of_answer, octets_of_flags, packet_header, packet_octets, short_try}
 use Rattle.dmr_making.specs.Packets.{status_try, try_of_answer, try_with}
 use Rattle.dmr_making.specs.Senders.{IsFitAgain, IsSendable}
-use Rattle.dmr_making.specs.Sends.{SendsAgain, SendsCall, SendsLone, SendsSaid, SendsTry, Transmitted, one_burst}
-use Rattle.dmr_making.specs.Tries.{AreTryForms, IsFitTry, TryForms, counts_down, preamble_of, transmission_of_try, try_slots}
+use Rattle.dmr_making.specs.Sends.{SendsAgain, SendsCall, SendsSaid, SendsTry, Transmitted, one_burst}
+use Rattle.dmr_making.specs.Tries.{IsFitTry, TryForms, counts_down, preamble_of, transmission_of_try, try_slots}
 use Rattle.dmr_making.specs.declared.tries.SentTry.{SentTry}
-use Rattle.dmr_script.specs.Fits.{AreEightBits, AreSoManyOctets, FitsAnswer, FitsBurst, FitsCall, FitsCarried, FitsPacket}
-use Rattle.dmr_script.specs.Fits.{FitsPartial, FitsShortData, FitsTransmission}
+use Rattle.dmr_script.specs.Fits.{AreEightBits, AreSoManyOctets, FitsBurst, FitsCall, FitsCarried, FitsPacket}
+use Rattle.dmr_script.specs.Fits.{FitsShortData, FitsTransmission}
 use Rattle.dmr_script.specs.declared.call.Call.{Call}
 use Rattle.dmr_script.specs.declared.call.Carried.{Carried}
 use Rattle.dmr_script.specs.declared.call.Carried.TheVariants.{Own, Nothing, LinkControl}
