@@ -1,6 +1,7 @@
 mod Apart
 mod Digits
 mod DigitLines
+mod DigitPairs
 mod Hexes
 mod Imported
 mod Numbers

@@ -1,5 +1,6 @@
 pub mod Behind
 pub mod CountTexts
+pub mod DigitValues
 pub mod Endings
 pub mod Exports
 pub mod Files

@@ -15,6 +15,7 @@ ghost use Rattle.dmr_text.specs.SlotLines.{IsSlotLine};
 ghost use Rattle.dmr_text.specs.Telling.{IsStopped, IsTakenWhole, IsTornIn};
 ghost use Rattle.dmr_text.specs.TextFaults.{BeginsWith, IsOfRecord, ShowsSlotLineFault, is_read};
 
+use crate::digit_pairs::octets_of_digits;
 use crate::fault::{Halt, LineFault, TextFault};
 use crate::said::{LineKind, count_said, last_word, line_kind, place_said};
 use crate::telling::tell_line;
@@ -23,7 +24,6 @@ use dmr_record::{
 };
 use dmr_recording::{Place, RecordedBurst, Recording};
 use dmr_words::{Lines, Words};
-use hex::FromHex;
 
 /// What a line of a recording says.
 #[derive(Clone, Copy, Drop)]
@@ -50,10 +50,8 @@ fn uplink_burst_said(words: &mut Words) -> Option<RecordedBurst>
     ensures none { IfNone result ((burst : RecordedBurst) → ¬ SaysBurst Recording.Uplink words.old burst) }
 {
     let word = last_word(words)?;
-    match <[u8; 33]>::from_hex(word) {
-        Ok(burst) => Some(RecordedBurst { cach: None, burst }),
-        Err(_) => None,
-    }
+    let burst = octets_of_digits(word)?;
+    Some(RecordedBurst { cach: None, burst })
 }
 
 /// The burst of a downlink that words say.
@@ -63,16 +61,12 @@ fn downlink_burst_said(words: &mut Words) -> Option<RecordedBurst>
 {
     let first = words.next()?;
     let second = last_word(words)?;
-    match <[u8; 3]>::from_hex(first) {
-        Ok(cach) => match <[u8; 33]>::from_hex(second) {
-            Ok(burst) => {
-                let cach = Some(cach);
-                Some(RecordedBurst { cach, burst })
-            }
-            Err(_) => None,
-        },
-        Err(_) => None,
-    }
+    let cach = octets_of_digits(first)?;
+    let burst = octets_of_digits(second)?;
+    Some(RecordedBurst {
+        cach: Some(cach),
+        burst,
+    })
 }
 
 /// The burst of a recording that words say.

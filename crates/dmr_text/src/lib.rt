@@ -14,6 +14,7 @@
 #![tactic(auto)]
 
 mod carried;
+mod digit_pairs;
 mod export;
 mod fault;
 mod first;
