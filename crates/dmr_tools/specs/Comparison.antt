@@ -1,5 +1,5 @@
 -- What a command line of `compare` asks for.
-use Rattle.std.specs.Prelude.{◌≡◌, ◌↔◌, ◌&&◌, suc, Bool, IsTrue, Contains, Option, Some, None, codes}
+use Rattle.std.specs.Prelude.{◌≡◌, ◌↔◌, ◌&&◌, ℕ, suc, Bool, IsTrue, Contains, Option, Some, None, codes}
 use Rattle.std.specs.Prelude.{FitsSigned, ℤ, pos, negsuc}
 use Rattle.std.specs.Str.Parse.{IsNumeral, signed_digits_value, without_leading_sign}
 use Rattle.clap.specs.Words.{one_text, Text}
