@@ -1,5 +1,6 @@
 //! What a page calls. Slices are passed as where they begin and how long they are, and numbers as they are.
-ghost use Rattle.std.specs.Prelude.{◌≡◌, ◌≢◌, ◌≤◌, false, length, IfNone, IfSome, None};
+ghost use Rattle.std.specs.Prelude.{◌≡◌, ◌≢◌, ◌≤◌, false, length, IfNone, IfSome, None, Some};
+ghost use Rattle.dmr_recording.specs.declared.recording.Recording.{Recording};
 ghost use Rattle.dmr_show.specs.Showing.{format_of, has_strip};
 ghost use Rattle.dmr_web.specs.Calls.{IsAllListed, IsAllPictured, IsFaultListed, IsFaultPictured, IsHeadFaultListed, IsHeadListed};
 ghost use Rattle.dmr_web.specs.Calls as spec;
@@ -160,6 +161,8 @@ pub extern "C" fn page_strip(
     ensures fault { result ≡ fault_met
         → IsFaultPictured format (record { first = first; last = last }) octets.now text.new told.new }
     ensures refused { result ≡ not_listed → (text.new ≡ text.old) × (told.new ≡ told.old) }
+    ensures no_needless_refusal { (recording : Recording) → numbered_format format ≡ Some (format_of recording)
+        → result ≢ not_listed }
     ensures status { result ≤ 3 }
 {
     let Some(format) = numbered_format(format) else {
