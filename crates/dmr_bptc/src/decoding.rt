@@ -1,14 +1,26 @@
 //! Correcting columns and then rows, and the information of what that gives.
 ghost use Rattle.std.specs.Prelude.{◌≡◌, ◌<◌, ◌≤◌, ◌+◌, ◌-◌, ◌*◌, ◌/◌, ◌%◌, ◌^◌, ℕ, List, Bool, true, false, Some};
-ghost use Rattle.std.specs.Prelude.{slice_index_or};
+ghost use Rattle.std.specs.Prelude.{IfSome, option_map, slice_index_or};
 ghost use Rattle.dmr_bits.specs.Bits.{bits_of};
 ghost use Rattle.dmr_codes.specs.Seven.{IsHamming15};
 ghost use Rattle.dmr_bptc.specs.ProductWord.{cell, row};
-ghost use Rattle.dmr_bptc.specs.ProductWord.{IsProductWord, information};
+ghost use Rattle.dmr_bptc.specs.ProductWord.{IsProductWord, IsWritten, information};
 ghost use Rattle.dmr_bptc.specs.Decoding.{IsCorrected, IsDecoded, IsDamaged};
+ghost use Rattle.dmr_bptc.specs.declared.decoding.Restored.{Restored};
 
+use crate::encoding::bptc_encode;
+use crate::likely::likely_information;
 use crate::table::{Table, are_columns_words, correct_columns, correct_row, first_cells, table_of};
 use dmr_bits::Bits;
+
+/// What received bits hold.
+#[derive(Clone, Copy, Debug, PartialEq, Eq)]
+pub struct Restored {
+    /// The information.
+    pub information: Bits<96>,
+    /// Its written form.
+    pub written: Bits<196>,
+}
 
 /// The information of 196 bits as they were received, reserved bits ignored. Each column is replaced by the word
 /// within one bit where there is one, and then each row; where all rows and columns are words then, they hold the
@@ -17,6 +29,40 @@ pub fn bptc_decode(bits: &Bits<196>) -> Option<Bits<96>>
     ensures decoded { IsDecoded bits.now result }
     ensures undone { (word : List Bool) → IsProductWord word → IsDamaged word bits.now
         → result ≡ Some (information word) }
+{
+    match bptc_restore(bits) {
+        Some(restored) => Some(restored.information),
+        None => None,
+    }
+}
+
+/// What 196 bits hold as they were received: the information as `bptc_decode` finds it, and its written form, in which a
+/// repeater sends it on. ETSI TS 102 361-1, annex B.1.1.
+pub fn bptc_restore(bits: &Bits<196>) -> Option<Restored>
+    ensures decoded { IsDecoded bits.now (option_map (λ (r : Restored). r.information) result) }
+    ensures written { IfSome result (λ r. IsWritten r.information r.written) }
+{
+    // Most often no bit is wrong, and what was received is the written form of what it holds.
+    let likely = likely_information(bits);
+    let written = bptc_encode(&likely);
+    if written.distance(bits) == 0 {
+        return Some(Restored {
+            information: likely,
+            written,
+        });
+    }
+    let Some(information) = corrected(bits) else {
+        return None;
+    };
+    Some(Restored {
+        information,
+        written: bptc_encode(&information),
+    })
+}
+
+/// The information of 196 bits once each column and then each row is corrected.
+fn corrected(bits: &Bits<196>) -> Option<Bits<96>>
+    ensures decoded { IsDecoded bits.now result }
 {
     let mut table = table_of(bits);
     let columns = correct_columns(&mut table);

@@ -3,7 +3,7 @@ ghost use Rattle.std.specs.Prelude.{◌≡◌, true, false, IfOk, IsOk};
 ghost use Rattle.std.specs.Io.Buffered.{writer_capacity};
 ghost use Rattle.std.specs.Io.KnownBytes.{Keeps};
 
-use dmr_record::{DeviceFault, FromRead, Sink, Source, ToWrite};
+use dmr_record::{DeviceFault, FromBuffered, Sink, Source, ToWrite};
 use std::alloc::{AllocError, Global};
 use std::io::{BufReader, BufWriter, Read, Write};
 
@@ -23,12 +23,12 @@ pub fn kept_back(is_live: bool) -> usize
 pub fn buffered_source<R: Read + Drop>(
     alloc: Global,
     reader: R,
-) -> Result<FromRead<BufReader<R>>, AllocError>
-    ensures well { IfOk result (λ source. ⟦<FromRead<BufReader<R>> as Source>⟧.has_failed source ≡ false) }
-    ensures octets { IfOk result (λ source. ⟦<FromRead<BufReader<R>> as Source>⟧.left source ≡ R.remaining reader) }
+) -> Result<FromBuffered<R>, AllocError>
+    ensures well { IfOk result (λ source. ⟦<FromBuffered<R> as Source>⟧.has_failed source ≡ false) }
+    ensures octets { IfOk result (λ source. ⟦<FromBuffered<R> as Source>⟧.left source ≡ R.remaining reader) }
 {
     match BufReader::with_capacity(alloc, BUFFER, reader) {
-        Ok(reader) => Ok(FromRead::new(reader)),
+        Ok(reader) => Ok(FromBuffered::new(reader)),
         Err(_) => Err(AllocError),
     }
 }

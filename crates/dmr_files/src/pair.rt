@@ -8,9 +8,9 @@ use crate::buffering::{buffered_sink, buffered_source, kept_back};
 use crate::identity::Identity;
 use crate::place::Place;
 use crate::system::{Open, StandardFiles, System};
-use dmr_record::{FromRead, Sink, Source, ToWrite};
+use dmr_record::{FromBuffered, Sink, Source, ToWrite};
 use std::alloc::{AllocError, Global};
-use std::io::{BufReader, BufWriter, Read, Write};
+use std::io::{BufWriter, Read, Write};
 
 /// An input and an output, open.
 #[derive(Drop)]
@@ -22,7 +22,7 @@ struct Pair<I, O> {
 /// An input and an output, open, each behind a buffer. The output has none where the input is live.
 #[derive(Drop)]
 pub struct BufferedPair<I: Read + Drop, O: Write + Drop> {
-    pub source: FromRead<BufReader<I>>,
+    pub source: FromBuffered<I>,
     pub sink: ToWrite<BufWriter<O>>,
 }
 
@@ -101,8 +101,8 @@ fn buffered<I: Read + Drop, O: Write + Drop>(
     alloc: Global,
     pair: Pair<I, O>,
 ) -> Result<BufferedPair<I, O>, AllocError>
-    ensures source { IfOk result (λ files. ⟦<FromRead<BufReader<I>> as Source>⟧.has_failed files.source ≡ false) }
-    ensures octets { IfOk result (λ files. ⟦<FromRead<BufReader<I>> as Source>⟧.left files.source ≡ I.remaining pair.input.file) }
+    ensures source { IfOk result (λ files. ⟦<FromBuffered<I> as Source>⟧.has_failed files.source ≡ false) }
+    ensures octets { IfOk result (λ files. ⟦<FromBuffered<I> as Source>⟧.left files.source ≡ I.remaining pair.input.file) }
     ensures sink { IfOk result (λ files. ⟦<ToWrite<BufWriter<O>> as Sink>⟧.has_failed files.sink ≡ false) }
 {
     let Pair { input, output } = pair;
@@ -120,7 +120,7 @@ pub fn open_buffered<S: System>(
     input: Place<'_>,
     output: Place<'_>,
 ) -> Result<BufferedPair<S::Input, S::Output>, PairFault>
-    ensures source { IfOk result (λ files. ⟦<FromRead<BufReader<S::Input>> as Source>⟧.has_failed files.source ≡ false) }
+    ensures source { IfOk result (λ files. ⟦<FromBuffered<S::Input> as Source>⟧.has_failed files.source ≡ false) }
     ensures sink { IfOk result (λ files. ⟦<ToWrite<BufWriter<S::Output>> as Sink>⟧.has_failed files.sink ≡ false) }
 {
     match buffered(alloc, open_pair(system, input, output)?) {

@@ -4,9 +4,8 @@ ghost use Rattle.std.specs.Prelude.{◌≡◌, false, IfOk};
 use crate::buffering::buffered_source;
 use crate::place::Place;
 use crate::system::{Open, System};
-use dmr_record::{FromRead, Source};
+use dmr_record::{FromBuffered, Source};
 use std::alloc::Global;
-use std::io::BufReader;
 
 /// Why a file can't be read at all.
 #[derive(Clone, Copy, Debug, Drop, PartialEq, Eq)]
@@ -22,8 +21,8 @@ pub fn open_source<S: System>(
     system: &S,
     alloc: Global,
     place: Place<'_>,
-) -> Result<Open<FromRead<BufReader<S::Input>>>, OpenFault>
-    ensures well { IfOk result (λ read. ⟦<FromRead<BufReader<S::Input>> as Source>⟧.has_failed read.file ≡ false) }
+) -> Result<Open<FromBuffered<S::Input>>, OpenFault>
+    ensures well { IfOk result (λ read. ⟦<FromBuffered<S::Input> as Source>⟧.has_failed read.file ≡ false) }
 {
     let Ok(Open { file, identity }) = system.open_input(place) else {
         return Err(OpenFault::CannotOpen);

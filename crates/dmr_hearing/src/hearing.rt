@@ -29,9 +29,20 @@ pub fn hear(slot: Option<&[u8; 33]>, colour: u8) -> Heard
     // What is read fits its fields.
     ensures fit { IsFitHeard result }
 {
+    let mut heard = silence();
+    hear_into(slot, colour, &mut heard);
+    heard
+}
+
+/// Hears a slot as `hear` does, in a place that is there, since what is heard is large.
+#[inline(always)]
+pub fn hear_into(slot: Option<&[u8; 33]>, colour: u8, heard: &mut Heard)
+    ensures heard { Hears colour (option_copied slot.entry) heard.new }
+    ensures fit { IsFitHeard heard.new }
+{
     match slot {
-        Some(burst) => hear_burst(burst, colour),
-        None => silence(),
+        Some(burst) => hear_burst(burst, colour, heard),
+        None => *heard = silence(),
     }
 }
 
@@ -48,18 +59,16 @@ pub fn silence() -> Heard
     }
 }
 
-/// What a burst is heard as.
-fn hear_burst(burst: &[u8; 33], colour: u8) -> Heard
-    ensures heard { Hears colour (Some burst.now) result }
+/// Hears a burst.
+fn hear_burst(burst: &[u8; 33], colour: u8, heard: &mut Heard)
+    ensures heard { Hears colour (Some burst.now) heard.new }
 {
     let sync = read_mobile_sync(burst);
-    Heard {
-        data_burst: hear_data_burst(burst, sync, colour),
-        voice: sync.unwrap_or(false),
-        emb: read_emb(burst),
-        embedded: read_embedded(burst),
-        vocoder: read_vocoder(burst),
-    }
+    heard.data_burst = hear_data_burst(burst, sync, colour);
+    heard.voice = sync.unwrap_or(false);
+    heard.emb = read_emb(burst);
+    heard.embedded = read_embedded(burst);
+    heard.vocoder = read_vocoder(burst);
 }
 
 /// The data burst of a burst, of which this is the sync, with the data sync of a mobile station.

@@ -1,14 +1,13 @@
 //! What the information of a data burst is read as.
 ghost use Rattle.std.specs.Prelude.{◌≡◌, None};
 ghost use Rattle.dmr_hearing.specs.DataTypes as spec;
-ghost use Rattle.dmr_bptc.specs.ProductWord.{IsWritten};
 ghost use Rattle.dmr_hearing.specs.Reading.{IsReading};
 ghost use Rattle.dmr_hearing.specs.declared.data_types.Payload.TheVariants as holds;
 
 use crate::data_types::{Payload, payload_of};
 use crate::heard::DataBurst;
 use dmr_bits::Bits;
-use dmr_bptc::{bptc_decode, bptc_encode};
+use dmr_bptc::{bptc_encode, bptc_restore};
 use dmr_checks::{Mask, opens};
 use dmr_link::{LcUse, lc_info, lc_read};
 
@@ -20,7 +19,7 @@ pub(crate) fn read_data_burst(kind: u8, received: &Bits<196>) -> Option<DataBurs
         Payload::Word => read_word(kind, received),
         Payload::Sealed(mask) => read_sealed(kind, mask, received),
         Payload::LinkControl(lc_use) => read_link_control(kind, lc_use, received),
-        Payload::Raw => Some(raw_data_burst(kind, received)),
+        Payload::Raw => Some(word_data_burst(kind, received)),
         Payload::Nothing => None,
     }
 }
@@ -29,23 +28,23 @@ pub(crate) fn read_data_burst(kind: u8, received: &Bits<196>) -> Option<DataBurs
 fn read_word(kind: u8, received: &Bits<196>) -> Option<DataBurst>
     ensures reading { IsReading holds.Word kind received.now result }
 {
-    let Some(message) = bptc_decode(received) else {
+    let Some(restored) = bptc_restore(received) else {
         return None;
     };
-    Some(message_data_burst(kind, &message))
+    Some(word_data_burst(kind, &restored.written))
 }
 
 /// 96 bits in a product word, where they are sealed under the mask.
 fn read_sealed(kind: u8, mask: Mask, received: &Bits<196>) -> Option<DataBurst>
     ensures reading { IsReading (holds.Sealed mask) kind received.now result }
 {
-    let Some(message) = bptc_decode(received) else {
+    let Some(restored) = bptc_restore(received) else {
         return None;
     };
-    if !opens(&message.octets(), mask) {
+    if !opens(&restored.information.octets(), mask) {
         return None;
     }
-    Some(message_data_burst(kind, &message))
+    Some(word_data_burst(kind, &restored.written))
 }
 
 /// A link control, sealed anew.
@@ -62,28 +61,15 @@ fn read_link_control(kind: u8, lc_use: LcUse, received: &Bits<196>) -> Option<Da
     }
 }
 
-/// Any 196 bits, as they are received.
-fn raw_data_burst(kind: u8, received: &Bits<196>) -> DataBurst
+/// A data burst of 196 bits that hold no link control: any as they are received, or the written form of a message.
+fn word_data_burst(kind: u8, information: &Bits<196>) -> DataBurst
     ensures kind { result.kind ≡ kind }
-    ensures information { result.information ≡ received.now }
+    ensures information { result.information ≡ information.now }
     ensures link_control { result.link_control ≡ None }
 {
     DataBurst {
         kind,
-        information: *received,
-        link_control: None,
-    }
-}
-
-/// A message, encoded anew.
-fn message_data_burst(kind: u8, message: &Bits<96>) -> DataBurst
-    ensures kind { result.kind ≡ kind }
-    ensures information { IsWritten message.now result.information }
-    ensures link_control { result.link_control ≡ None }
-{
-    DataBurst {
-        kind,
-        information: bptc_encode(message),
+        information: *information,
         link_control: None,
     }
 }

@@ -23,4 +23,4 @@ pub mod laws;
 pub use data_types::Payload;
 pub use fields::read_fields;
 pub use heard::{DataBurst, Heard};
-pub use hearing::{hear, silence};
+pub use hearing::{hear, hear_into, silence};

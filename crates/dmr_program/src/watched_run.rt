@@ -15,12 +15,12 @@ use crate::run_end::RunEnd;
 use crate::running::{run_over, with_memory, with_octets};
 use dmr_command::Places;
 use dmr_files::{System, buffered_sink, buffered_source, kept_back};
-use dmr_record::{DeviceFault, FileFormat, FromRead, Sink, Source, ToWrite};
+use dmr_record::{DeviceFault, FileFormat, FromBuffered, Sink, Source, ToWrite};
 use dmr_repeater::{RunFault, Stream, Summary};
 use dmr_settings::Config;
 use dmr_watch::{Ear, KeptReader, WatchedSource, WatchedWriter};
 use std::alloc::Global;
-use std::io::{BufReader, BufWriter, Read, Write};
+use std::io::{BufWriter, Read, Write};
 
 /// How a run ended, and what more can be told of that.
 #[derive(Clone, Copy, Drop)]
@@ -98,7 +98,7 @@ fn run_files_watched<I: Read + Drop, O: Write + Drop>(
 }
 
 /// An input that is watched, behind its buffer.
-type WatchedInput<R> = WatchedSource<FromRead<BufReader<KeptReader<R>>>>;
+type WatchedInput<R> = WatchedSource<FromBuffered<KeptReader<R>>>;
 
 /// An output that is watched, behind its buffer.
 type WatchedOutput<W> = ToWrite<BufWriter<WatchedWriter<W>>>;

@@ -52,3 +52,12 @@ laid_behind front back tag n three same =
     ∙ ap (λ l. tag ∷ (front ++ (back ++ drop n l))) (drop_at front (replicate n tag) 3 three)
     ∙ ap (λ l. tag ∷ (front ++ (back ++ l))) (drop_all n (replicate n tag) (omega (arith, length-replicate {A = ℕ} n tag)))
     ∙ ap (λ l. tag ∷ (front ++ l)) (append-nil back)
+
+-- a piece behind another of the same length fills a buffer of both
+pub laid_after : (front back rest : List ℕ) (n : ℕ) → length front ≡ n → length rest ≡ n
+    → take n (front ++ rest) ++ (back ++ drop n (drop n (front ++ rest))) ≡ front ++ back
+laid_after front back rest n one two =
+    ap (λ l. l ++ (back ++ drop n (drop n (front ++ rest)))) (take_at front rest n one)
+    ∙ ap (λ l. front ++ (back ++ drop n l)) (drop_at front rest n one)
+    ∙ ap (λ l. front ++ (back ++ l)) (drop_all n rest (omega (arith, two)))
+    ∙ ap (λ l. front ++ l) (append-nil back)

@@ -1,10 +1,11 @@
 //! Where octets come from and where they go.
 
-ghost use Rattle.std.specs.Prelude.{◌≡◌, ℕ, ◌<◌, ◌≤◌, List, Option, Bool, false, length, IfOk};
-ghost use Rattle.std.specs.Io.KnownBytes.{ReadConsumes, WriteAppends};
+ghost use Rattle.std.specs.Prelude.{◌≡◌, ℕ, ◌<◌, ◌≤◌, [], ◌∷◌, List, Option, Bool, false, length, IfOk, IfSome, IfNone, OnErr};
+ghost use Rattle.std.specs.Io.KnownBytes.{Consumes, IsAtEnd, ReadConsumes, WriteAppends};
+ghost use Rattle.std.specs.Io.Buffered.{reader_remaining};
 ghost use Rattle.dmr_record.specs.Devices.{failed_after};
 
-use std::io::{Read, Write};
+use std::io::{BufRead, BufReader, Read, Write};
 
 /// A device has failed. It doesn't say why.
 #[derive(Clone, Copy, Debug, PartialEq, Eq)]
@@ -25,6 +26,22 @@ pub trait Source {
         ensures count { IfOk result (λ n. n ≤ length buffer.new) }
         ensures octets { ReadConsumes (left self.old) (left self.new) result buffer.new }
         ensures failure { has_failed self.new ≡ failed_after (has_failed self.old) result };
+
+    /// The next octet, or none at the end of the octets. At an `Err` no octet is taken, and the device has failed from then on.
+    fn next(&mut self) -> Result<Option<u8>, DeviceFault>
+        requires well { has_failed self.old ≡ false }
+        ensures octet { IfOk result (λ found. IfSome found (λ octet. Consumes (left self.old) (left self.new) (octet ∷ []))) }
+        ensures end { IfOk result (λ found. IfNone found (Consumes (left self.old) (left self.new) [] × IsAtEnd (left self.new))) }
+        ensures kept { OnErr result (Consumes (left self.old) (left self.new) []) }
+        ensures failure { has_failed self.new ≡ failed_after (has_failed self.old) result }
+    {
+        let mut buffer = [0u8; 1];
+        match self.read(&mut buffer) {
+            Ok(0) => Ok(None),
+            Ok(_) => Ok(Some(buffer[0])),
+            Err(fault) => Err(fault),
+        }
+    }
 }
 
 /// A device that takes octets. Once it has failed it is not used again.
@@ -88,6 +105,87 @@ impl<R: Read> Source for FromRead<R> {
                 self.is_failed = true;
                 Err(DeviceFault)
             }
+        }
+    }
+}
+
+/// A source over a reader behind a buffer, out of which it takes single octets without a call of the reader.
+#[derive(Drop)]
+pub struct FromBuffered<R> {
+    reader: BufReader<R>,
+    is_failed: bool,
+}
+
+impl<R: Read> FromBuffered<R> {
+    /// A source that gives what the reader gives, and hasn't failed.
+    pub fn new(reader: BufReader<R>) -> FromBuffered<R>
+        ensures octets { ⟦<FromBuffered<R> as Source>⟧.left result ≡ reader_remaining R.remaining reader }
+        ensures failure { ⟦<FromBuffered<R> as Source>⟧.has_failed result ≡ false }
+    {
+        FromBuffered {
+            reader,
+            is_failed: false,
+        }
+    }
+
+    /// The reader, with what the source has left.
+    pub fn into_inner(self) -> BufReader<R>
+        ensures octets { reader_remaining R.remaining result ≡ ⟦<FromBuffered<R> as Source>⟧.left self }
+    {
+        let FromBuffered {
+            reader,
+            is_failed: _,
+        } = self;
+        reader
+    }
+}
+
+impl<R: Read> Source for FromBuffered<R> {
+    ghost left = { λ source. reader_remaining R.remaining source.reader };
+
+    ghost has_failed = { λ source. source.is_failed };
+
+    fn read(&mut self, buffer: &mut [u8]) -> Result<usize, DeviceFault> {
+        match self.reader.read(buffer) {
+            Ok(count) => Ok(count),
+            Err(_) => {
+                self.is_failed = true;
+                Err(DeviceFault)
+            }
+        }
+    }
+
+    #[inline(always)]
+    fn next(&mut self) -> Result<Option<u8>, DeviceFault> {
+        match self.reader.buffer() {
+            [first, ..] => {
+                let octet = *first;
+                self.reader.consume(1);
+                Ok(Some(octet))
+            }
+            [] => read_one(&mut self.reader, &mut self.is_failed),
+        }
+    }
+}
+
+/// The next octet by a call of the reader, or none at its end. It tells whether the reader has failed.
+#[inline(never)]
+fn read_one<R: Read>(reader: &mut R, is_failed: &mut bool) -> Result<Option<u8>, DeviceFault>
+    requires well { is_failed.old ≡ false }
+    ensures octet { IfOk result (λ found. IfSome found (λ octet.
+        Consumes (R.remaining reader.old) (R.remaining reader.new) (octet ∷ []))) }
+    ensures end { IfOk result (λ found. IfNone found (Consumes (R.remaining reader.old) (R.remaining reader.new) []
+        × IsAtEnd (R.remaining reader.new))) }
+    ensures kept { OnErr result (Consumes (R.remaining reader.old) (R.remaining reader.new) []) }
+    ensures failure { is_failed.new ≡ failed_after is_failed.old result }
+{
+    let mut buffer = [0u8; 1];
+    match reader.read(&mut buffer) {
+        Ok(0) => Ok(None),
+        Ok(_) => Ok(Some(buffer[0])),
+        Err(_) => {
+            *is_failed = true;
+            Err(DeviceFault)
         }
     }
 }

@@ -4,7 +4,7 @@ ghost use Rattle.std.specs.Prelude.{◌≡◌, ◌%◌, ◌<◌, ◌⊎◌, ◌+
 ghost use Rattle.std.specs.Prelude.{IfOk, IfErr, OnOk, OnErr};
 ghost use Rattle.std.specs.Io.KnownBytes.{Consumes, Appends, IsAtEnd};
 ghost use Rattle.dmr_record.specs.Devices.{Tears};
-ghost use Rattle.dmr_record.specs.Downlink.{IsSent, sent_octets, slot_limit, ShowsDownlinkFault};
+ghost use Rattle.dmr_record.specs.Downlink.{IsSent, downlink_octets, sent_octets, slot_limit, ShowsDownlinkFault};
 ghost use Rattle.dmr_record.specs.Faults.{is_of_end, is_device_fault};
 ghost use Rattle.dmr_record.specs.NextSlot.{IfNoSlot, IfSlot};
 
@@ -12,7 +12,7 @@ use crate::device::{Sink, Source};
 use crate::fault::RecordFault;
 use crate::next_slot::NextSlot;
 use crate::tag::{BURST, SILENCE};
-use crate::transfer::{fill_whole, put, read_octet};
+use crate::transfer::{fill_whole, put, put_both, read_octet};
 use crate::uplink::FRAME_LIMIT;
 
 /// How many slots a downlink file has at most: those of the longest uplink file, and of the six frames behind it.
@@ -44,6 +44,36 @@ pub fn write_slot<K: Sink>(
     match slot {
         None => put(sink, &[SILENCE]),
         Some(sent) => put(sink, &burst_record(sent.0, sent.1)),
+    }
+}
+
+/// The records of two bursts, one behind the other.
+fn both_records(first: &([u8; 3], [u8; 33]), second: &([u8; 3], [u8; 33])) -> [u8; 74]
+    ensures octets { result ≡ sent_octets (Some first.now) ++ sent_octets (Some second.now) }
+{
+    let mut records = [BURST; 74];
+    records[..37].copy_from_slice(&burst_record(first.0, first.1));
+    records[37..].copy_from_slice(&burst_record(second.0, second.1));
+    records
+}
+
+/// Writes both slots of a frame of the downlink file, as `write_slot` writes each of them, in one piece where both are alike.
+pub fn write_slots<K: Sink>(
+    sink: &mut K,
+    slots: &[Option<([u8; 3], [u8; 33])>; 2],
+) -> Result<(), RecordFault>
+    requires well { K.has_failed sink.old ≡ false }
+    ensures slots { OnOk result (Appends (K.held sink.old) (K.held sink.new) (downlink_octets slots.now)) }
+    ensures well { OnOk result (K.has_failed sink.new ≡ false) }
+    ensures fault { IfErr result (λ e. e ≡ RecordFault.Write) }
+    ensures failed { OnErr result (K.has_failed sink.new ≡ true) }
+    ensures torn { OnErr result (Tears (K.held sink.old) (K.held sink.new) (downlink_octets slots.now)) }
+{
+    match (&slots[0], &slots[1]) {
+        (None, None) => put(sink, &[SILENCE, SILENCE]),
+        (Some(first), Some(second)) => put(sink, &both_records(first, second)),
+        (None, Some(second)) => put_both(sink, &[SILENCE], &burst_record(second.0, second.1)),
+        (Some(first), None) => put_both(sink, &burst_record(first.0, first.1), &[SILENCE]),
     }
 }
 

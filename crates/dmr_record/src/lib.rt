@@ -23,9 +23,9 @@ mod tag;
 mod transfer;
 mod uplink;
 
-pub use device::{DeviceFault, FromRead, Sink, Source, ToWrite};
+pub use device::{DeviceFault, FromBuffered, FromRead, Sink, Source, ToWrite};
 pub use dmr_octets::Octets;
-pub use downlink::{SLOT_LIMIT, read_slot, write_slot};
+pub use downlink::{SLOT_LIMIT, read_slot, write_slot, write_slots};
 pub use fault::RecordFault;
 pub use head::{
     DOWNLINK_MAGIC, FileFormat, OUTGOING_MAGIC, RECEIVED_MAGIC, UPLINK_MAGIC, read_any_head,
@@ -40,4 +40,4 @@ pub use received::{
     OCTET_LIMIT, RECEIVED_LIMIT, Received, ReceivedKind, read_received, write_received,
 };
 pub use transfer::put;
-pub use uplink::{FRAME_LIMIT, read_frame, read_uplink_slot, write_uplink_slot};
+pub use uplink::{FRAME_LIMIT, read_frame, read_frame_into, read_uplink_slot, write_uplink_slot};

@@ -120,10 +120,8 @@ pub(crate) fn read_octet<S: Source>(source: &mut S) -> Result<Option<u8>, Record
     ensures failed { OnErr result (S.has_failed source.new ≡ true) }
     ensures taken { OnErr result (Consumes (S.left source.old) (S.left source.new) []) }
 {
-    let mut buffer = [0u8; 1];
-    match source.read(&mut buffer) {
-        Ok(0) => Ok(None),
-        Ok(_) => Ok(Some(buffer[0])),
+    match source.next() {
+        Ok(found) => Ok(found),
         Err(_) => Err(RecordFault::Read),
     }
 }

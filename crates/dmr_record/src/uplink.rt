@@ -1,6 +1,6 @@
 //! The uplink file, frame by frame.
 
-ghost use Rattle.std.specs.Prelude.{◌≡◌, ◌%◌, ◌<◌, [], ◌∷◌, List, ℕ, false, true, Some};
+ghost use Rattle.std.specs.Prelude.{◌≡◌, ◌%◌, ◌<◌, ◌⊎◌, [], ◌∷◌, List, ℕ, length, false, true, Some};
 ghost use Rattle.std.specs.Prelude.{IfOk, IfErr, OnOk, OnErr, IfSome, IfNone};
 ghost use Rattle.std.specs.Io.KnownBytes.{Consumes, Appends, IsAtEnd};
 ghost use Rattle.dmr_record.specs.Devices.{Tears};
@@ -15,7 +15,7 @@ use crate::device::{Sink, Source};
 use crate::fault::RecordFault;
 use crate::next_slot::NextSlot;
 use crate::tag::{BURST, SILENCE};
-use crate::transfer::{fill, put, read_octet};
+use crate::transfer::{fill_whole, put, read_octet};
 
 /// How many frames an uplink file has at most.
 pub const FRAME_LIMIT: u32 = 1 << 20;
@@ -23,12 +23,17 @@ pub const FRAME_LIMIT: u32 = 1 << 20;
 /// How many slots an uplink file has at most: two for each frame.
 const UPLINK_SLOT_LIMIT: u32 = 2 * FRAME_LIMIT;
 
-/// Reads the rest of a slot that begins with this tag.
-fn read_slot<S: Source>(source: &mut S, tag: u8) -> Result<Option<[u8; 33]>, RecordFault>
+/// Reads the rest of a slot that begins with this tag, to its place.
+#[inline(always)]
+fn read_slot_into<S: Source>(
+    source: &mut S,
+    tag: u8,
+    slot: &mut Option<[u8; 33]>,
+) -> Result<(), RecordFault>
     requires well { S.has_failed source.old ≡ false }
-    ensures tag { IfOk result (λ slot. tag ≡ slot_tag slot) }
-    ensures slot { IfOk result IsSilenceOrBurst }
-    ensures body { IfOk result (λ slot. Consumes (S.left source.old) (S.left source.new) (slot_body slot)) }
+    ensures tag { OnOk result (tag ≡ slot_tag slot.new) }
+    ensures slot { OnOk result (IsSilenceOrBurst slot.new) }
+    ensures body { OnOk result (Consumes (S.left source.old) (S.left source.new) (slot_body slot.new)) }
     ensures well { OnOk result (S.has_failed source.new ≡ false) }
     ensures fault { IfErr result (λ e. (rest : List ℕ) × Consumes (S.left source.old) (S.left source.new) rest
         × ShowsSlotFault e (tag ∷ rest)) }
@@ -36,17 +41,32 @@ fn read_slot<S: Source>(source: &mut S, tag: u8) -> Result<Option<[u8; 33]>, Rec
     ensures device { IfErr result (λ e. S.has_failed source.new ≡ is_device_fault e) }
 {
     match tag {
-        SILENCE => Ok(None),
+        SILENCE => {
+            *slot = None;
+            Ok(())
+        }
         BURST => {
-            let mut burst = [0u8; 33];
-            match fill(source, &mut burst) {
-                Ok(33) => Ok(Some(burst)),
-                Ok(_) => Err(RecordFault::CutRecord),
-                Err(fault) => Err(fault),
-            }
+            *slot = Some(read_burst(source)?);
+            Ok(())
         }
         _ => Err(RecordFault::BadTag),
     }
+}
+
+/// Reads the octets of a burst.
+fn read_burst<S: Source>(source: &mut S) -> Result<[u8; 33], RecordFault>
+    requires well { S.has_failed source.old ≡ false }
+    ensures burst { IfOk result (λ burst. Consumes (S.left source.old) (S.left source.new) burst) }
+    ensures well { OnOk result (S.has_failed source.new ≡ false) }
+    ensures part { OnErr result ((part : List ℕ) × (length part < 33)
+        × Consumes (S.left source.old) (S.left source.new) part) }
+    ensures cause { IfErr result (λ e. (e ≡ RecordFault.CutRecord) ⊎ (e ≡ RecordFault.Read)) }
+    ensures cut { IfErr result (λ e. is_of_end e ≡ true → IsAtEnd (S.left source.new)) }
+    ensures device { IfErr result (λ e. S.has_failed source.new ≡ is_device_fault e) }
+{
+    let mut burst = [0u8; 33];
+    fill_whole(source, &mut burst, 33)?;
+    Ok(burst)
 }
 
 /// Reads the next frame of an uplink file behind its head: slot 1 and slot 2, each silent or a burst. It
@@ -73,18 +93,48 @@ pub fn read_frame<S: Source>(
     // `Read` is told exactly where the device failed.
     ensures device { IfErr result (λ e. S.has_failed source.new ≡ is_device_fault e) }
 {
+    let mut frame = [None, None];
+    match read_frame_into(source, &mut frame, before) {
+        Ok(true) => Ok(Some(frame)),
+        Ok(false) => Ok(None),
+        Err(fault) => Err(fault),
+    }
+}
+
+/// Reads the next frame as `read_frame` does, to a place that is there, since frames are large. It answers whether there is one.
+/// At an `Err` and at the end what the place holds is of no meaning.
+pub fn read_frame_into<S: Source>(
+    source: &mut S,
+    frame: &mut [Option<[u8; 33]>; 2],
+    before: u32,
+) -> Result<bool, RecordFault>
+    requires well { S.has_failed source.old ≡ false }
+    // A frame is what the octets taken spell.
+    ensures frame { IfOk result (λ found. found ≡ true → (before < frame_limit) × IsFrame frame.new
+        × Consumes (S.left source.old) (S.left source.new) (frame_octets frame.new)) }
+    // There is none only at the end.
+    ensures end { IfOk result (λ found. found ≡ false → Consumes (S.left source.old) (S.left source.new) []
+        × IsAtEnd (S.left source.new)) }
+    ensures well { OnOk result (S.has_failed source.new ≡ false) }
+    // A fault is shown by the octets taken, all of this frame.
+    ensures fault { IfErr result (λ e. (taken : List ℕ) × Consumes (S.left source.old) (S.left source.new) taken
+        × ShowsUplinkFault frame_limit before e taken) }
+    ensures cut { IfErr result (λ e. is_of_end e ≡ true → IsAtEnd (S.left source.new)) }
+    // `Read` is told exactly where the device failed.
+    ensures device { IfErr result (λ e. S.has_failed source.new ≡ is_device_fault e) }
+{
     let Some(tag) = read_octet(source)? else {
-        return Ok(None);
+        return Ok(false);
     };
     if before >= FRAME_LIMIT {
         return Err(RecordFault::TooLong);
     }
-    let first = read_slot(source, tag)?;
+    read_slot_into(source, tag, &mut frame[0])?;
     let Some(tag) = read_octet(source)? else {
         return Err(RecordFault::HalfFrame);
     };
-    let second = read_slot(source, tag)?;
-    Ok(Some([first, second]))
+    read_slot_into(source, tag, &mut frame[1])?;
+    Ok(true)
 }
 
 /// Reads the next slot of an uplink file behind its head: silence or a burst. It answers `End` at the end of the
@@ -122,7 +172,8 @@ pub fn read_uplink_slot<S: Source>(
     if before >= UPLINK_SLOT_LIMIT {
         return Err(RecordFault::TooLong);
     }
-    let slot = read_slot(source, tag)?;
+    let mut slot = None;
+    read_slot_into(source, tag, &mut slot)?;
     Ok(NextSlot::Slot(slot))
 }
 

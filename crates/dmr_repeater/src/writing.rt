@@ -1,8 +1,6 @@
 //! The frames of the downlink, handed over and written, and what is received in them.
 ghost use Rattle.std.specs.Prelude.{◌≡◌, ◌+◌, ◌^◌, ◌<◌, false, true, map, IfErr, OnOk, OnErr};
 ghost use Rattle.std.specs.Io.KnownBytes.{Appends};
-ghost use Rattle.dmr_record.specs.Devices.{Tears};
-ghost use Rattle.dmr_record.specs.Downlink.{downlink_octets};
 ghost use Rattle.dmr_record.specs.Received.{receipts_octets};
 ghost use Rattle.dmr_station.specs.StationRules.{received_of};
 ghost use Rattle.dmr_station.specs.GatewayMeaning.{receipt_in};
@@ -12,22 +10,8 @@ ghost use Rattle.dmr_repeater.specs.Files.{FrontOf};
 ghost use Rattle.dmr_repeater.specs.Frames.{SendsOne, TearsOne};
 
 use crate::fault::{RunFault, Stream};
-use dmr_record::{RecordFault, Sink, write_received, write_slot};
-use dmr_station::{DownlinkFrame, Station, UplinkFrame};
-
-/// Writes both slots of a frame.
-#[tactic(auto, using(dmr_record::proofs::Torn::Tears_after, dmr_record::proofs::Torn::Tears_more))]
-fn write_frame<D: Sink>(downlink: &mut D, frame: &DownlinkFrame) -> Result<(), RecordFault>
-    requires well { D.has_failed downlink.old ≡ false }
-    ensures frame { OnOk result (Appends (D.held downlink.old) (D.held downlink.new) (downlink_octets frame.now)) }
-    ensures well { OnOk result (D.has_failed downlink.new ≡ false) }
-    ensures fault { IfErr result (λ e. e ≡ RecordFault.Write) }
-    ensures failed { OnErr result (D.has_failed downlink.new ≡ true) }
-    ensures torn { OnErr result (Tears (D.held downlink.old) (D.held downlink.new) (downlink_octets frame.now)) }
-{
-    write_slot(downlink, frame[0])?;
-    write_slot(downlink, frame[1])
-}
+use dmr_record::{RecordFault, Sink, write_received, write_slots};
+use dmr_station::{Station, UplinkFrame};
 
 /// Writes what the gateway received in a frame, record by record.
 fn write_all_received<R: Sink>(
@@ -70,7 +54,7 @@ fn write_each_received<R: Sink>(
         (receipts_octets (map (receipt_in number) (received_of station.old.memory.gate)))) }
 {
     loop {
-        let Some(one) = station.take_received() else {
+        let Some(one) = station.received() else {
             return Ok(());
         };
         if let Err(fault) = write_received(
@@ -83,6 +67,7 @@ fn write_each_received<R: Sink>(
         ) {
             return Err(fault);
         }
+        station.pass_received();
         // Most often that was all.
         if station.has_nothing_received() {
             return Ok(());
@@ -110,8 +95,9 @@ pub(crate) fn send<D: Sink, R: Sink>(
     ensures blamed { AreBlamed result false false (D.has_failed downlink.new) (R.has_failed received.new) }
 {
     let number = station.counts().frames;
-    let records = station.exchange(frame);
-    if let Err(fault) = write_frame(downlink, &records) {
+    let mut records = [None, None];
+    station.exchange_into(frame, &mut records);
+    if let Err(fault) = write_slots(downlink, &records) {
         return Err(RunFault::File(Stream::Downlink, fault));
     }
     if let Err(fault) = write_all_received(station, received, number) {

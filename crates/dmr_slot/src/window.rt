@@ -1,9 +1,10 @@
 //! The places that were heard last.
-ghost use Rattle.std.specs.Prelude.{◌≡◌, ◌≤◌, IfOk, drop, replicate, take};
+ghost use Rattle.std.specs.Prelude.{◌≡◌, ◌≤◌, IfOk, drop, option_copied, replicate, take};
 ghost use Rattle.dmr_hearing.specs.Slots as spec;
-ghost use Rattle.dmr_slot.specs.LineRules.{moved};
+ghost use Rattle.dmr_hearing.specs.declared.heard.Heard.{Heard};
+ghost use Rattle.dmr_slot.specs.LineRules.{HearsOne, moved};
 
-use dmr_voice::{Heard, silence};
+use dmr_voice::{Heard, hear_into, silence};
 use std::alloc::{AllocError, Global};
 use std::marker::Model;
 
@@ -43,11 +44,11 @@ impl Window {
         })
     }
 
-    /// Moves on by a place, in which this is heard.
-    pub(crate) fn move_on(&mut self, heard: Heard)
-        ensures moved { self.new ≡ moved self.old heard }
+    /// Moves on by a place, in which a repeater of this colour code hears this slot.
+    pub(crate) fn hear(&mut self, slot: Option<&[u8; 33]>, colour: u8)
+        ensures heard { HearsOne colour self.old (option_copied slot.entry) self.new }
     {
-        self.from = slide(&mut self.places, self.from, heard);
+        self.from = hear_next(&mut self.places, self.from, slot, colour);
     }
 
     /// The six places.
@@ -59,18 +60,18 @@ impl Window {
     }
 }
 
-/// Slides the window that begins at a place on by one, in which this is heard, and answers where it begins then.
-fn slide(places: &mut [Heard; ROOM], from: usize, heard: Heard) -> usize
+/// Slides the window that begins at a place on by one, in which this slot is heard, and answers where it begins then.
+fn hear_next(places: &mut [Heard; ROOM], from: usize, slot: Option<&[u8; 33]>, colour: u8) -> usize
     requires inside { from ≤ 30 }
-    ensures moved { take 6 (drop result places.new) ≡ moved (take 6 (drop from places.old)) heard }
+    ensures heard { HearsOne colour (take 6 (drop from places.old)) (option_copied slot.entry) (take 6 (drop result places.new)) }
     ensures inside { result ≤ 30 }
 {
     if from + DELAY < ROOM {
-        places[from + DELAY] = heard;
+        hear_into(slot, colour, &mut places[from + DELAY]);
         return from + 1;
     }
     // What stays of the window goes to the front.
     places.copy_within(ROOM - DELAY + 1..ROOM, 0);
-    places[DELAY - 1] = heard;
+    hear_into(slot, colour, &mut places[DELAY - 1]);
     0
 }

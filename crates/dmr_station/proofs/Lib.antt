@@ -15,6 +15,8 @@ pub mod Offering
 pub mod Offers
 pub mod OneReception
 pub mod OneResult
+pub mod Pairs
 pub mod Readings
 pub mod Refilling
+pub mod Resting
 pub mod TakenInOrder

@@ -20,6 +20,11 @@ IsMessageFor outs m = IsMessage (known_lc outs 0) (known_lc outs 1) m.slco m.bod
     known_lc : List SlotOut → ℕ → Option FullLc
     known_lc outs slot = slice_index_or (map (λ (out : SlotOut). out.lc) outs) slot None
 
+-- The lines of both slots give nothing.
+abbrev pub nothing_given : List SlotOut
+nothing_given =
+    record { repeated = None; hang = None; lc = None } ∷ record { repeated = None; hang = None; lc = None } ∷ []
+
 -- 1. By the rules: what is kept between two frames.
 
 -- The first of two frames decides the message, which is kept for the second.

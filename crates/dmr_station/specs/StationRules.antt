@@ -12,6 +12,8 @@ use Rattle.dmr_slot.specs.ChannelMeaning.{claims_of}
 use Rattle.dmr_slot.specs.ChannelRules.{OnAir, off_air, frame_out, after_frame}
 use Rattle.dmr_slot.specs.Bursts.{AreSent}
 use Rattle.dmr_slot.specs.LineRules.{LineMemory, silent_line, IsPush}
+use Rattle.dmr_slot.specs.LineRules as line_rules
+use Rattle.dmr_gateway.specs.GatewayRules as gateway_rules
 use Rattle.dmr_slot.specs.declared.line.SlotOut.{SlotOut}
 use Rattle.dmr_station.specs.Announced.{IsAnnounced}
 use Rattle.dmr_station.specs.declared.announcing.Message.{Message}
@@ -134,6 +136,13 @@ pub record IsAsked (before : StationMemory) (frame : UplinkSlots) (sending : Dow
   pub message : Message
   pub announces : IsAnnounced before.kept (first ∷ second ∷ []) message after.kept
   pub marks : sending ≡ marked_slots message (first ∷ second ∷ []) bursts
+
+-- A silent frame changes nothing but the message that is kept, and nothing goes out in it.
+pub record RestsInSilence (m : StationMemory) : Type 0 where
+  pub first : line_rules.LineRests m.first
+  pub second : line_rules.LineRests m.second
+  pub channel : m.channel.left ≡ 0
+  pub gate : gateway_rules.GateRests m.gate
 
 -- What the gateway received in this frame and what isn't taken yet: that of slot 1, and then that of slot 2.
 abbrev pub received_of : Gate → List Received

@@ -1,6 +1,7 @@
 //! What the CACHs announce of the calls in both slots.
 ghost use Rattle.std.specs.Prelude.{◌≡◌, IfSome};
-ghost use Rattle.dmr_station.specs.Announced.{IsAnnounced, IsFitMessage, IsMessageFor};
+ghost use Rattle.dmr_station.specs.Announced.{IsAnnounced, IsFitMessage, IsMessageFor, nothing_given};
+ghost use Rattle.dmr_station.specs.declared.announcing.Message.{Message};
 
 use dmr_slot::{Channel, SlotOut};
 
@@ -12,6 +13,9 @@ pub struct Message {
     /// The 24 bits whose meaning the opcode gives.
     pub body: u32,
 }
+
+/// What is announced where no call is known.
+const NULL_MESSAGE: Message = Message { slco: 0, body: 0 };
 
 /// The message that is announced. Two frames have the four records of one message, and the first of them decides it.
 #[derive(Clone, Copy)]
@@ -35,6 +39,19 @@ impl Announcer {
         ensures kept { result.kept ≡ None }
     {
         Announcer { kept: None }
+    }
+
+    /// Goes on by a frame in which the lines of both slots give nothing.
+    #[inline(always)]
+    pub(crate) fn pass_silence(&mut self)
+        requires kept { IfSome self.old.kept IsFitMessage }
+        ensures announced { (message : Message) × IsAnnounced self.old.kept nothing_given message self.new.kept }
+        ensures kept { IfSome self.new.kept IsFitMessage }
+    {
+        match self.kept {
+            Some(_) => self.kept = None,
+            None => self.kept = Some(NULL_MESSAGE),
+        }
     }
 
     /// The message of the next frame, in which the lines of both slots give this.

@@ -15,7 +15,7 @@ use crate::sending::{count_repeated, encode_frame};
 use dmr_burst::Burst;
 use dmr_gateway::{Config, Gateway, GatewayFault, Outcome, Received};
 use dmr_record::Outgoing;
-use dmr_slot::{Channel, SlotLine, SlotOut};
+use dmr_slot::{Channel, FREE, SlotLine, SlotOut};
 use std::alloc::{AllocError, Global};
 use std::marker::Model;
 
@@ -52,11 +52,13 @@ impl Model for Decider {
 impl Decider {
     ghost use Rattle.dmr_gateway.specs.GatewayRules.{IsOffer, IsSlot};
     ghost use Rattle.dmr_gateway.specs.Packets.{fault_of};
-    ghost use Rattle.std.specs.Prelude.{◌↔◌, IsTrue, option_to_list};
+    ghost use Rattle.std.specs.Prelude.{◌↔◌, IsTrue, option_copied, option_to_list};
     ghost use Rattle.std.specs.List.{flat_map};
     ghost use Rattle.dmr_gateway.specs.GatewayRules.{HasNothingReceived, next_received, after_received};
     ghost use Rattle.dmr_gateway.specs.Received.{IsFitReceived};
-    ghost use Rattle.dmr_station.specs.StationRules.{settings_of, start, IsAsked, outcomes_to_tell, outcomes_told};
+    ghost use Rattle.std.specs.Prelude.{[], ◌∷◌, None};
+    ghost use Rattle.dmr_station.specs.StationRules.{settings_of, start, IsAsked, RestsInSilence};
+    ghost use Rattle.dmr_station.specs.StationRules.{outcomes_to_tell, outcomes_told};
 
     /// Lines and a gateway that have heard nothing. They take memory here alone, for each slot, and then for the
     /// gateway.
@@ -86,34 +88,54 @@ impl Decider {
         self.gateway.offer(outgoing)
     }
 
-    /// Takes a frame of the uplink, and gives the records of the frame of the downlink that is decided then, and how many of them
-    /// repeat a burst. The first of these records is the one at this place. The fragments are those of the message that went out
-    /// last.
+    /// Takes a frame of the uplink, and gives the records of the frame of the downlink that is decided then. It answers how many of
+    /// them repeat a burst. The first of these records is the one at this place. The fragments are those of the message that went
+    /// out last.
     pub(crate) fn pass(
         &mut self,
         frame: &[Option<[u8; 33]>; 2],
         place: u32,
         fragments: &mut Fragments,
-    ) -> ([Option<([u8; 3], [u8; 33])>; 2], u32)
+        records: &mut [Option<([u8; 3], [u8; 33])>; 2],
+    ) -> u32
         requires room { place + 1 < 2 ^ 32 }
         ensures sent { (sending : List (Option DownlinkBurst)) × IsAsked self.old frame.now sending self.new
-            × AreSentAs place sending result.0 × (result.1 ≡ repeated_count sending) }
-        ensures bound { result.1 ≤ 2 }
+            × AreSentAs place sending records.new × (result ≡ repeated_count sending) }
+        ensures bound { result ≤ 2 }
     {
-        let outs = [
-            push(&mut self.first, &frame[0]),
-            push(&mut self.second, &frame[1]),
-        ];
-        let gate = [
-            next_burst(&mut self.gateway, 1, &outs[0]),
-            next_burst(&mut self.gateway, 2, &outs[1]),
-        ];
+        let mut outs = [FREE, FREE];
+        push(&mut self.first, &frame[0], &mut outs[0]);
+        push(&mut self.second, &frame[1], &mut outs[1]);
+        let mut gate = [None, None];
+        next_burst(&mut self.gateway, 1, &outs[0], &mut gate[0]);
+        next_burst(&mut self.gateway, 2, &outs[1], &mut gate[1]);
         let bursts = self.channel.bursts(&outs, &gate);
         let message = self.announcer.next(&outs);
-        let records = encode_frame(place, message, &outs, &bursts, fragments);
+        encode_frame(place, message, &outs, &bursts, fragments, records);
         let repeated = count_repeated(&outs, &bursts);
         self.channel.go_on(&outs, &gate);
-        (records, repeated)
+        repeated
+    }
+
+    /// Whether a silent frame changes nothing but the message that is kept, and nothing goes out in it.
+    pub(crate) fn is_at_rest(&self) -> bool
+        ensures rests { IsTrue result → RestsInSilence self.now }
+    {
+        self.first.is_at_rest()
+            && self.second.is_at_rest()
+            && self.channel.is_off_air()
+            && self.gateway.is_at_rest()
+    }
+
+    /// Passes a silent frame in which nothing else changes.
+    #[inline(always)]
+    pub(crate) fn pass_silence(&mut self)
+        requires rests { RestsInSilence self.old }
+        ensures asked { IsAsked self.old (None ∷ None ∷ []) (None ∷ None ∷ []) self.new }
+        ensures rests { RestsInSilence self.new }
+        ensures gate { self.new.gate ≡ self.old.gate }
+    {
+        self.announcer.pass_silence();
     }
 
     /// Whether the gateway received nothing that isn't taken yet.
@@ -132,6 +154,21 @@ impl Decider {
         self.gateway.take_received()
     }
 
+    /// What the gateway received, as `take_received` takes it, where it stands.
+    pub(crate) fn received(&self) -> Option<&Received>
+        ensures received { option_copied result ≡ next_received self.now.gate }
+        ensures fit { IfSome (option_copied result) IsFitReceived }
+    {
+        self.gateway.received()
+    }
+
+    /// What the gateway received goes, slot 1's first and of a slot its status first.
+    pub(crate) fn pass_received(&mut self)
+        ensures taken { self.new ≡ record self.old { gate = after_received self.old.gate } }
+    {
+        self.gateway.pass_received();
+    }
+
     /// What became of the gateway's packets, one in each slot at most, slot 1's first.
     pub(crate) fn take_outcomes(&mut self) -> [Option<Outcome>; 2]
         ensures outcomes { flat_map option_to_list result ≡ outcomes_to_tell self.old.gate }
@@ -145,19 +182,20 @@ impl Decider {
 
 /// What the line of a slot gives for what the slot was recorded as.
 #[inline(always)]
-fn push(line: &mut SlotLine, slot: &Option<[u8; 33]>) -> SlotOut
-    ensures pushed { IsPush line.old slot.now result line.new }
-    ensures fit { IsFitSlotOut result }
+fn push(line: &mut SlotLine, slot: &Option<[u8; 33]>, out: &mut SlotOut)
+    ensures pushed { IsPush line.old slot.now out.new line.new }
+    ensures fit { IsFitSlotOut out.new }
 {
-    line.push(slot.as_ref())
+    line.push_into(slot.as_ref(), out);
 }
 
 /// What the gateway has for a slot, 1 or 2, once it has heard what the line repeats.
-fn next_burst(gateway: &mut Gateway, slot: u8, out: &SlotOut) -> Option<Burst>
+#[inline(always)]
+fn next_burst(gateway: &mut Gateway, slot: u8, out: &SlotOut, burst: &mut Option<Burst>)
     requires slot { IsSlot slot }
-    ensures asked { IsSlotAsked slot out.now gateway.old result gateway.new }
-    ensures fit { IfSome result IsBurst }
+    ensures asked { IsSlotAsked slot out.now gateway.old burst.new gateway.new }
+    ensures fit { IfSome burst.new IsBurst }
 {
     gateway.heard(slot, out.repeated.as_ref());
-    gateway.next(slot, out.repeated.is_none() && out.hang.is_none())
+    gateway.next_into(slot, out.repeated.is_none() && out.hang.is_none(), burst);
 }

@@ -14,25 +14,26 @@ use dmr_burst::{Burst, Side, encode_burst};
 use dmr_slot::SlotOut;
 
 /// The octets of a slot that sends this burst, which is the record at this place of the downlink, counted from 0. Its CACH tells
-/// whether its line repeats a burst, and carries a fragment of the message.
+/// whether its line repeats a burst, and carries a fragment of the message. They go to a place that is there.
 fn encode_slot(
     place: u32,
     message: Message,
     out: &SlotOut,
     burst: Option<&Burst>,
     fragments: &mut Fragments,
-) -> Option<([u8; 3], [u8; 33])>
+    record: &mut Option<([u8; 3], [u8; 33])>,
+)
     requires message { IsFitMessage message }
     requires fits { IfSome (option_copied burst) IsBurst }
-    ensures sent { IsSentAs place (marked message out.now (option_copied burst.entry)) result }
+    ensures sent { IsSentAs place (marked message out.now (option_copied burst.entry)) record.new }
 {
     match burst {
         Some(burst) => {
             fragments.take(message);
             let cach = fragments.cach(out.repeated.is_some(), place);
-            Some((cach, encode_burst(burst, Side::Bs)))
+            *record = Some((cach, encode_burst(burst, Side::Bs)));
         }
-        None => None,
+        None => *record = None,
     }
 }
 
@@ -44,16 +45,29 @@ pub(crate) fn encode_frame(
     outs: &[SlotOut; 2],
     bursts: &[Option<&Burst>; 2],
     fragments: &mut Fragments,
-) -> [Option<([u8; 3], [u8; 33])>; 2]
+    records: &mut [Option<([u8; 3], [u8; 33])>; 2],
+)
     requires message { IsFitMessage message }
     requires fit { All (λ burst. IfSome burst IsBurst) (map option_copied bursts.now) }
     requires room { place + 1 < 2 ^ 32 }
-    ensures sent { AreSentAs place (marked_slots message outs.now (map option_copied bursts.now)) result }
+    ensures sent { AreSentAs place (marked_slots message outs.now (map option_copied bursts.now)) records.new }
 {
-    [
-        encode_slot(place, message, &outs[0], bursts[0], fragments),
-        encode_slot(place + 1, message, &outs[1], bursts[1], fragments),
-    ]
+    encode_slot(
+        place,
+        message,
+        &outs[0],
+        bursts[0],
+        fragments,
+        &mut records[0],
+    );
+    encode_slot(
+        place + 1,
+        message,
+        &outs[1],
+        bursts[1],
+        fragments,
+        &mut records[1],
+    );
 }
 
 /// Whether a slot sends a repeated burst.

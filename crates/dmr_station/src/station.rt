@@ -1,5 +1,6 @@
 //! The base station, frame after frame.
-ghost use Rattle.std.specs.Prelude.{◌≡◌, ◌+◌, ◌*◌, ◌^◌, ◌<◌, ◌≤◌, IfOk, IfSome, option_to_list, if◌then◌else◌};
+ghost use Rattle.std.specs.Prelude.{◌≡◌, ◌+◌, ◌*◌, ◌^◌, ◌<◌, ◌≤◌, [], ◌∷◌, None, IsTrue, IfOk, IfSome, option_to_list};
+ghost use Rattle.std.specs.Prelude.{if◌then◌else◌};
 ghost use Rattle.std.specs.List.{flat_map};
 ghost use Rattle.dmr_station.specs.StationRules.{outcome_count};
 
@@ -18,6 +19,9 @@ pub type DownlinkFrame = [Option<([u8; 3], [u8; 33])>; 2];
 
 /// A frame in which nothing is received.
 pub const SILENCE: UplinkFrame = [None, None];
+
+/// A frame in which nothing goes out.
+const NOTHING: DownlinkFrame = [None, None];
 
 /// What a station has done so far, in numbers.
 #[derive(Clone, Copy, Debug, PartialEq, Eq)]
@@ -46,22 +50,26 @@ pub struct Station {
     decider: Decider,
     fragments: Fragments,
     counts: Counts,
+    /// Whether silence was found to change nothing, and nothing was offered or taken since.
+    is_at_rest: bool,
 }
 
 // Clauses see what the station remembers, and what it has done.
 impl Model for Station {
+    ghost use Rattle.std.specs.Prelude.{IsTrue};
+    ghost use Rattle.dmr_station.specs.StationRules.{RestsInSilence};
     ghost use Rattle.dmr_station.specs.Station.{State, IsWithinFrames, state_of};
 
     ghost Value = { State };
 
     ghost view = { λ s. state_of s.decider s.counts };
 
-    ghost invariant = { λ s. IsWithinFrames (state_of s.decider s.counts) };
+    ghost invariant = { λ s. IsWithinFrames (state_of s.decider s.counts) × (IsTrue s.is_at_rest → RestsInSilence s.decider) };
 }
 
 impl Station {
     ghost use Rattle.dmr_gateway.specs.Received.{IsFitReceived};
-    ghost use Rattle.std.specs.Prelude.{◌↔◌, IsTrue};
+    ghost use Rattle.std.specs.Prelude.{◌↔◌, IsTrue, option_copied};
     ghost use Rattle.dmr_gateway.specs.GatewayRules.{IsSlot, HasNothingReceived, next_received};
     ghost use Rattle.dmr_station.specs.StationRules.{settings_of};
     ghost use Rattle.dmr_station.specs.Station.{fresh, IsOffered, IsExchanged, taken_once, counts_of_gateway};
@@ -84,6 +92,7 @@ impl Station {
                 sent: 0,
                 given_up: 0,
             },
+            is_at_rest: false,
         })
     }
 
@@ -93,6 +102,7 @@ impl Station {
         requires offers { self.old.offered + 1 < 2 ^ 32 }
         ensures offered { IsOffered self.old outgoing.now self.new }
     {
+        self.is_at_rest = false;
         self.counts.offered += 1;
         match self.decider.offer(outgoing) {
             Ok(()) => {}
@@ -106,15 +116,44 @@ impl Station {
         requires frames { self.old.frames < 2 ^ 29 }
         ensures exchanged { IsExchanged self.old frame.now result self.new }
     {
+        let mut records = NOTHING;
+        self.exchange_into(frame, &mut records);
+        records
+    }
+
+    /// Takes a frame of the uplink as `exchange` does, and gives the records in a place that is there, since they are large.
+    #[inline(always)]
+    pub fn exchange_into(&mut self, frame: &UplinkFrame, records: &mut DownlinkFrame)
+        requires frames { self.old.frames < 2 ^ 29 }
+        ensures exchanged { IsExchanged self.old frame.now records.new self.new }
+    {
+        // Most frames are silent, and where all around them is, nothing changes.
+        if self.is_at_rest && is_silent(frame) {
+            self.decider.pass_silence();
+            self.counts.frames += 1;
+            *records = NOTHING;
+        } else {
+            self.decide(frame, records);
+        }
+    }
+
+    /// Takes a frame of the uplink, whatever came before it.
+    #[inline(never)]
+    fn decide(&mut self, frame: &UplinkFrame, records: &mut DownlinkFrame)
+        requires frames { self.old.frames < 2 ^ 29 }
+        ensures exchanged { IsExchanged self.old frame.now records.new self.new }
+    {
         let place = 2 * self.counts.frames;
-        let (records, repeated) = self.decider.pass(frame, place, &mut self.fragments);
+        let repeated = self
+            .decider
+            .pass(frame, place, &mut self.fragments, records);
         let outcomes = self.decider.take_outcomes();
         self.counts.frames += 1;
         self.counts.repeated += repeated;
         self.counts.delivered += count_outcome(Outcome::Delivered, &outcomes);
         self.counts.sent += count_outcome(Outcome::Sent, &outcomes);
         self.counts.given_up += count_outcome(Outcome::GivenUp, &outcomes);
-        records
+        self.is_at_rest = is_silent(frame) && self.decider.is_at_rest();
     }
 
     /// Whether the gateway received nothing that isn't taken yet.
@@ -131,9 +170,27 @@ impl Station {
         ensures taken { self.new ≡ taken_once self.old }
         ensures fit { IfSome result IsFitReceived }
     {
+        self.is_at_rest = false;
         let received = self.decider.take_received();
         self.counts.received += u32::from(received.is_some());
         received
+    }
+
+    /// What the gateway received, as `take_received` takes it, where it stands, since it is large.
+    pub fn received(&self) -> Option<&Received>
+        ensures received { option_copied result ≡ next_received self.now.memory.gate }
+        ensures fit { IfSome (option_copied result) IsFitReceived }
+    {
+        self.decider.received()
+    }
+
+    /// What the gateway received goes, and counts, slot 1's first and of a slot its status first.
+    pub fn pass_received(&mut self)
+        ensures taken { self.new ≡ taken_once self.old }
+    {
+        self.is_at_rest = false;
+        self.counts.received += u32::from(self.decider.received().is_some());
+        self.decider.pass_received();
     }
 
     /// What the station has done so far.
@@ -145,6 +202,14 @@ impl Station {
     {
         self.counts
     }
+}
+
+/// Whether a frame of the uplink has no burst.
+#[inline(always)]
+fn is_silent(frame: &UplinkFrame) -> bool
+    ensures silent { IsTrue result → frame.now ≡ None ∷ None ∷ [] }
+{
+    frame[0].is_none() && frame[1].is_none()
 }
 
 /// Whether a packet came to this.

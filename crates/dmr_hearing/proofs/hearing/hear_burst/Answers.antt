@@ -12,16 +12,16 @@ returns c =
       heard = (
         whole,
         record {
-          data_burst_within = c.hear_data_burst.ensures.within;
-          data_burst_only = c.hear_data_burst.ensures.only;
+          data_burst_within = c.hear_data_burst-heard.ensures.within;
+          data_burst_only = c.hear_data_burst-heard.ensures.only;
           voice = record {
-            0 = λ is. voice_within bits found.result found.ensures.within (subst IsTrue c.unwrap_or.ensures is);
-            1 = λ has. c.unwrap_or.ensures ∙ voice_only bits found.result true found.ensures.only has;
+            0 = λ is. voice_within bits found.result found.ensures.within (subst IsTrue c.unwrap_or-heard.ensures is);
+            1 = λ has. c.unwrap_or-heard.ensures ∙ voice_only bits found.result true found.ensures.only has;
           };
-          emb_within = c.read_emb.ensures.within;
-          emb_only = c.read_emb.ensures.only;
-          embedded = c.read_embedded.ensures.value;
-          vocoder = c.read_vocoder.ensures.value;
+          emb_within = c.read_emb-heard.ensures.within;
+          emb_only = c.read_emb-heard.ensures.only;
+          embedded = c.read_embedded-heard.ensures.value;
+          vocoder = c.read_vocoder-heard.ensures.value;
         },
       );
     }

@@ -1,3 +1,5 @@
+use Rattle.std.proofs.Common.{sym, subst}
+use Rattle.dmr_bptc.specs.ProductWord.{IsWritten}
 use Rattle.dmr_hearing.proofs.Payloads.{word_read, word_unread}
 use Rattle.dmr_hearing.proofs.information.read_word.Goals as goal
 
@@ -6,11 +8,12 @@ returns-in_default c = record { reading = word_unread c.args.kind c.args.receive
 
 pub returns : goal.returns
 returns c = record {
-  reading = word_read c.args.kind c.args.received.now c.in-Some.message c.message_data_burst.result c.in-Some.ensures.decoded
+  reading = word_read c.args.kind c.args.received.now c.in-Some.restored.information c.word_data_burst.result
+      c.in-Some.ensures.decoded
       (record {
-        kind_is = c.message_data_burst.ensures.kind;
-        encoded = c.message_data_burst.ensures.information;
-        plain =
-            c.message_data_burst.ensures.link_control;
+        kind_is = c.word_data_burst.ensures.kind;
+        encoded = subst (IsWritten c.in-Some.restored.information) (sym c.word_data_burst.ensures.information)
+            c.in-Some.ensures.written;
+        plain = c.word_data_burst.ensures.link_control;
       });
 }

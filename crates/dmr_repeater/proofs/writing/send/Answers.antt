@@ -7,10 +7,10 @@ pub returns-in-Err-clause-leaves : goal.returns-in-Err-clause-leaves
 returns-in-Err-clause-leaves g c = (
   c.in-Err.ensures.fault,
   record {
-    records = c.exchange-records.result;
-    next = c.exchange-records.new.self;
-    exchanged = c.exchange-records.ensures.exchanged;
-    written = (torn_front (downlink_octets c.exchange-records.result) _ _ c.in-Err.ensures.torn, refl);
+    records = c.exchange_into.new.records;
+    next = c.exchange_into.new.self;
+    exchanged = c.exchange_into.ensures.exchanged;
+    written = (torn_front (downlink_octets c.exchange_into.new.records) _ _ c.in-Err.ensures.torn, refl);
   },
 )
 
@@ -18,9 +18,9 @@ pub returns-in-Err-write_all_received-clause-leaves : goal.returns-in-Err-write_
 returns-in-Err-write_all_received-clause-leaves g c = (
   c.in-Err-write_all_received.ensures.fault,
   record {
-    records = c.exchange-records.result;
-    next = c.exchange-records.new.self;
-    exchanged = c.exchange-records.ensures.exchanged;
-    written = (c.in_default.ensures.frame, rw c.counts-number.ensures.frames at c.in-Err-write_all_received.ensures.torn);
+    records = c.exchange_into.new.records;
+    next = c.exchange_into.new.self;
+    exchanged = c.exchange_into.ensures.exchanged;
+    written = (c.in_default.ensures.slots, rw c.counts-number.ensures.frames at c.in-Err-write_all_received.ensures.torn);
   },
 )

@@ -1,0 +1,10 @@
+use Rattle.dmr_station.proofs.Resting.{exchanged_in_silence}
+use Rattle.dmr_station.proofs.station.Station.exchange_into.Goals as goal
+
+pub returns-then-is_silent : goal.returns-then-is_silent
+returns-then-is_silent c =
+    let frame = c.is_silent.ensures.silent c.if-is_silent.true in
+    record {
+      exchanged = rw (← c.self.view_is, frame) (exchanged_in_silence _ c.pass_silence.new.self c.pass_silence.ensures.rests
+          c.pass_silence.ensures.asked);
+    }
