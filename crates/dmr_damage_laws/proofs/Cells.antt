@@ -15,10 +15,9 @@ use Rattle.dmr_hearing.specs.declared.heard.Heard.{Heard}
 use Rattle.dmr_link.specs.declared.full_lc.FullLc.{FullLc}
 use Rattle.dmr_voice.specs.Bursts.{IsSaid}
 use Rattle.dmr_voice.specs.declared.place.Place.{Place}
-use Rattle.dmr_voice.specs.declared.said.Content.TheVariants as content
+use Rattle.dmr_voice.specs.Said as content
 use Rattle.dmr_voice.specs.declared.said.Role.{Role}
-use Rattle.dmr_voice.specs.declared.said.Said.{Said}
-use Rattle.dmr_voice.specs.declared.said.Said.TheVariants.{Nothing, Repeat}
+use Rattle.dmr_voice.specs.Said.{Said, Nothing, Repeat}
 use Rattle.dmr_voice.specs.declared.said.VoiceOut.{VoiceOut}
 use Rattle.dmr_voice.specs.declared.said.VoiceOut.TheVariants as out
 use Rattle.dmr_damage.specs.Bursts.{IsDamagedBy, IsDamagedSlot, IsDamagedUnrepeated, IsDamagedVoice}

@@ -25,8 +25,7 @@ use Rattle.dmr_station.specs.StationRules.{Counts, Settings}
 use Rattle.dmr_voice.specs.CallMeaning.{Cell, Transmission, sent_list}
 use Rattle.dmr_voice.specs.DamagedRecordings.{meant}
 use Rattle.dmr_voice.specs.WellFormed.{IsWellFormed}
-use Rattle.dmr_voice.specs.declared.said.Said.{Said}
-use Rattle.dmr_voice.specs.declared.said.Said.TheVariants.{Nothing}
+use Rattle.dmr_voice.specs.Said.{Said, Nothing}
 use Rattle.dmr_damage_laws.proofs.Slots.{damaged_slots_mean_the_same}
 use Rattle.dmr_damage_laws.specs.DamagedCopies.{CopiesMeanTheSame, IsCopyOfTheSame}
 use Rattle.dmr_damage_laws.specs.DamagedCopies.{RunsWriteTheSame}

@@ -9,7 +9,7 @@ use Rattle.dmr_voice.specs.CallMeaning.{Cell}
 use Rattle.dmr_voice.specs.CallRules.{AllCarried}
 use Rattle.dmr_voice.specs.DamagedRecordings.{meant}
 use Rattle.dmr_voice.specs.Recordings.{AllHeardAs}
-use Rattle.dmr_voice.specs.declared.said.Said.{Said}
+use Rattle.dmr_voice.specs.Said.{Said}
 use Rattle.dmr_damage.specs.LimitedSlots.{moved_on}
 use Rattle.dmr_damage_laws.proofs.Cells.{Agrees, with_none}
 use Rattle.dmr_damage_laws.proofs.Decided.{Decided, carried_of, heard_of, outs_of, slots_of}

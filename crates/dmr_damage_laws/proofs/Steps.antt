@@ -10,9 +10,8 @@ use Rattle.dmr_link.specs.declared.full_lc.FullLc.{FullLc}
 use Rattle.dmr_voice.specs.Bursts.{IsSaid}
 use Rattle.dmr_voice.specs.CallMeaning.{Cell, meaning}
 use Rattle.dmr_voice.specs.CallRules.{said_of}
-use Rattle.dmr_voice.specs.declared.said.Content.TheVariants as content
-use Rattle.dmr_voice.specs.declared.said.Said.{Said}
-use Rattle.dmr_voice.specs.declared.said.Said.TheVariants.{Nothing, Repeat}
+use Rattle.dmr_voice.specs.Said as content
+use Rattle.dmr_voice.specs.Said.{Said, Nothing, Repeat}
 use Rattle.dmr_voice.specs.declared.said.VoiceOut.{VoiceOut}
 use Rattle.dmr_voice.specs.declared.said.VoiceOut.TheVariants as out
 use Rattle.dmr_voice.specs.declared.track.Track.{Track}

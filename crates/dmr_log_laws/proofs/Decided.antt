@@ -22,8 +22,7 @@ use Rattle.dmr_voice.proofs.Law.{repeats_what_is_meant}
 use Rattle.dmr_voice.specs.CallMeaning.{Cell, Transmission, sent_list}
 use Rattle.dmr_voice.specs.DamagedRecordings.{IsDamagedRecordingOf, meant}
 use Rattle.dmr_voice.specs.WellFormed.{IsWellFormed}
-use Rattle.dmr_voice.specs.declared.said.Said.{Said}
-use Rattle.dmr_voice.specs.declared.said.Said.TheVariants.{Nothing, Repeat}
+use Rattle.dmr_voice.specs.Said.{Said, Nothing, Repeat}
 use Rattle.dmr_log_laws.proofs.Followed.{told_to_repeat}
 use Rattle.dmr_log_laws.proofs.Slots.{ArePassed}
 

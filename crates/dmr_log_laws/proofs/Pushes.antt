@@ -15,8 +15,7 @@ use Rattle.dmr_slot.specs.LineRules.{role_of, silent_line, still_left}
 use Rattle.dmr_slot.specs.declared.line.SlotOut.{SlotOut}
 use Rattle.dmr_voice.proofs.Carrying.{one_carried}
 use Rattle.dmr_voice.specs.Carried.{IsCarried}
-use Rattle.dmr_voice.specs.declared.said.Said.{Said}
-use Rattle.dmr_voice.specs.declared.said.Said.TheVariants.{Nothing, Repeat}
+use Rattle.dmr_voice.specs.Said.{Said, Nothing, Repeat}
 use Rattle.dmr_voice.specs.declared.track.Track.{Track}
 
 -- 1. One push.

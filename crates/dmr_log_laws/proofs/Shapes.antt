@@ -24,10 +24,10 @@ use Rattle.dmr_voice.specs.CallMeaning.{unsaid}
 use Rattle.dmr_voice.specs.Places.{content_at, voice_of}
 use Rattle.dmr_voice.specs.declared.place.Place.{Place}
 use Rattle.dmr_voice.specs.declared.place.Place.TheVariants.{A, B, C, D, E, F}
-use Rattle.dmr_voice.specs.declared.said.Content.TheVariants as content
+use Rattle.dmr_voice.specs.Said as content
 use Rattle.dmr_voice.specs.declared.said.Role.{Role}
 use Rattle.dmr_voice.specs.declared.said.Role.TheVariants.{Call}
-use Rattle.dmr_voice.specs.declared.said.Said.TheVariants.{Repeat}
+use Rattle.dmr_voice.specs.Said.{Repeat}
 use Rattle.dmr_log_laws.proofs.Decided.{Shows}
 use Rattle.dmr_log_laws.specs.CallEntries.{link_control_meant}
 

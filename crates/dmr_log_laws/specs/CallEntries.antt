@@ -23,8 +23,7 @@ use Rattle.dmr_voice.specs.CallMeaning.{cells, sent_list}
 use Rattle.dmr_voice.specs.DamagedRecordings.{IsDamagedRecordingOf}
 use Rattle.dmr_voice.specs.WellFormed.{IsWellFormed, presence}
 use Rattle.dmr_voice.specs.declared.said.Role.TheVariants as role
-use Rattle.dmr_voice.specs.declared.said.Said.{Said}
-use Rattle.dmr_voice.specs.declared.said.Said.TheVariants.{Repeat}
+use Rattle.dmr_voice.specs.Said.{Said, Repeat}
 
 -- 1. The call that is due.
 

@@ -21,8 +21,7 @@ use Rattle.dmr_link.specs.declared.sealing.LcUse.TheVariants.{Terminator}
 use Rattle.dmr_link.proofs.Existing.{lc_somehow}
 use Rattle.dmr_voice.specs.declared.said.Role.{Role}
 use Rattle.dmr_voice.specs.declared.said.Role.TheVariants.{Call, Other}
-use Rattle.dmr_voice.specs.declared.said.Said.{Said}
-use Rattle.dmr_voice.specs.declared.said.Said.TheVariants.{Nothing, Repeat}
+use Rattle.dmr_voice.specs.Said.{Said, Nothing, Repeat}
 use Rattle.dmr_voice.proofs.CarriedSomehow.{carried_somehow}
 use Rattle.dmr_voice.proofs.Existing.{IsWholeContent, IsWholeRole, IsWholeSaid, IsWholeTrack, IsWholeBurst, step_whole}
 use Rattle.dmr_voice.proofs.Existing.{carried_whole, burst_somehow}

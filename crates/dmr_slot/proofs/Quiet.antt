@@ -9,7 +9,7 @@ use Rattle.dmr_hearing.specs.declared.heard.Heard.{Heard}
 use Rattle.dmr_link.specs.declared.full_lc.FullLc.{FullLc}
 use Rattle.dmr_voice.specs.CallRules.{step_of, nothing_repeated}
 use Rattle.dmr_voice.specs.declared.place.Place.TheVariants.{A, B, C, D, E, F}
-use Rattle.dmr_voice.specs.declared.said.Said.{Said}
+use Rattle.dmr_voice.specs.Said.{Said}
 use Rattle.dmr_voice.specs.declared.track.Track.{Track}
 use Rattle.dmr_voice.specs.declared.track.Track.TheVariants.{Idle, AfterHeader, Gap, InCall}
 use Rattle.dmr_slot.specs.LineRules.{LineMemory, EndsSilent, IsPush, moved}

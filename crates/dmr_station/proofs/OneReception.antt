@@ -4,9 +4,7 @@ use Rattle.dmr_gateway.proofs.OneOfEach.{read_alike}
 use Rattle.dmr_gateway.specs.RecordMeaning.{received_now}
 use Rattle.dmr_gateway.specs.declared.heard.Heard.{Heard}
 use Rattle.dmr_gateway.specs.declared.received.Received.{Received}
-use Rattle.dmr_voice.specs.declared.said.Content.TheVariants.{Data, VoiceA, VoiceBToE, VoiceF}
-use Rattle.dmr_voice.specs.declared.said.Said.{Said}
-use Rattle.dmr_voice.specs.declared.said.Said.TheVariants.{Nothing, Repeat}
+use Rattle.dmr_voice.specs.Said.{Data, VoiceA, VoiceBToE, VoiceF, Said, Nothing, Repeat}
 use Rattle.dmr_station.specs.DownlinkMeaning.{IsHeardOf, AreRecordsOf, IsSameMeaning}
 
 heard_alike : (said : Said) (a b : Heard) → IsHeardOf said a → IsHeardOf said b → a ≡ b

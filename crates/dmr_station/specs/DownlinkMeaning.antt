@@ -15,9 +15,7 @@ use Rattle.dmr_slot.specs.declared.line.SlotOut.{SlotOut}
 use Rattle.dmr_voice.specs.DamagedRecordings.{IsDamagedRecordingOf, meant}
 use Rattle.dmr_voice.specs.CallMeaning.{Transmission, Cell, sent_list}
 use Rattle.dmr_voice.specs.WellFormed.{IsWellFormed}
-use Rattle.dmr_voice.specs.declared.said.Content.TheVariants.{Data}
-use Rattle.dmr_voice.specs.declared.said.Said.{Said}
-use Rattle.dmr_voice.specs.declared.said.Said.TheVariants.{Nothing, Repeat}
+use Rattle.dmr_voice.specs.Said.{Data, Said, Nothing, Repeat}
 use Rattle.dmr_station.specs.Sent.{DownlinkSlots, SlotBursts}
 use Rattle.dmr_station.specs.DownlinkRules.{slots_in, handed_frames, IsDownlinkOf, Makes}
 use Rattle.dmr_station.specs.StationRules.{Settings, Counts}

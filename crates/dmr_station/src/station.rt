@@ -148,11 +148,12 @@ impl Station {
             .decider
             .pass(frame, place, &mut self.fragments, records);
         let outcomes = self.decider.take_outcomes();
+        let came_to = count_outcomes(&outcomes);
         self.counts.frames += 1;
         self.counts.repeated += repeated;
-        self.counts.delivered += count_outcome(Outcome::Delivered, &outcomes);
-        self.counts.sent += count_outcome(Outcome::Sent, &outcomes);
-        self.counts.given_up += count_outcome(Outcome::GivenUp, &outcomes);
+        self.counts.delivered += came_to.delivered;
+        self.counts.sent += came_to.sent;
+        self.counts.given_up += came_to.given_up;
         self.is_at_rest = is_silent(frame) && self.decider.is_at_rest();
     }
 
@@ -230,4 +231,34 @@ fn count_outcome(outcome: Outcome, told: &[Option<Outcome>; 2]) -> u32
     ensures bound { result ≤ 2 }
 {
     u32::from(is_outcome(outcome, told[0])) + u32::from(is_outcome(outcome, told[1]))
+}
+
+/// What packets came to in a frame.
+#[derive(Clone, Copy)]
+struct OutcomeCounts {
+    delivered: u32,
+    sent: u32,
+    given_up: u32,
+}
+
+/// Counts what packets came to in a frame, one in each slot at most.
+fn count_outcomes(told: &[Option<Outcome>; 2]) -> OutcomeCounts
+    ensures delivered { result.delivered ≡ outcome_count Outcome.Delivered (flat_map option_to_list told.now) }
+    ensures sent { result.sent ≡ outcome_count Outcome.Sent (flat_map option_to_list told.now) }
+    ensures given_up { result.given_up ≡ outcome_count Outcome.GivenUp (flat_map option_to_list told.now) }
+    ensures few { (result.delivered ≤ 2) × (result.sent ≤ 2) × (result.given_up ≤ 2) }
+{
+    // In most frames no packet is done.
+    if told[0].is_none() && told[1].is_none() {
+        return OutcomeCounts {
+            delivered: 0,
+            sent: 0,
+            given_up: 0,
+        };
+    }
+    OutcomeCounts {
+        delivered: count_outcome(Outcome::Delivered, told),
+        sent: count_outcome(Outcome::Sent, told),
+        given_up: count_outcome(Outcome::GivenUp, told),
+    }
 }

@@ -18,16 +18,14 @@ use Rattle.dmr_voice.specs.Bursts.{IsField, IsBurstWith}
 use Rattle.dmr_voice.specs.CallRules.{role_after, on_data, if_data, at_place, heard_place, nothing_repeated, after_header, decide}
 use Rattle.dmr_voice.specs.CallRules.{step_of}
 use Rattle.dmr_voice.specs.Carried.{is_carrying, IsCarried}
+use Rattle.dmr_voice.proofs.Fitting.{low_lcss}
 use Rattle.dmr_voice.specs.Places.{next, lcss, field_number, voice_of, option_or}
 use Rattle.dmr_voice.specs.Window.{is_heard, all_absent, voice_comes, own_comes}
 use Rattle.dmr_voice.specs.declared.place.Place.{Place}
 use Rattle.dmr_voice.specs.declared.place.Place.TheVariants.{A, B, C, D, E, F}
-use Rattle.dmr_voice.specs.declared.said.Content.{Content}
-use Rattle.dmr_voice.specs.declared.said.Content.TheVariants.{Data, VoiceA, VoiceBToE, VoiceF}
+use Rattle.dmr_voice.specs.Said.{Content, Data, VoiceA, VoiceBToE, VoiceF, Said, Nothing, Repeat}
 use Rattle.dmr_voice.specs.declared.said.Role.{Role}
 use Rattle.dmr_voice.specs.declared.said.Role.TheVariants.{Call, Other}
-use Rattle.dmr_voice.specs.declared.said.Said.{Said}
-use Rattle.dmr_voice.specs.declared.said.Said.TheVariants.{Nothing, Repeat}
 use Rattle.dmr_voice.specs.declared.track.Header.{Header}
 use Rattle.dmr_voice.specs.declared.track.Track.{Track}
 use Rattle.dmr_voice.specs.declared.track.Track.TheVariants.{Idle, AfterHeader, Gap, InCall}
@@ -160,15 +158,6 @@ carried_whole colour ahead carried is =
     ]
 
 -- ---- bursts
-low_lcss : (place : Place) (lc : Option FullLc) → lcss place lc < 4
-low_lcss place None = lit< tt
-low_lcss A (Some lc) = lit< tt
-low_lcss B (Some lc) = lit< tt
-low_lcss C (Some lc) = lit< tt
-low_lcss D (Some lc) = lit< tt
-low_lcss E (Some lc) = lit< tt
-low_lcss F (Some lc) = lit< tt
-
 low_field : (place : Place) → field_number place < 4
 low_field A = lit< tt
 low_field B = lit< tt

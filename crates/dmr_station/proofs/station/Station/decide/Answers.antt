@@ -18,9 +18,9 @@ invariant_of-self c =
     let e = old.sent in
     let f = old.given_up in
     let x = c.pass-repeated.ensures.bound in
-    let y = c.count_outcome.ensures.bound in
-    let z = c.count_outcome-2.ensures.bound in
-    let w = c.count_outcome-3.ensures.bound in (
+    let y = c.count_outcomes-came_to.ensures.few.0 in
+    let z = c.count_outcomes-came_to.ensures.few.1 in
+    let w = c.count_outcomes-came_to.ensures.few.2 in (
       record {
         frames = omega arith;
         repeated = omega arith;
