@@ -142,7 +142,7 @@ NAMED = re.compile(
     r"|no confirmed packet in this slot to try again|a block past the packet|more than five silences between header and voice"
     r"|more than five slots in front of the first A|six absent places in a row|none of the five places behind the first A is there"
     r"|a terminator stands in the place of an A|the last place is absent|of another colour code it begins and ends with a burst"
-    r"|behind a voice sync of another colour code an EMB stands within five slots|burst \d+ reads as a sync of a mobile station"
+    r"|behind a voice sync of another colour code an EMB stands within five slots"
     r"|\d+ silences where \d+ are needed behind line \d+|frame \d+ has passed: the slot stands at \d+"
     r"|too long: more than (1048576 frames|1048576 datagrams to send|65536 octets)|the number of frames stands once"
     r"|\d+ frames are too few: \d+ are sent"

@@ -222,8 +222,8 @@ tail_seen colour call forms (b ∷ c ∷ d ∷ e ∷ f ∷ []) le =
     )
 tail_seen colour call forms (a ∷ b ∷ c ∷ d ∷ e ∷ f ∷ more) le = absurd (omega arith)
 
--- behind some of its first slots
-all_drop : {X : Type 0} (P : X → Type 0) (n : ℕ) (xs : List X) → AllByRecursion P xs → AllByRecursion P (drop n xs)
+-- What holds of all of a list holds behind some of its first.
+pub all_drop : {X : Type 0} (P : X → Type 0) (n : ℕ) (xs : List X) → AllByRecursion P xs → AllByRecursion P (drop n xs)
 all_drop P zero xs p = p
 all_drop P (suc n) [] p = tt
 all_drop P (suc n) (x ∷ xs) p = all_drop P n xs p.1

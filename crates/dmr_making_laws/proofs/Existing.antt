@@ -1,5 +1,5 @@
 -- There are lists of what is planned for a slot.
-use Rattle.std.proofs.Common.{◌≡◌, ℕ, ◌+◌, ◌-◌, List, [], ◌∷◌, All, refl}
+use Rattle.std.proofs.Common.{ℕ, ◌+◌, ◌-◌, List, [], ◌∷◌, All, refl}
 use Rattle.std.proofs.lemmas.List.Elements.{All-head, All-tail}
 use Rattle.std.specs.List.{AllByRecursion}
 use Rattle.dmr_making.proofs.Existing.{said_somehow}

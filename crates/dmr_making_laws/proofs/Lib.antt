@@ -1,9 +1,10 @@
 mod CallPlaces
 mod CallSlots
 mod Counts
+mod EvenFields
 mod Examples
 mod Existing
-mod Held
+mod FarFromSyncs
 mod Listing
 mod OneRecorded
 mod OtherColours

@@ -48,7 +48,6 @@ one_placed own all n old new well there fits t u is =
     let w : IsWellSaid own (packet_in all old.state.packet) one n.transmit = record {
       fits = fits;
       sendable = t.next.sendable;
-      unmistaken = t.next.unmistaken;
       other = well n.statement n.transmit there;
       count = next.length;
     } in

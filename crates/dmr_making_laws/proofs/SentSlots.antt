@@ -1,24 +1,19 @@
 -- What the slots of a transmission of a script send, by its kind.
 use Rattle.std.proofs.Common.{◌≡◌, ℕ, Bool, true, false, List, [], ◌∷◌, map, length, replicate}
 use Rattle.std.proofs.Common.{Option, Some, None, subst, sym}
-use Rattle.std.specs.List.{AllByRecursion, AllZip}
+use Rattle.std.specs.List.{AllByRecursion}
 use Rattle.dmr_burst.specs.DataTypes as data_type
 use Rattle.dmr_data.specs.declared.rate.Rate.{Rate}
 use Rattle.dmr_hearing.specs.Slots.{SentSlot, Silent, Data, VoiceSync, Voice, ForeignVoice, ForeignData, CutOff}
 use Rattle.dmr_making.proofs.Seen.{all_append}
 use Rattle.dmr_making.specs.Controls.{csbk_control, lone_control}
 use Rattle.dmr_making.specs.Packets.{status_try}
-use Rattle.dmr_making.specs.Seen.{IsSeenAs}
 use Rattle.dmr_making.specs.Sends.{SendsAgain, SendsSaid, SendsTry, Transmitted, one_burst}
 use Rattle.dmr_making.specs.Tries.{block_slots}
-use Rattle.dmr_making_laws.proofs.Held.{IsFree}
-use Rattle.dmr_making_laws.proofs.Told.{ArePlacesSent, IsNoSync, IsSentPlace, foreign_slot}
-use Rattle.dmr_script.specs.Shapes.{next_place}
+use Rattle.dmr_making_laws.proofs.Told.{IsNoSync}
 use Rattle.dmr_script.specs.declared.packet.Again.{Again}
 use Rattle.dmr_script.specs.declared.packet.Again.TheVariants as again
 use Rattle.dmr_script.specs.declared.packet.PacketTry.{PacketTry}
-use Rattle.dmr_script.specs.declared.shape.Place.{Place}
-use Rattle.dmr_script.specs.declared.shape.Place.TheVariants as letter
 use Rattle.dmr_script.specs.declared.statement.Transmission.{Transmission as Said}
 use Rattle.dmr_script.specs.declared.statement.Transmission.TheVariants as said
 use Rattle.dmr_voice.specs.CallMeaning.{Control}
@@ -49,53 +44,6 @@ one_no_sync CutOff p = absurd p
 pub no_sync : (slots : List SentSlot) → AllByRecursion IsDataOrSilent slots → AllByRecursion IsNoSync slots
 no_sync [] p = tt
 no_sync (s ∷ slots) p = (one_no_sync s p.0, no_sync slots p.1)
-
--- in another channel too
-one_free : (slot : SentSlot) → IsDataOrSilent slot → IsFree (foreign_slot slot)
-one_free Silent p = λ held. held
-one_free (Data kind information lc) p = λ held. held
-one_free VoiceSync p = absurd p
-one_free (Voice emb embedded) p = absurd p
-one_free (ForeignVoice emb) p = absurd p
-one_free ForeignData p = absurd p
-one_free CutOff p = absurd p
-
--- In another channel any of them may read as a sync.
-pub foreign_free : (slots : List SentSlot) → AllByRecursion IsDataOrSilent slots → AllByRecursion IsFree (map foreign_slot slots)
-foreign_free [] p = tt
-foreign_free (s ∷ slots) p = (one_free s p.0, foreign_free slots p.1)
-
--- and in the own one
-own_free : (slot : SentSlot) → IsDataOrSilent slot → IsFree slot
-own_free Silent p = λ held. held
-own_free (Data kind information lc) p = λ held. held
-own_free VoiceSync p = absurd p
-own_free (Voice emb embedded) p = absurd p
-own_free (ForeignVoice emb) p = absurd p
-own_free ForeignData p = absurd p
-own_free CutOff p = absurd p
-
--- In the own one too.
-pub data_free : (slots : List SentSlot) → AllByRecursion IsDataOrSilent slots → AllByRecursion IsFree slots
-data_free [] p = tt
-data_free (s ∷ slots) p = (own_free s p.0, data_free slots p.1)
-
-seen_free : (h slot : SentSlot) → IsSeenAs h slot → IsDataOrSilent slot → IsFree h
-seen_free Silent slot e p = λ held. held
-seen_free (Data kind information lc) slot e p = λ held. held
-seen_free VoiceSync slot e p = λ held. held
-seen_free (Voice emb embedded) slot e p = λ held. held
-seen_free (ForeignVoice emb) slot e p = λ held. subst IsDataOrSilent e p
-seen_free ForeignData slot e p = λ held. held
-seen_free CutOff slot e p = λ held. subst IsDataOrSilent e.2 p
-
--- So it is with what is seen as them.
-pub all_free : (hs slots : List SentSlot) → AllZip IsSeenAs hs slots → AllByRecursion IsDataOrSilent slots
-    → AllByRecursion IsFree hs
-all_free [] [] s p = tt
-all_free [] (x ∷ slots) s p = absurd s
-all_free (h ∷ hs) [] s p = absurd s
-all_free (h ∷ hs) (x ∷ slots) s p = (seen_free h x s.0 p.0, all_free hs slots s.1 p.1)
 
 -- 2. Tries and control blocks.
 
@@ -151,22 +99,3 @@ said_data colour last (said.Status d) sent none s =
 said_data colour last (said.Answer a) sent none s = try_data s.0 a.shape.preambles a.shape.blocks.items sent s.2
 said_data colour last (said.Control csbk) sent none s = one_data (csbk_control s.0) sent s.2
 said_data colour last (said.Burst lone) sent none s = one_data (lone_control lone s.0) sent s.2
-
--- 3. Places of a call.
-
-place_free : (place : Place) (there : Bool) (slot : SentSlot) → IsSentPlace place there slot → IsFree slot
-place_free place false slot e = subst IsFree (sym e) (λ held. held)
-place_free letter.A true slot e = subst IsFree (sym e) (λ held. held)
-place_free letter.B true slot e = subst IsFree (sym e.2) (λ held. held)
-place_free letter.C true slot e = subst IsFree (sym e.2) (λ held. held)
-place_free letter.D true slot e = subst IsFree (sym e.2) (λ held. held)
-place_free letter.E true slot e = subst IsFree (sym e.2) (λ held. held)
-place_free letter.F true slot e = subst IsFree (sym e.2) (λ held. held)
-
--- The places of a call may read as a sync, where their header is known.
-pub places_free : (place : Place) (bs : List Bool) (slots : List SentSlot) → ArePlacesSent place bs slots
-    → AllByRecursion IsFree slots
-places_free place [] [] p = tt
-places_free place [] (s ∷ slots) p = absurd p
-places_free place (b ∷ bs) [] p = absurd p
-places_free place (b ∷ bs) (s ∷ slots) p = (place_free place b s p.0, places_free (next_place place) bs slots p.1)

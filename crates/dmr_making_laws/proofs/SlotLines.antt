@@ -14,8 +14,7 @@ use Rattle.dmr_making.specs.Senders.{colour_of}
 use Rattle.dmr_making.specs.Standing.{StandsAt}
 use Rattle.dmr_making.specs.declared.playing.PlacedTransmission.{PlacedTransmission}
 use Rattle.dmr_making_laws.proofs.Counts.{sent_length}
-use Rattle.dmr_making_laws.proofs.Held.{AreMadeFrom}
-use Rattle.dmr_making_laws.proofs.OneRecorded.{one_recorded}
+use Rattle.dmr_making_laws.proofs.OneRecorded.{AreMadeFrom, one_recorded}
 use Rattle.dmr_making_laws.proofs.WellSaid.{IsWellPlaced, IsWellSaid}
 use Rattle.dmr_making_laws.specs.Lists.{IsInChannel, IsListOf, heard_by, in_front_of, silences_in_front}
 use Rattle.dmr_planning.proofs.Planned.{EndsBy}
@@ -235,8 +234,8 @@ placed_recorded own all p t ms w c made =
     let well : IsWellSaid own (packet_in all p.packet) p c.transmit = w c.transmit c.there in
     subst (λ (x : Transmission). AllZip (IsCellRecorded own) (cells own x) ms) (sym c.is)
     (of_sent own (cells own (heard_by c.transmit.sender c.sent)) ms
-    (one_recorded own (packet_in all p.packet) p c.transmit.sender c.transmit.transmission c.sent ms well.other well.fits.sender
-    well.sendable c.sends well.unmistaken (channel_count own all p t w c) made))
+    (one_recorded own (packet_in all p.packet) p.start c.transmit.sender c.transmit.transmission c.sent ms well.other
+    well.fits.sender well.sendable c.sends made))
 
 -- so many more of equals
 replicate_more : {X : Type 0} (n m k : ℕ) (x : X) → k ≡ n + m → replicate n x ++ replicate m x ≡ replicate k x

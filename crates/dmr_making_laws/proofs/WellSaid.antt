@@ -5,18 +5,15 @@ use Rattle.dmr_making.specs.Senders.{IsSendable}
 use Rattle.dmr_making.specs.declared.playing.PlacedTransmission.{PlacedTransmission}
 use Rattle.dmr_making_laws.proofs.OtherColours.{IsOtherThan}
 use Rattle.dmr_planning.specs.Counting.{slot_count}
-use Rattle.dmr_planning.specs.Syncs.{IsUnmistaken}
 use Rattle.dmr_script.specs.Fits.{FitsTransmit}
 use Rattle.dmr_script.specs.declared.packet.PacketTry.{PacketTry}
 use Rattle.dmr_script.specs.declared.statement.NumberedStatement.{NumberedStatement}
 use Rattle.dmr_script.specs.declared.statement.Transmit.{Transmit}
 
--- A transmission fits, may be sent, is mistaken for nothing else, has another colour code or is the own station's, and has as many
--- slots as are counted.
+-- A transmission fits, may be sent, has another colour code or is the own station's, and has as many slots as are counted.
 pub record IsWellSaid (own : ℕ) (last : Option PacketTry) (p : PlacedTransmission) (t : Transmit) : Type 0 where
   pub fits : FitsTransmit t
   pub sendable : IsSendable last t.transmission
-  pub unmistaken : IsUnmistaken own t last p t.transmission
   pub other : IsOtherThan own t.sender
   pub count : p.length ≡ slot_count t.transmission last
 

@@ -1,10 +1,16 @@
 //! Laws of recordings that are made of scripts, as the contracts of functions that do nothing.
-ghost use Rattle.std.specs.Prelude.{◌≡◌, ℕ, Option, length};
+ghost use Rattle.std.specs.Prelude.{◌≡◌, ℕ, Contains, List, Option, Some, length};
+ghost use Rattle.dmr_bits.specs.Bits.{bits_of_octets};
+ghost use Rattle.dmr_burst.specs.declared.emb.Emb.{Emb};
+ghost use Rattle.dmr_hearing.specs.Damage.{HasNoMobileSync};
+ghost use Rattle.dmr_hearing.specs.Slots.{Voice};
+ghost use Rattle.dmr_making.specs.Made.{IsMade};
 ghost use Rattle.dmr_making.specs.Senders.{IsSendable};
-ghost use Rattle.dmr_making.specs.Sends.{SendsSaid, Transmitted};
+ghost use Rattle.dmr_making.specs.Sends.{SendsCall, SendsSaid, Transmitted};
 ghost use Rattle.dmr_making_laws.specs.Scripts.{ListsAreWellFormed, PlansHaveLists};
 ghost use Rattle.dmr_making_laws.specs.Scripts.{RecordingsAreOfTheirLists, RunsWriteWhatScriptsMean};
 ghost use Rattle.dmr_planning.specs.Counting.{slot_count};
+ghost use Rattle.dmr_script.specs.declared.call.Call.{Call};
 ghost use Rattle.dmr_script.specs.declared.packet.PacketTry.{PacketTry};
 ghost use Rattle.dmr_script.specs.declared.statement.Transmission.{Transmission};
 
@@ -12,6 +18,14 @@ ghost use Rattle.dmr_script.specs.declared.statement.Transmission.{Transmission}
 pub fn transmissions_have_their_slots()
     ensures law { (colour : ℕ) (last : Option PacketTry) (said : Transmission) (sent : Transmitted) → IsSendable last said
         → SendsSaid colour last said sent → length sent.slots ≡ slot_count said last }
+{}
+
+/// No voice burst with an EMB that a call of a script sends reads as a sync of a mobile station, with whatever colour code and in
+/// whatever frame.
+pub fn voice_bursts_are_far_from_syncs()
+    ensures law { (colour frame : ℕ) (call : Call) (sent : Transmitted) (emb : Emb) (embedded : ℕ) (octets : List ℕ)
+        → SendsCall colour call sent → Contains sent.slots (Voice emb embedded)
+        → IsMade colour frame (Voice emb embedded) (Some octets) → HasNoMobileSync (bits_of_octets octets) }
 {}
 
 /// Each plan of a script has lists: there are slots that each of its transmissions sends.

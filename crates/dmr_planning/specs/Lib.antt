@@ -8,5 +8,4 @@ pub mod Plans
 pub mod Refused
 pub mod Sending
 pub mod Slots
-pub mod Syncs
 pub mod Tries

@@ -6,7 +6,6 @@ use Rattle.dmr_making.specs.Senders.{IsSendable}
 use Rattle.dmr_making.specs.declared.playing.PlacedTransmission.{PlacedTransmission}
 use Rattle.dmr_planning.specs.Counting.{slot_count}
 use Rattle.dmr_planning.specs.Pauses.{before_behind, needed, paused, silenced, silenced_to, stands}
-use Rattle.dmr_planning.specs.Syncs.{IsMistakenAt, IsUnmistaken}
 use Rattle.dmr_planning.specs.Tries.{try_fault}
 use Rattle.dmr_planning.specs.declared.slot_plan.Numbered.{Numbered}
 use Rattle.dmr_planning.specs.declared.slot_plan.SlotPlan.{SlotPlan}
@@ -96,14 +95,13 @@ last_packet statements s = packet_in statements s.packet
 abbrev pub count_behind : List NumberedStatement → SlotState → Transmit → ℕ
 count_behind statements s t = slot_count t.transmission (last_packet statements s)
 
--- A transmission is placed here in a slot that stands so. What it tries again fits it, where it tries something again; no burst of
--- it is mistaken for another; and it stands behind enough silences.
+-- A transmission is placed here in a slot that stands so. What it tries again fits it, where it tries something again; and it
+-- stands behind enough silences.
 pub record IsPlacedNext (statements : List NumberedStatement) (own : ℕ) (n : NumberedTransmit) (s : SlotState)
     (one : PlacedTransmission) : Type 0 where
   pub fits : try_fault n.transmit.transmission (last_packet statements s) ≡ None
   pub sendable : IsSendable (last_packet statements s) n.transmit.transmission
   pub is : placed_behind s own n (count_behind statements s n.transmit) ≡ Ok one
-  pub unmistaken : IsUnmistaken own n.transmit (last_packet statements s) one n.transmit.transmission
 
 -- A transmission more was planned.
 pub record IsTransmitted (statements : List NumberedStatement) (own : ℕ) (n : NumberedTransmit) (old new : SlotSoFar) : Type 0 where
@@ -112,20 +110,10 @@ pub record IsTransmitted (statements : List NumberedStatement) (own : ℕ) (n : 
   pub placed : new.placed ≡ old.placed ++ one ∷ []
   pub state : new.state ≡ slot_state_behind old.state own n one
 
--- a burst of it would be mistaken where it is placed, and is told by its number, counted from 1
-pub record IsMistaken (statements : List NumberedStatement) (own : ℕ) (n : NumberedTransmit) (s : SlotState)
-    (e : Refusal) : Type 0 where
-  pub one : PlacedTransmission
-  pub is : placed_behind s own n (count_behind statements s n.transmit) ≡ Ok one
-  pub slot : ℕ
-  pub told : e ≡ refusal.ReadsAsSync (slot + 1)
-  pub mistaken : IsMistakenAt own n.transmit (last_packet statements s) one slot n.transmit.transmission
-
 -- Why a transmission isn't planned: it doesn't fit what it tries again, or has nothing to try again; it is longer than a recording;
--- it has too few silences in front of it, or no room; or a burst of it would be mistaken.
+-- or it has too few silences in front of it, or no room.
 abbrev pub IsUntransmitted : List NumberedStatement → ℕ → NumberedTransmit → SlotState → Refusal → Type 0
 IsUntransmitted statements own n s e =
     (try_fault n.transmit.transmission (last_packet statements s) ≡ Some e)
     ⊎ ((1048576 < count_behind statements s n.transmit) × (e ≡ refusal.TooLong))
     ⊎ (placed_behind s own n (count_behind statements s n.transmit) ≡ Err e)
-    ⊎ IsMistaken statements own n s e

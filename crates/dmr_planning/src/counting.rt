@@ -34,7 +34,7 @@ fn silences_behind(call: &Call, headers: &Headers) -> usize
 }
 
 /// How many slots stand in front of the first A of a call.
-pub(crate) fn before_voice(call: &Call) -> Option<u32>
+fn before_voice(call: &Call) -> Option<u32>
     ensures value { IfSome result (λ n. n ≡ spec.before_voice call.now) }
     ensures few { IfSome result (λ n. n ≤ 1048576) }
     ensures many { IfNone result (1048576 < spec.before_voice call.now) }

@@ -15,7 +15,6 @@ mod planner;
 mod sends;
 mod slot_plan;
 mod slot_state;
-mod syncs;
 mod tries;
 mod udp;
 

@@ -141,7 +141,6 @@ impl Planner {
         own: u8,
         numbered: Numbered<'_>,
     ) -> Result<(), Halt>
-        requires own { own < 16 }
         requires statements { All FitsNumbered statements.now }
         requires fit { FitsTransmit numbered.transmit.now }
         requires within { AreSlotsWithin (planned_by self.old) }
@@ -205,7 +204,6 @@ impl Planner {
         numbered: &NumberedStatement,
         is_outgoing_taken: bool,
     ) -> Result<(), Halt>
-        requires own { own < 16 }
         requires statements { All FitsNumbered statements.now }
         requires fit { FitsStatement numbered.now.statement }
         requires within { AreSlotsWithin (planned_by self.old) }
@@ -243,7 +241,6 @@ impl Planner {
         own: u8,
         is_outgoing_taken: bool,
     ) -> Result<(), PlanFault>
-        requires own { own < 16 }
         requires statements { All FitsNumbered statements.now }
         requires fresh { planned_by self.old ≡ spec.nothing_planned }
         ensures within { OnOk result (AreSlotsWithin (planned_by self.new)) }

@@ -1,6 +1,5 @@
 //! The transmissions of a slot, one behind another.
-ghost use Rattle.std.specs.Prelude.{◌≡◌, ◌+◌, ◌<◌, ◌≤◌, Ok, Err, All, IfOk, IfErr, OnOk, None};
-ghost use Rattle.dmr_making.specs.Senders.{IsSenderColour};
+ghost use Rattle.std.specs.Prelude.{◌≡◌, ◌+◌, ◌≤◌, Ok, Err, All, IfOk, IfErr, OnOk, None};
 ghost use Rattle.dmr_planning.specs.Halts.{IfHaltRefused};
 ghost use Rattle.dmr_planning.specs.Pauses as pauses;
 ghost use Rattle.dmr_planning.specs.Pauses.{stands};
@@ -12,9 +11,8 @@ ghost use Rattle.dmr_script.specs.Fits.{FitsNumbered, FitsTransmit};
 use crate::counting::slot_count;
 use crate::halt::Halt;
 use crate::slot_state::{SlotState, before_behind};
-use crate::syncs::hold_syncs;
 use crate::tries::hold_try;
-use dmr_making::{PlacedTransmission, SlotTransmission, packet_in};
+use dmr_making::{PlacedTransmission, packet_in};
 use dmr_record::FRAME_LIMIT;
 use dmr_script::{NumberedStatement, Refusal, Transmission, Transmit};
 use std::alloc::Global;
@@ -138,7 +136,6 @@ impl SlotPlan {
         own: u8,
         numbered: Numbered<'_>,
     ) -> Result<PlacedTransmission, Refusal>
-        requires own { own < 16 }
         requires statements { All FitsNumbered statements.now }
         requires fit { FitsTransmit numbered.transmit.now }
         requires within { stands self.now.state ≤ 1048576 }
@@ -152,9 +149,7 @@ impl SlotPlan {
         let Some(count) = slot_count(&transmit.transmission, last) else {
             return Err(Refusal::TooLong);
         };
-        let placed = placed_behind(self.state, own, numbered, count)?;
-        hold_syncs(SlotTransmission { transmit, last }, own, placed)?;
-        Ok(placed)
+        placed_behind(self.state, own, numbered, count)
     }
 
     /// A transmission more: where the slot stands, or behind the fewest silences that may be there where none are named.
@@ -164,7 +159,6 @@ impl SlotPlan {
         own: u8,
         numbered: Numbered<'_>,
     ) -> Result<(), Halt>
-        requires own { own < 16 }
         requires statements { All FitsNumbered statements.now }
         requires fit { FitsTransmit numbered.transmit.now }
         requires within { stands self.old.state ≤ 1048576 }

@@ -104,9 +104,6 @@ pub enum Refusal {
     /// A voice sync of another colour code can't be told from one of the own.
     #[error("behind a voice sync of another colour code an EMB stands within five slots")]
     ForeignSync,
-    /// A burst of a call would be heard as one with a sync. Told by what makes transmissions.
-    #[error("burst {0} reads as a sync of a mobile station")]
-    ReadsAsSync(u32),
     /// Too few silences stand between two transmissions. Told by what makes transmissions.
     #[error("{found} silences where {needed} are needed behind line {behind}")]
     FewSilences {
