@@ -258,14 +258,14 @@ fn failing_reads(rt: HostRuntime) {
     }
 }
 
-// Of the downlink the two pieces of the head, and each of fourteen slots; of the received file the two pieces of the head, and
-// those of a status.
+// Of the downlink the two pieces of the head, and each of seven frames; of the received file the two pieces of the head, and those
+// of a status.
 #[test]
 fn failing_writes(rt: HostRuntime) {
     let status = status_burst();
     let uplink = joined(&rt, rt.alloc(), &[&UPLINK, &[1], &status, &[0]]);
     let outgoing = joined(&rt, rt.alloc(), &ONE_DATAGRAM);
-    for (stream, calls) in [(Stream::Downlink, 2 + 14), (Stream::Received, 2 + 2)] {
+    for (stream, calls) in [(Stream::Downlink, 2 + 7), (Stream::Received, 2 + 2)] {
         let failed = fail_in_turn(
             &rt,
             rt.alloc(),
