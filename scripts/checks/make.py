@@ -452,6 +452,17 @@ def check_longest(report):
         report.expect(f"{count} superframes", is_so, ran)
 
 
+def check_longest_list(report):
+    """The longest list of datagrams to send, and one that is longer."""
+    for count, status in ((1_048_576, 0), (1_048_577, 1)):
+        script = b"slot 1\n" + count * b"send at 1, octets -\n"
+        ran = report.call("make", "-", "/dev/null", "--outgoing", "/dev/null", given=script)
+        line = f"frames 0 slot-1 0 slot-2 0 transmissions 0 datagrams {count}\n"
+        told = "error: -: line 1048578: too long: more than 1048576 datagrams to send\n"
+        is_so = (ran.status, ran.out.decode(), ran.err.decode()) == ((0, line, "") if status == 0 else (1, "", told))
+        report.expect(f"{count} datagrams to send", is_so, ran)
+
+
 def check_bench(report):
     """The bench in one pipe finds no difference."""
     env = {**os.environ, "DMRGATE": str(report.script)}
@@ -470,4 +481,5 @@ def check(report):
     check_bent(report)
     check_files(report)
     check_longest(report)
+    check_longest_list(report)
     check_bench(report)

@@ -12,7 +12,7 @@ macro_rules! sums {
 }
 
 /// For each of the first 24 octets of received bits, and each octet there, its part of the information: the first 64 bits of it,
-/// and the last 32.
+/// and the last 32. The last four of the bits hold none of it.
 const INFORMATION: [[[u64; 2]; 256]; 24] = [
     sums!([[0, 0]]
         [0x0000000000000000, 0x00000000]
@@ -256,18 +256,10 @@ const INFORMATION: [[[u64; 2]; 256]; 24] = [
     ),
 ];
 
-/// The same for the last four of the bits.
-const LAST: [[u64; 2]; 16] = sums!([[0, 0]]
-    [0x0000000000000000, 0x00000000]
-    [0x0000000000000000, 0x00000000]
-    [0x0000000000000000, 0x00000000]
-    [0x0000000000000000, 0x00000000]
-);
-
 /// The information of bits of which none is wrong. Of others it is a guess, so that its user has to check it, and no clause
 /// says what it is.
 pub(crate) fn likely_information(received: &Bits<196>) -> Bits<96> {
-    let mut sum = LAST[received.field(192, 4) as usize];
+    let mut sum = [0, 0];
     for word in 0..3 {
         let octets = received.field(64 * word, 64).to_be_bytes();
         for place in 0..8 {

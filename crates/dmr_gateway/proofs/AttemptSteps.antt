@@ -9,7 +9,7 @@ use Rattle.dmr_arq.specs.declared.serials.Selection.{Selection}
 use Rattle.dmr_arq.specs.SenderRules as sender
 use Rattle.dmr_gateway.specs.declared.answers.Due.{Due}
 use Rattle.dmr_gateway.specs.declared.answers.HeardAnswer.{HeardAnswer}
-use Rattle.dmr_gateway.specs.declared.outbox.SlotBurst.{SlotBurst}
+use Rattle.dmr_gateway.specs.SlotBurst.{SlotBurst}
 use Rattle.dmr_gateway.specs.declared.queue.Queued.{Queued}
 use Rattle.dmr_gateway.specs.AttemptMeaning.{Answers, Tries, Attempt, Stage, Ready, Begun, Awaits, Hand, Owing, Ledger, Goes}
 use Rattle.dmr_gateway.specs.AttemptMeaning.{bursts_of, goes, goes_on, try_stands}

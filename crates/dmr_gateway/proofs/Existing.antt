@@ -51,8 +51,8 @@ use Rattle.dmr_gateway.specs.declared.answers.Due.{Due}
 use Rattle.dmr_gateway.specs.declared.fault.GatewayFault.{GatewayFault}
 use Rattle.dmr_gateway.specs.declared.fault.GatewayFault.TheVariants.{TooLong}
 use Rattle.dmr_gateway.specs.declared.heard.Heard.{Heard}
-use Rattle.dmr_gateway.specs.declared.outbox.SlotBurst.{SlotBurst}
-use Rattle.dmr_gateway.specs.declared.outbox.SlotBurst.TheVariants as burst
+use Rattle.dmr_gateway.specs.SlotBurst.{SlotBurst}
+use Rattle.dmr_gateway.specs.SlotBurst as burst
 use Rattle.dmr_gateway.specs.declared.queue.Queued.{Queued}
 use Rattle.dmr_gateway.proofs.Bodies.{flag_packet_count, flag_block_fits}
 use Rattle.dmr_gateway.proofs.Forms.{form_length, datagram_length, same_octets}

@@ -22,8 +22,8 @@ use Rattle.dmr_gateway.specs.Heard.{Tells, IsReadByGateway, IsHeardByGateway, ki
 use Rattle.dmr_gateway.specs.Packets.{IsQueuedBody, IsPacketFor}
 use Rattle.dmr_gateway.specs.declared.answers.Due.{Due}
 use Rattle.dmr_gateway.specs.declared.heard.Heard.{Heard}
-use Rattle.dmr_gateway.specs.declared.outbox.SlotBurst.{SlotBurst}
-use Rattle.dmr_gateway.specs.declared.outbox.SlotBurst.TheVariants as burst
+use Rattle.dmr_gateway.specs.SlotBurst.{SlotBurst}
+use Rattle.dmr_gateway.specs.SlotBurst as burst
 use Rattle.dmr_gateway.specs.declared.queue.Queued.{Queued}
 
 -- 1. What is heard.

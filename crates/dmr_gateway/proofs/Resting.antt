@@ -12,7 +12,7 @@ use Rattle.dmr_gateway.specs.SideRules as side
 use Rattle.dmr_gateway.specs.SideRules.{HasNothing, StaysAtRest, StaysIdle, StaysQuiet, inbox_after, outbox_hears, owes}
 use Rattle.dmr_gateway.specs.declared.inbox.Inbox.{Inbox}
 use Rattle.dmr_gateway.specs.declared.outbox.OutboxState.{OutboxState}
-use Rattle.dmr_gateway.specs.declared.outbox.SlotBurst.{SlotBurst}
+use Rattle.dmr_gateway.specs.SlotBurst.{SlotBurst}
 use Rattle.dmr_gateway.specs.declared.received.Received.{Received}
 use Rattle.dmr_gateway.specs.declared.side.SideState.{SideState}
 

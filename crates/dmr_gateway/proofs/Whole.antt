@@ -36,7 +36,7 @@ use Rattle.dmr_gateway.specs.declared.answers.HeardAnswer.{HeardAnswer}
 use Rattle.dmr_gateway.specs.declared.heard.Heard.{Heard}
 use Rattle.dmr_gateway.specs.declared.outbox.OutboxState.{OutboxState}
 use Rattle.dmr_gateway.specs.declared.outbox.Owed.{Owed}
-use Rattle.dmr_gateway.specs.declared.outbox.SlotBurst.{SlotBurst}
+use Rattle.dmr_gateway.specs.SlotBurst.{SlotBurst}
 use Rattle.dmr_gateway.specs.declared.queue.Queued.{Queued}
 use Rattle.dmr_gateway.specs.declared.side.SideState.{SideState}
 use Rattle.dmr_gateway.specs.declared.fault.GatewayFault.{GatewayFault}

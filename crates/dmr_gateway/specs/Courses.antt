@@ -7,7 +7,7 @@ use Rattle.std.specs.List.{AllByRecursion}
 use Rattle.std.specs.Option.{option_or}
 use Rattle.dmr_gateway.specs.Answers.{flag_count}
 use Rattle.dmr_gateway.specs.declared.answers.Due.{Due}
-use Rattle.dmr_gateway.specs.declared.outbox.SlotBurst.{SlotBurst}
+use Rattle.dmr_gateway.specs.SlotBurst.{SlotBurst}
 use Rattle.dmr_gateway.specs.AttemptMeaning.{AnswerOrTry, Answers, Tries, Attempt, Stage, Ready, Begun, Awaits, Hand, Ledger}
 use Rattle.dmr_gateway.specs.AttemptMeaning.{Brings}
 use Rattle.dmr_gateway.specs.AttemptMeaning.{attempts}

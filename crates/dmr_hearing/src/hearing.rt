@@ -64,7 +64,7 @@ fn hear_burst(burst: &[u8; 33], colour: u8, heard: &mut Heard)
     ensures heard { Hears colour (Some burst.now) heard.new }
 {
     let sync = read_mobile_sync(burst);
-    heard.data_burst = hear_data_burst(burst, sync, colour);
+    hear_data_burst(burst, sync, colour, &mut heard.data_burst);
     heard.voice = sync.unwrap_or(false);
     heard.emb = read_emb(burst);
     heard.embedded = read_embedded(burst);
@@ -72,38 +72,41 @@ fn hear_burst(burst: &[u8; 33], colour: u8, heard: &mut Heard)
 }
 
 /// The data burst of a burst, of which this is the sync, with the data sync of a mobile station.
-fn hear_data_burst(burst: &[u8; 33], sync: Option<bool>, colour: u8) -> Option<DataBurst>
+fn hear_data_burst(burst: &[u8; 33], sync: Option<bool>, colour: u8, place: &mut Option<DataBurst>)
     requires within { IfSome sync (λ voice. HasSync (record { side = side.Ms; voice = voice }) (bits_of_octets burst.now)) }
     requires only { (voice : Bool) → HasSync (record { side = side.Ms; voice = voice }) (bits_of_octets burst.now)
         → sync ≡ Some voice }
-    ensures within { IfSome result (λ data_burst. IsHeardData colour data_burst (bits_of_octets burst.now)) }
-    ensures only { (data_burst : DataBurst) → IsHeardData colour data_burst (bits_of_octets burst.now) → result ≡ Some data_burst }
+    ensures within { IfSome place.new (λ data_burst. IsHeardData colour data_burst (bits_of_octets burst.now)) }
+    ensures only { (data_burst : DataBurst) → IsHeardData colour data_burst (bits_of_octets burst.now)
+        → place.new ≡ Some data_burst }
 {
     match sync {
-        Some(true) => None,
-        Some(false) => own_data_burst(burst, colour),
-        None => None,
+        Some(true) => *place = None,
+        Some(false) => own_data_burst(burst, colour, place),
+        None => *place = None,
     }
 }
 
 /// What a burst with the sync of data is heard as, where its slot type says the colour code.
-fn own_data_burst(burst: &[u8; 33], colour: u8) -> Option<DataBurst>
-    ensures within { IfSome result (λ data_burst. HasSlotType (record { colour = colour; kind = data_burst.kind }) (bits_of_octets
+fn own_data_burst(burst: &[u8; 33], colour: u8, place: &mut Option<DataBurst>)
+    ensures within { IfSome place.new (λ data_burst. HasSlotType (record { colour = colour; kind = data_burst.kind }) (bits_of_octets
         burst.now)
         × Reads (data_types.payload_of data_burst.kind) (information_field (bits_of_octets burst.now)) data_burst.information
         data_burst.link_control) }
     ensures only { (kind : ℕ) (information : List Bool) (lc : Option FullLc)
         → HasSlotType (record { colour = colour; kind = kind }) (bits_of_octets burst.now)
         → Reads (data_types.payload_of kind) (information_field (bits_of_octets burst.now)) information lc
-        → result ≡ Some (record { kind = kind; information = information; link_control = lc }) }
+        → place.new ≡ Some (record { kind = kind; information = information; link_control = lc }) }
 {
     let Some(slot_type) = read_slot_type(burst) else {
-        return None;
+        *place = None;
+        return;
     };
     if slot_type.colour != colour {
-        return None;
+        *place = None;
+        return;
     }
-    read_data_burst(slot_type.kind, &read_info(burst))
+    read_data_burst(slot_type.kind, &read_info(burst), place);
 }
 
 /// The sync of a mobile station: whether it is voice.

@@ -58,6 +58,7 @@ fn both_records(first: &([u8; 3], [u8; 33]), second: &([u8; 3], [u8; 33])) -> [u
 }
 
 /// Writes both slots of a frame of the downlink file, as `write_slot` writes each of them, in one piece where both are alike.
+#[inline(always)]
 pub fn write_slots<K: Sink>(
     sink: &mut K,
     slots: &[Option<([u8; 3], [u8; 33])>; 2],

@@ -76,7 +76,29 @@ pub(crate) fn fill_whole<S: Source>(
 }
 
 /// Writes the whole piece, or stops where the sink fails.
+#[inline(always)]
 pub fn put<K: Sink>(sink: &mut K, piece: &[u8]) -> Result<(), RecordFault>
+    requires well { K.has_failed sink.old ≡ false }
+    ensures octets { OnOk result (Appends (K.held sink.old) (K.held sink.new) piece.now) }
+    ensures well { OnOk result (K.has_failed sink.new ≡ false) }
+    ensures fault { IfErr result (λ e. e ≡ RecordFault.Write) }
+    ensures failed { OnErr result (K.has_failed sink.new ≡ true) }
+    ensures torn { OnErr result (Tears (K.held sink.old) (K.held sink.new) piece.now) }
+{
+    if piece.is_empty() {
+        return Ok(());
+    }
+    // Most often a sink takes all of it at once.
+    match sink.write(piece) {
+        Ok(count) if count == piece.len() => Ok(()),
+        Ok(count) => put_each(sink, &piece[count..]),
+        Err(_) => Err(RecordFault::Write),
+    }
+}
+
+/// Writes the whole piece in as many calls as it takes, or stops where the sink fails.
+#[inline(never)]
+fn put_each<K: Sink>(sink: &mut K, piece: &[u8]) -> Result<(), RecordFault>
     requires well { K.has_failed sink.old ≡ false }
     ensures octets { OnOk result (Appends (K.held sink.old) (K.held sink.new) piece.now) }
     ensures well { OnOk result (K.has_failed sink.new ≡ false) }

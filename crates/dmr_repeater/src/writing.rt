@@ -76,6 +76,7 @@ fn write_each_received<R: Sink>(
 }
 
 /// Hands a frame of the uplink to the station, and writes the frame of the downlink that it gives and then what was received in it.
+#[inline(always)]
 pub(crate) fn send<D: Sink, R: Sink>(
     station: &mut Station,
     downlink: &mut D,

@@ -21,8 +21,8 @@ use Rattle.dmr_gateway.specs.Bursts.{IsWordBurst, IsHeaderBurst, IsBlockBurst, I
 use Rattle.dmr_gateway.specs.Bursts.{IsGatewayOut}
 use Rattle.dmr_gateway.specs.Runs.{Happening}
 use Rattle.dmr_gateway.specs.declared.answers.Due.{Due}
-use Rattle.dmr_gateway.specs.declared.outbox.SlotBurst.{SlotBurst}
-use Rattle.dmr_gateway.specs.declared.outbox.SlotBurst.TheVariants as burst
+use Rattle.dmr_gateway.specs.SlotBurst.{SlotBurst}
+use Rattle.dmr_gateway.specs.SlotBurst as burst
 use Rattle.dmr_station.specs.GatewayMeaning.{Given, AreGiven}
 use Rattle.dmr_station.proofs.Frames.{gates_of}
 use Rattle.dmr_station.specs.StationRules.{Settings}

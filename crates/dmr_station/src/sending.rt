@@ -1,5 +1,5 @@
 //! The octets of what a slot of the downlink sends.
-ghost use Rattle.std.specs.Prelude.{◌≡◌, ◌≤◌, ◌<◌, ◌^◌, ◌+◌, IfSome, All, map, option_copied};
+ghost use Rattle.std.specs.Prelude.{◌≡◌, ◌≤◌, ◌<◌, ◌^◌, ◌+◌, None, IfSome, All, map, option_copied};
 ghost use Rattle.dmr_burst.specs.Burst.{IsBurst};
 ghost use Rattle.dmr_station.specs.Announced.{IsFitMessage};
 ghost use Rattle.dmr_station.specs.DownlinkRules.{repeated_count};
@@ -13,6 +13,15 @@ use crate::fragments::Fragments;
 use dmr_burst::{Burst, Side, encode_burst};
 use dmr_slot::SlotOut;
 
+/// Nothing goes out. Most often nothing stands in the place, and a record is large.
+pub(crate) fn clear(place: &mut Option<([u8; 3], [u8; 33])>)
+    ensures gone { place.new ≡ None }
+{
+    if place.is_some() {
+        *place = None;
+    }
+}
+
 /// The octets of a slot that sends this burst, which is the record at this place of the downlink, counted from 0. Its CACH tells
 /// whether its line repeats a burst, and carries a fragment of the message. They go to a place that is there.
 fn encode_slot(
@@ -21,19 +30,19 @@ fn encode_slot(
     out: &SlotOut,
     burst: Option<&Burst>,
     fragments: &mut Fragments,
-    record: &mut Option<([u8; 3], [u8; 33])>,
+    encoded: &mut Option<([u8; 3], [u8; 33])>,
 )
     requires message { IsFitMessage message }
     requires fits { IfSome (option_copied burst) IsBurst }
-    ensures sent { IsSentAs place (marked message out.now (option_copied burst.entry)) record.new }
+    ensures sent { IsSentAs place (marked message out.now (option_copied burst.entry)) encoded.new }
 {
     match burst {
         Some(burst) => {
             fragments.take(message);
             let cach = fragments.cach(out.repeated.is_some(), place);
-            *record = Some((cach, encode_burst(burst, Side::Bs)));
+            *encoded = Some((cach, encode_burst(burst, Side::Bs)));
         }
-        None => *record = None,
+        None => clear(encoded),
     }
 }
 

@@ -6,6 +6,7 @@ ghost use Rattle.dmr_station.specs.StationRules.{outcome_count};
 
 use crate::decider::Decider;
 use crate::fragments::Fragments;
+use crate::sending::clear;
 use dmr_gateway::{Config, Outcome, Received};
 use dmr_record::Outgoing;
 use std::alloc::{AllocError, Global};
@@ -131,7 +132,8 @@ impl Station {
         if self.is_at_rest && is_silent(frame) {
             self.decider.pass_silence();
             self.counts.frames += 1;
-            *records = NOTHING;
+            clear(&mut records[0]);
+            clear(&mut records[1]);
         } else {
             self.decide(frame, records);
         }

@@ -12,8 +12,8 @@ returns c =
       heard = (
         whole,
         record {
-          data_burst_within = c.hear_data_burst-heard.ensures.within;
-          data_burst_only = c.hear_data_burst-heard.ensures.only;
+          data_burst_within = c.hear_data_burst.ensures.within;
+          data_burst_only = c.hear_data_burst.ensures.only;
           voice = record {
             0 = λ is. voice_within bits found.result found.ensures.within (subst IsTrue c.unwrap_or-heard.ensures is);
             1 = λ has. c.unwrap_or-heard.ensures ∙ voice_only bits found.result true found.ensures.only has;

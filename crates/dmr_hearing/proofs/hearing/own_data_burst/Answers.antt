@@ -17,5 +17,5 @@ pub returns-clause-only : goal.returns-clause-only
 returns-clause-only c = λ kind information lc has.
     let bits = bits_of_octets c.args.burst.now in
     (reading_of c.in-Some.slot_type c.args.colour kind bits c.read_info.result (information_field bits)
-    c.read_data_burst.result c.in-Some.ensures.only has
+    c.read_data_burst.new.place c.in-Some.ensures.only has
     c.read_info.ensures.value c.read_data_burst.ensures.reading).only information lc

@@ -10,4 +10,5 @@ made_of_none f (Some a) e = absurd (both_ways true e refl)
 
 pub returns-then-is_at_rest-clause-pushed : goal.returns-then-is_at_rest-clause-pushed
 returns-then-is_at_rest-clause-pushed c =
-    rw (made_of_none (λ slot. slot.now) c.args.slot c.if-is_none.ensures) (c.is_at_rest.ensures.rests c.if-is_at_rest.true)
+    rw (made_of_none (λ slot. slot.now) c.args.slot c.if-is_none.ensures)
+    (rw c.clear.ensures.free (c.is_at_rest.ensures.rests c.if-is_at_rest.true))
