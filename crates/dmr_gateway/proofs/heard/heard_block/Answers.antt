@@ -4,5 +4,5 @@ use Rattle.dmr_gateway.proofs.heard.heard_block.Goals as goal
 
 pub returns-clause-confirmed : goal.returns-clause-confirmed
 returns-clause-confirmed c =
-    subst (λ octets. Tells c.confirmed_of.result (IsConfirmedOf c.args.rate octets)) c.as_slice.ensures.value
-    c.confirmed_of.ensures.tells
+    subst (λ octets. Tells c.confirmed_of-place.result (IsConfirmedOf c.args.rate octets)) c.as_slice.ensures.value
+    c.confirmed_of-place.ensures.tells
