@@ -89,8 +89,8 @@ fn hear_data_burst(burst: &[u8; 33], sync: Option<bool>, colour: u8, place: &mut
 
 /// What a burst with the sync of data is heard as, where its slot type says the colour code.
 fn own_data_burst(burst: &[u8; 33], colour: u8, place: &mut Option<DataBurst>)
-    ensures within { IfSome place.new (λ data_burst. HasSlotType (record { colour = colour; kind = data_burst.kind }) (bits_of_octets
-        burst.now)
+    ensures within { IfSome place.new (λ data_burst.
+        HasSlotType (record { colour = colour; kind = data_burst.kind }) (bits_of_octets burst.now)
         × Reads (data_types.payload_of data_burst.kind) (information_field (bits_of_octets burst.now)) data_burst.information
         data_burst.link_control) }
     ensures only { (kind : ℕ) (information : List Bool) (lc : Option FullLc)

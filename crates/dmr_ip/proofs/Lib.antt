@@ -1,4 +1,5 @@
 pub mod Built
+pub mod Comparing
 pub mod Faultless
 pub mod Reading
 pub mod Sums

@@ -68,8 +68,9 @@ impl Datagram {
     }
 }
 
+/// The first fault of octets as a datagram.
 #[tactic(auto, unfolding(crate::specs::Datagram::datagram_fault))]
-fn datagram_fault(octets: &[u8]) -> Option<IpFault>
+pub(crate) fn datagram_fault(octets: &[u8]) -> Option<IpFault>
     ensures value { result ≡ datagram_fault octets.now }
 {
     if !has_length(octets) {

@@ -18,7 +18,7 @@ mod identifiers;
 pub mod laws;
 mod message;
 
-pub use compression::{compress, expand};
+pub use compression::{compress, compress_octets, expand};
 pub use datagram::Datagram;
 pub use fault::{ExpandFault, IpFault};
 pub use identifiers::FORM_LIMIT;

@@ -1,6 +1,8 @@
 //! What a compressed form carries of a datagram.
 ghost use Rattle.std.specs.Prelude.{◌≡◌, ◌+◌, ◌^◌, ◌<◌, ◌≤◌, ◌++◌, length};
+ghost use Rattle.std.specs.Str.{bytes_eq};
 ghost use Rattle.dmr_ip.specs.Contents.{FitsDatagram, datagram_between, datagram_of, shown_contents};
+ghost use Rattle.dmr_ip.specs.Datagram.{IsDatagram};
 ghost use Rattle.dmr_ip.specs.Spelling.{behind_identifiers, behind_ports, ports_length, read_contents, written_form};
 
 use crate::datagram::Datagram;
@@ -65,11 +67,11 @@ impl<'a> Message<'a> {
         }
     }
 
-    /// What a datagram has in the places of the contents.
-    pub(crate) fn shown_by(datagram: &'a Datagram) -> Message<'a>
-        ensures value { result ≡ shown_contents datagram.now }
+    /// What octets that are a datagram have in the places of the contents.
+    pub(crate) fn shown_by(octets: &'a [u8]) -> Message<'a>
+        requires datagram { IsDatagram octets.now }
+        ensures value { result ≡ shown_contents octets.now }
     {
-        let octets = datagram.octets();
         Message::new(
             number_at(octets, IDENTIFICATION),
             number_at(octets, SOURCE_PORT),
@@ -121,6 +123,21 @@ impl<'a> Message<'a> {
         form
     }
 
+    /// Whether octets that show these contents are the datagram from one LLID to another, or to a
+    /// group. Only the headers can differ.
+    pub(crate) fn is_in(&self, octets: &[u8], source: u32, destination: u32, group: bool) -> bool
+        requires source_fits { source < 2 ^ 24 }
+        requires destination_fits { destination < 2 ^ 24 }
+        requires headers { 28 ≤ length octets.now }
+        requires shown { self.now ≡ shown_contents octets.now }
+        ensures value { result ≡ bytes_eq octets.now (datagram_of source destination group self.now) }
+    {
+        let source = radio_address(source);
+        let destination = address(group, destination);
+        let (ip, udp) = self.headers_between(source, destination);
+        octets[..IP_HEADER] == ip[..] && octets[IP_HEADER..HEADERS] == udp[..]
+    }
+
     /// The datagram from one LLID to another, or to a group.
     pub(crate) fn datagram(&self, source: u32, destination: u32, group: bool) -> Datagram
         requires source_fits { source < 2 ^ 24 }
@@ -133,10 +150,22 @@ impl<'a> Message<'a> {
     }
 
     // The octets of the datagram from one address to another.
-    #[tactic(auto, unfolding(crate::specs::Contents::datagram_between))]
     fn octets_between(&self, source: u32, destination: u32) -> ArrayVec<u8, DATAGRAM_LIMIT>
         ensures value { result.items ≡ datagram_between source destination self.now }
         ensures fits { FitsDatagram self.now }
+    {
+        let (ip, udp) = self.headers_between(source, destination);
+        joined(&ip, &udp, self.payload)
+    }
+
+    // Both headers of the datagram from one address to another.
+    #[tactic(auto, unfolding(crate::specs::Contents::datagram_between))]
+    fn headers_between(&self, source: u32, destination: u32) -> ([u8; IP_HEADER], [u8; UDP_HEADER])
+        ensures value { result.0 ++ result.1 ++ self.now.payload
+            ≡ datagram_between source destination self.now }
+        ensures fits { FitsDatagram self.now }
+        ensures ip { length result.0 ≡ IP_HEADER }
+        ensures udp { length result.1 ≡ UDP_HEADER }
     {
         let payload = self.payload;
         let total = (HEADERS + payload.len()) as u16;
@@ -148,7 +177,7 @@ impl<'a> Message<'a> {
             self.destination_port,
             payload,
         );
-        joined(&ip, &udp, payload)
+        (ip, udp)
     }
 }
 

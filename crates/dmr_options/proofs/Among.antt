@@ -1,5 +1,5 @@
 -- Texts among others.
-use Rattle.std.proofs.Common.{◌≡◌, ℕ, Bool, true, List, Contains, refl, sym, ap}
+use Rattle.std.proofs.Common.{◌≡◌, Bool, true, List, Contains, refl, sym, ap}
 use Rattle.std.specs.Bool.{Decides, one_answer}
 use Rattle.std.specs.Cmp.{IsEquivalence}
 use Rattle.std.specs.List.{list_any}

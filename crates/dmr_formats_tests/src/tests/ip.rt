@@ -1,7 +1,7 @@
 //! Datagrams from outside, their forms, and the faults of both.
 ghost use Rattle.std.specs.Prelude.{◌<◌, ◌^◌};
 
-use dmr_ip::{Datagram, ExpandFault, IpFault, compress, expand};
+use dmr_ip::{Datagram, ExpandFault, IpFault, compress, compress_octets, expand};
 use dmr_test_values::{EMPTY_DATAGRAM, OTHER_TIME_TO_LIVE};
 
 // The datagrams were computed apart from this crate, by the formulas of RFC 791, RFC 768 and
@@ -87,9 +87,14 @@ fn has_form(
     requires destination { destination < 2 ^ 24 }
 {
     match Datagram::parse(datagram) {
-        Ok(parsed) => match (compress(&parsed, source, destination, group), form) {
-            (Some(found), Some(form)) => found.as_slice() == form,
-            (found, form) => found.is_none() && form.is_none(),
+        Ok(parsed) => match (
+            compress(&parsed, source, destination, group),
+            compress_octets(datagram, source, destination, group),
+            form,
+        ) {
+            (Some(found), Some(same), Some(form)) => found.as_slice() == form
+                && same.as_slice() == form,
+            (found, same, form) => found.is_none() && same.is_none() && form.is_none(),
         },
         Err(_) => false,
     }

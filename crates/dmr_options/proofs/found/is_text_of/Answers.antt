@@ -1,4 +1,4 @@
-use Rattle.std.proofs.Common.{◌≡◌, ◌↔◌, IsTrue, Contains, nat_eq, refl, sym, ap, ◌∙◌, subst, [], map}
+use Rattle.std.proofs.Common.{◌↔◌, IsTrue, Contains, nat_eq, refl, sym, ap, ◌∙◌, subst, [], map}
 use Rattle.std.specs.Cmp.{unsigned_Decides}
 use Rattle.std.specs.Option.{option_map, unwrap_or}
 use Rattle.std.proofs.lemmas.Slice.Eq.{slice_eq-Decides}

@@ -9,7 +9,6 @@ returns c = record {
     c.number_at.ensures.value,
     c.number_at-2.ensures.value,
     c.number_at-3.ensures.value,
-    c.octets-octets.ensures.value,
     take_rest,
   ) refl;
 }

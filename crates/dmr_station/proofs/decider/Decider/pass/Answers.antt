@@ -1,4 +1,4 @@
-use Rattle.std.proofs.Common.{rules, refl}
+use Rattle.std.proofs.Common.{refl}
 use Rattle.dmr_station.proofs.decider.Decider.pass.Goals as goal
 
 pub returns-clause-sent : goal.returns-clause-sent

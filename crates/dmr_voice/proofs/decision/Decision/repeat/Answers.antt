@@ -1,4 +1,3 @@
-use Rattle.std.proofs.Common.{rules}
 use Rattle.dmr_voice.specs.declared.said.Role.TheVariants as role
 use Rattle.dmr_voice.proofs.decision.Decision.repeat.Goals as goal
 

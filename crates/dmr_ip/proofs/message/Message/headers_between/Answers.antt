@@ -1,6 +1,6 @@
 use Rattle.std.proofs.Common.{arith}
 use Rattle.dmr_ip.specs.Contents.{Contents, FitsDatagram}
-use Rattle.dmr_ip.proofs.message.Message.octets_between.Goals as goal
+use Rattle.dmr_ip.proofs.message.Message.headers_between.Goals as goal
 
 pub returns-clause-fits : goal.returns-clause-fits
 returns-clause-fits c =
