@@ -43,7 +43,7 @@ use Rattle.dmr_ip.specs.declared.fault.IpFault.{IpFault}
 use Rattle.dmr_gateway.specs.Answers.{flag_count}
 use Rattle.dmr_gateway.specs.Bursts.{IsWordBurst, IsHeaderBurst, IsBlockBurst, IsTryBurst, IsAnswerBurst, IsFlagPacket}
 use Rattle.dmr_gateway.specs.Bursts.{IsGatewayBurst, preamble, answer_header, class_of, kind_of, flag_octets}
-use Rattle.dmr_gateway.specs.Fit.{IsFitDue, IsFitBurst, IsFitQueued}
+use Rattle.dmr_gateway.specs.Fit.{IsFitDue, IsFitQueued}
 use Rattle.dmr_gateway.specs.Heard.{Tells, IsHeardByGateway, kind_of_rate, nothing_said}
 use Rattle.dmr_gateway.specs.Packets.{limit_of, group_of, destination_of, offer_fault, form_of, is_group, rate_of}
 use Rattle.dmr_gateway.specs.Packets.{compressed_service, ip_service, IsPacketFor}
@@ -306,6 +306,11 @@ answer_burst colour due (suc place) low fit few =
     (blocks_small (flag_octets due) packet (flags_small due) sent.is)) in
     let (b, carries, whole) = block_burst colour Half block low fits small in
     (b, (packet, block, is, found, carries), whole)
+
+-- What a burst carries fits its fields, and no burst of an answer stands behind its last flags.
+abbrev pub IsFitBurst : SlotBurst → Type 0
+IsFitBurst (burst.Answer due number) = IsFitDue due × (number ≤ flag_count due)
+IsFitBurst (burst.Try b) = IsFitGateBurst b
 
 -- What a slot sends fits, and the octets of its blocks are octets.
 abbrev pub HasSmallBlock : SlotBurst → Type 0

@@ -11,7 +11,7 @@ ghost use Rattle.dmr_repeater.specs.Frames.{SendsOne, TearsOne};
 
 use crate::fault::{RunFault, Stream};
 use dmr_record::{RecordFault, Sink, write_received, write_slots};
-use dmr_station::{Station, UplinkFrame};
+use dmr_station::{DownlinkFrame, Station, UplinkFrame};
 
 /// Writes what the gateway received in a frame, record by record.
 fn write_all_received<R: Sink>(
@@ -76,12 +76,14 @@ fn write_each_received<R: Sink>(
 }
 
 /// Hands a frame of the uplink to the station, and writes the frame of the downlink that it gives and then what was received in it.
+/// The records of that frame have a place, since they are large.
 #[inline(always)]
 pub(crate) fn send<D: Sink, R: Sink>(
     station: &mut Station,
     downlink: &mut D,
     received: &mut R,
     frame: &UplinkFrame,
+    records: &mut DownlinkFrame,
 ) -> Result<(), RunFault>
     requires downlink { D.has_failed downlink.old ≡ false }
     requires received { R.has_failed received.old ≡ false }
@@ -96,9 +98,8 @@ pub(crate) fn send<D: Sink, R: Sink>(
     ensures blamed { AreBlamed result false false (D.has_failed downlink.new) (R.has_failed received.new) }
 {
     let number = station.counts().frames;
-    let mut records = [None, None];
-    station.exchange_into(frame, &mut records);
-    if let Err(fault) = write_slots(downlink, &records) {
+    station.exchange_into(frame, records);
+    if let Err(fault) = write_slots(downlink, records) {
         return Err(RunFault::File(Stream::Downlink, fault));
     }
     if let Err(fault) = write_all_received(station, received, number) {

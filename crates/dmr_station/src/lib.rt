@@ -21,4 +21,4 @@ pub mod laws;
 mod sending;
 mod station;
 
-pub use station::{Counts, DownlinkFrame, SILENCE, Station, UplinkFrame};
+pub use station::{Counts, DownlinkFrame, NOTHING, SILENCE, Station, UplinkFrame};

@@ -10,17 +10,8 @@ ghost use Rattle.dmr_station.specs.declared.announcing.Message.{Message};
 
 use crate::announcing::Message;
 use crate::fragments::Fragments;
-use dmr_burst::{Burst, Side, encode_burst};
+use dmr_burst::{Burst, Side, clear, encode_burst};
 use dmr_slot::SlotOut;
-
-/// Nothing goes out. Most often nothing stands in the place, and a record is large.
-pub(crate) fn clear(place: &mut Option<([u8; 3], [u8; 33])>)
-    ensures gone { place.new ≡ None }
-{
-    if place.is_some() {
-        *place = None;
-    }
-}
 
 /// The octets of a slot that sends this burst, which is the record at this place of the downlink, counted from 0. Its CACH tells
 /// whether its line repeats a burst, and carries a fragment of the message. They go to a place that is there.

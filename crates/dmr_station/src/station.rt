@@ -6,7 +6,7 @@ ghost use Rattle.dmr_station.specs.StationRules.{outcome_count};
 
 use crate::decider::Decider;
 use crate::fragments::Fragments;
-use crate::sending::clear;
+use dmr_burst::clear;
 use dmr_gateway::{Config, Outcome, Received};
 use dmr_record::Outgoing;
 use std::alloc::{AllocError, Global};
@@ -22,7 +22,7 @@ pub type DownlinkFrame = [Option<([u8; 3], [u8; 33])>; 2];
 pub const SILENCE: UplinkFrame = [None, None];
 
 /// A frame in which nothing goes out.
-const NOTHING: DownlinkFrame = [None, None];
+pub const NOTHING: DownlinkFrame = [None, None];
 
 /// What a station has done so far, in numbers.
 #[derive(Clone, Copy, Debug, PartialEq, Eq)]
