@@ -1,3 +1,4 @@
+pub mod Buffered
 pub mod DownlinkLemmas
 pub mod DownlinkReading
 pub mod HeadLemmas

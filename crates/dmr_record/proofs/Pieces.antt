@@ -1,7 +1,7 @@
 -- Pieces of a buffer, and of what a device has given or taken.
-use Rattle.std.proofs.Common.{◌≡◌, ℕ, ◌+◌, ◌-◌, ◌≤◌, List, ◌++◌, length, take, drop, replicate, [], ◌∷◌, ap, ◌∙◌, subst, sym}
-use Rattle.std.proofs.Common.{Option, append-nil, arith}
-use Rattle.std.proofs.lemmas.List.{take_at, take_all, drop_at, drop_all, length-replicate, length-take-le, take-append-le}
+use Rattle.std.proofs.Common.{◌≡◌, ℕ, ◌+◌, ◌-◌, ◌≤◌, List, ◌++◌, length, take, drop, [], ◌∷◌, ap, ◌∙◌, subst, sym}
+use Rattle.std.proofs.Common.{Option, append-nil, arith, slice_set}
+use Rattle.std.proofs.lemmas.List.{take_at, take_all, drop_at, drop_all, length-take-le, take-append-le}
 use Rattle.std.proofs.lemmas.List.{take_rest}
 use Rattle.std.specs.Io.KnownBytes.{Consumes, Appends}
 use Rattle.std.proofs.KnownBytes.{Consumes-trans, Appends-trans}
@@ -44,14 +44,18 @@ Appends-onwards a b c at n xs front more =
     let joined = Appends-trans a b c _ _ front (subst (Appends b c) (ap (take n) (take_rest xs at)) more) in
     subst (Appends a c) (sym (take-add at n xs)) joined
 
--- two pieces, one behind the other, fill a buffer behind its first octet
-pub laid_behind : (front back : List ℕ) (tag n : ℕ) → length front ≡ 3 → length back ≡ n
-    → tag ∷ (take 3 (front ++ replicate n tag) ++ (back ++ drop n (drop 3 (front ++ replicate n tag)))) ≡ tag ∷ (front ++ back)
-laid_behind front back tag n three same =
-    ap (λ l. tag ∷ (l ++ (back ++ drop n (drop 3 (front ++ replicate n tag))))) (take_at front (replicate n tag) 3 three)
-    ∙ ap (λ l. tag ∷ (front ++ (back ++ drop n l))) (drop_at front (replicate n tag) 3 three)
-    ∙ ap (λ l. tag ∷ (front ++ (back ++ l))) (drop_all n (replicate n tag) (omega (arith, length-replicate {A = ℕ} n tag)))
-    ∙ ap (λ l. tag ∷ (front ++ l)) (append-nil back)
+-- a tag, and two pieces behind it, fill a record
+pub laid_behind : (place front back : List ℕ) (tag : ℕ) → length place ≡ 37 → length front ≡ 3
+    → put_mid 4 (length (put_mid 1 3 (slice_set place 0 tag) front) - 4) (put_mid 1 3 (slice_set place 0 tag) front) back
+    ≡ tag ∷ (front ++ back)
+laid_behind (x ∷ rest) (a ∷ b ∷ c ∷ []) back tag whole three =
+    ap (λ l. tag ∷ a ∷ b ∷ c ∷ (back ++ l)) (drop_all (length (tag ∷ a ∷ b ∷ c ∷ drop 3 rest) - 4) (drop 3 rest) (omega arith))
+    ∙ ap (λ l. tag ∷ a ∷ b ∷ c ∷ l) (append-nil back)
+laid_behind [] front back tag whole three = absurd (omega (arith, whole))
+laid_behind (x ∷ rest) [] back tag whole three = absurd (omega (arith, three))
+laid_behind (x ∷ rest) (a ∷ []) back tag whole three = absurd (omega (arith, three))
+laid_behind (x ∷ rest) (a ∷ b ∷ []) back tag whole three = absurd (omega (arith, three))
+laid_behind (x ∷ rest) (a ∷ b ∷ c ∷ d ∷ more) back tag whole three = absurd (omega (arith, three))
 
 -- a piece behind another of the same length fills a buffer of both
 pub laid_after : (front back rest : List ℕ) (n : ℕ) → length front ≡ n → length rest ≡ n

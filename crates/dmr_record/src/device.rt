@@ -145,14 +145,17 @@ impl<R: Read> Source for FromBuffered<R> {
 
     ghost has_failed = { λ source. source.is_failed };
 
+    #[inline(always)]
     fn read(&mut self, buffer: &mut [u8]) -> Result<usize, DeviceFault> {
-        match self.reader.read(buffer) {
-            Ok(count) => Ok(count),
-            Err(_) => {
-                self.is_failed = true;
-                Err(DeviceFault)
-            }
+        let held = self.reader.buffer();
+        // Most often all that is asked for is there.
+        if buffer.len() <= held.len() {
+            let count = buffer.len();
+            buffer.copy_from_slice(&held[..count]);
+            self.reader.consume(count);
+            return Ok(count);
         }
+        read_some(&mut self.reader, buffer, &mut self.is_failed)
     }
 
     #[inline(always)]
@@ -164,6 +167,27 @@ impl<R: Read> Source for FromBuffered<R> {
                 Ok(Some(octet))
             }
             [] => read_one(&mut self.reader, &mut self.is_failed),
+        }
+    }
+}
+
+/// Reads by a call of the reader, and tells whether it has failed.
+#[inline(never)]
+fn read_some<R: Read>(
+    reader: &mut R,
+    buffer: &mut [u8],
+    is_failed: &mut bool,
+) -> Result<usize, DeviceFault>
+    requires well { is_failed.old ≡ false }
+    ensures count { IfOk result (λ n. n ≤ length buffer.new) }
+    ensures octets { ReadConsumes (R.remaining reader.old) (R.remaining reader.new) result buffer.new }
+    ensures failure { is_failed.new ≡ failed_after is_failed.old result }
+{
+    match reader.read(buffer) {
+        Ok(count) => Ok(count),
+        Err(_) => {
+            *is_failed = true;
+            Err(DeviceFault)
         }
     }
 }

@@ -18,13 +18,23 @@ use crate::uplink::FRAME_LIMIT;
 /// How many slots a downlink file has at most: those of the longest uplink file, and of the six frames behind it.
 pub const SLOT_LIMIT: u32 = 2 * (FRAME_LIMIT + 6);
 
-/// The record of a burst behind its CACH.
-fn burst_record(cach: [u8; 3], burst: [u8; 33]) -> [u8; 37]
-    ensures octets { result ≡ sent_octets (Some (record { 0 = cach; 1 = burst })) }
+/// Lays the record of a burst behind its CACH into its place.
+#[inline(always)]
+fn lay_record(sent: &([u8; 3], [u8; 33]), place: &mut [u8])
+    requires room { length place.old ≡ 37 }
+    ensures octets { place.new ≡ sent_octets (Some sent.now) }
 {
-    let mut record = [BURST; 37];
-    record[1..4].copy_from_slice(&cach);
-    record[4..].copy_from_slice(&burst);
+    place[0] = BURST;
+    place[1..4].copy_from_slice(&sent.0);
+    place[4..].copy_from_slice(&sent.1);
+}
+
+/// The record of a burst behind its CACH.
+fn burst_record(sent: &([u8; 3], [u8; 33])) -> [u8; 37]
+    ensures octets { result ≡ sent_octets (Some sent.now) }
+{
+    let mut record = [0; 37];
+    lay_record(sent, &mut record[..]);
     record
 }
 
@@ -43,7 +53,7 @@ pub fn write_slot<K: Sink>(
 {
     match slot {
         None => put(sink, &[SILENCE]),
-        Some(sent) => put(sink, &burst_record(sent.0, sent.1)),
+        Some(sent) => put(sink, &burst_record(&sent)),
     }
 }
 
@@ -51,9 +61,9 @@ pub fn write_slot<K: Sink>(
 fn both_records(first: &([u8; 3], [u8; 33]), second: &([u8; 3], [u8; 33])) -> [u8; 74]
     ensures octets { result ≡ sent_octets (Some first.now) ++ sent_octets (Some second.now) }
 {
-    let mut records = [BURST; 74];
-    records[..37].copy_from_slice(&burst_record(first.0, first.1));
-    records[37..].copy_from_slice(&burst_record(second.0, second.1));
+    let mut records = [0; 74];
+    lay_record(first, &mut records[..37]);
+    lay_record(second, &mut records[37..]);
     records
 }
 
@@ -72,10 +82,29 @@ pub fn write_slots<K: Sink>(
 {
     match (&slots[0], &slots[1]) {
         (None, None) => put(sink, &[SILENCE, SILENCE]),
-        (Some(first), Some(second)) => put(sink, &both_records(first, second)),
-        (None, Some(second)) => put_both(sink, &[SILENCE], &burst_record(second.0, second.1)),
-        (Some(first), None) => put_both(sink, &burst_record(first.0, first.1), &[SILENCE]),
+        (Some(first), Some(second)) => put_records(sink, first, second),
+        (None, Some(second)) => put_both(sink, &[SILENCE], &burst_record(second)),
+        (Some(first), None) => put_both(sink, &burst_record(first), &[SILENCE]),
     }
+}
+
+/// Writes the records of two bursts. Room for them is taken here alone.
+#[inline(never)]
+fn put_records<K: Sink>(
+    sink: &mut K,
+    first: &([u8; 3], [u8; 33]),
+    second: &([u8; 3], [u8; 33]),
+) -> Result<(), RecordFault>
+    requires well { K.has_failed sink.old ≡ false }
+    ensures octets { OnOk result (Appends (K.held sink.old) (K.held sink.new)
+        (sent_octets (Some first.now) ++ sent_octets (Some second.now))) }
+    ensures well { OnOk result (K.has_failed sink.new ≡ false) }
+    ensures fault { IfErr result (λ e. e ≡ RecordFault.Write) }
+    ensures failed { OnErr result (K.has_failed sink.new ≡ true) }
+    ensures torn { OnErr result (Tears (K.held sink.old) (K.held sink.new)
+        (sent_octets (Some first.now) ++ sent_octets (Some second.now))) }
+{
+    put(sink, &both_records(first, second))
 }
 
 /// Reads a CACH and a burst behind a tag.

@@ -1,5 +1,7 @@
 -- What is written to both places of a frame.
-use Rattle.std.proofs.Common.{◌≡◌, ◌+◌, ◌∷◌, [], List, ℕ, Option, length, map, refl, set, slice_index_or, arith}
+use Rattle.std.proofs.Common.{◌≡◌, ◌+◌, ◌∷◌, [], List, ℕ, Option, length, map, refl, set, slice_index_or, arith, sym, subst}
+use Rattle.std.proofs.lemmas.List.Elements.{All-nil, All-cons}
+use Rattle.std.specs.Prelude.{All}
 use Rattle.dmr_burst.specs.declared.burst.Burst.{Burst}
 use Rattle.dmr_slot.specs.declared.line.SlotOut.{SlotOut}
 use Rattle.dmr_record.specs.Downlink.{Sent}
@@ -13,6 +15,11 @@ both_set (x ∷ y ∷ []) a b e = refl
 both_set [] a b e = absurd (omega (arith, e))
 both_set (x ∷ []) a b e = absurd (omega (arith, e))
 both_set (x ∷ y ∷ z ∷ l) a b e = absurd (omega (arith, e))
+
+-- what holds of both, holds of all of them
+pub both_hold : {A : Type 0} (P : A → Type 0) (l : List A) (a b : A) → length l ≡ 2 → P a → P b → All P (set (set l 0 a) 1 b)
+both_hold P l a b e p q =
+    subst (All P) (sym (both_set l a b e)) (All-cons P a (b ∷ []) p (All-cons P b [] q (All-nil P)))
 
 -- what both slots send is what the frame sends
 pub both_sent : {X : Type 0} (copied : X → Option Burst) (place : ℕ) (message : Message) (outs : List SlotOut) (bursts : List X)

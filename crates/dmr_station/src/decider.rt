@@ -10,7 +10,7 @@ ghost use Rattle.dmr_station.specs.Sent.{AreSentAs};
 ghost use Rattle.dmr_station.specs.StationRules.{IsSlotAsked};
 
 use crate::announcing::Announcer;
-use crate::fragments::Fragments;
+use crate::encoder::Encoder;
 use crate::sending::{count_repeated, encode_frame};
 use dmr_burst::Burst;
 use dmr_gateway::{Config, Gateway, GatewayFault, Outcome, Received};
@@ -18,6 +18,24 @@ use dmr_record::Outgoing;
 use dmr_slot::{Channel, FREE, SlotLine, SlotOut};
 use std::alloc::{AllocError, Global};
 use std::marker::Model;
+
+/// Room for what the lines of both slots give in a frame, and for the bursts of the gateway. Bursts are large, and most often a
+/// place is to hold nothing and does already.
+#[derive(Drop)]
+pub struct Room {
+    outs: [SlotOut; 2],
+    gate: [Option<Burst>; 2],
+}
+
+impl Room {
+    /// With nothing in it.
+    pub(crate) fn new() -> Self {
+        Room {
+            outs: [FREE, FREE],
+            gate: [None, None],
+        }
+    }
+}
 
 /// Decides what goes out in both slots, frame by frame, and what is received: the lines of both slots, the channel that they share,
 /// the gateway, and who makes the message of the CACHs.
@@ -89,13 +107,13 @@ impl Decider {
     }
 
     /// Takes a frame of the uplink, and gives the records of the frame of the downlink that is decided then. It answers how many of
-    /// them repeat a burst. The first of these records is the one at this place. The fragments are those of the message that went
-    /// out last.
+    /// them repeat a burst. The first of these records is the one at this place.
     pub(crate) fn pass(
         &mut self,
         frame: &[Option<[u8; 33]>; 2],
         place: u32,
-        fragments: &mut Fragments,
+        room: &mut Room,
+        encoder: &mut Encoder,
         records: &mut [Option<([u8; 3], [u8; 33])>; 2],
     ) -> u32
         requires room { place + 1 < 2 ^ 32 }
@@ -103,17 +121,16 @@ impl Decider {
             × AreSentAs place sending records.new × (result ≡ repeated_count sending) }
         ensures bound { result ≤ 2 }
     {
-        let mut outs = [FREE, FREE];
+        let Room { outs, gate } = room;
         push(&mut self.first, &frame[0], &mut outs[0]);
         push(&mut self.second, &frame[1], &mut outs[1]);
-        let mut gate = [None, None];
         next_burst(&mut self.gateway, 1, &outs[0], &mut gate[0]);
         next_burst(&mut self.gateway, 2, &outs[1], &mut gate[1]);
-        let bursts = self.channel.bursts(&outs, &gate);
-        let message = self.announcer.next(&outs);
-        encode_frame(place, message, &outs, &bursts, fragments, records);
-        let repeated = count_repeated(&outs, &bursts);
-        self.channel.go_on(&outs, &gate);
+        let bursts = self.channel.bursts(outs, gate);
+        let message = self.announcer.next(outs);
+        encode_frame(place, message, outs, &bursts, encoder, records);
+        let repeated = count_repeated(outs, &bursts);
+        self.channel.go_on(outs, gate);
         repeated
     }
 

@@ -4,11 +4,12 @@ ghost use Rattle.std.specs.Prelude.{if◌then◌else◌};
 ghost use Rattle.std.specs.List.{flat_map};
 ghost use Rattle.dmr_station.specs.StationRules.{outcome_count};
 
-use crate::decider::Decider;
-use crate::fragments::Fragments;
+use crate::decider::{Decider, Room};
+use crate::encoder::Encoder;
 use dmr_burst::clear;
 use dmr_gateway::{Config, Outcome, Received};
 use dmr_record::Outgoing;
+use dmr_slot::idle_burst;
 use std::alloc::{AllocError, Global};
 use std::marker::Model;
 
@@ -49,7 +50,8 @@ pub struct Counts {
 #[derive(Drop)]
 pub struct Station {
     decider: Decider,
-    fragments: Fragments,
+    room: Room,
+    encoder: Encoder,
     counts: Counts,
     /// Whether silence was found to change nothing, and nothing was offered or taken since.
     is_at_rest: bool,
@@ -82,7 +84,8 @@ impl Station {
     {
         Ok(Station {
             decider: Decider::new(alloc, config)?,
-            fragments: Fragments::new(),
+            room: Room::new(),
+            encoder: Encoder::new(idle_burst(config.colour)),
             counts: Counts {
                 frames: 0,
                 repeated: 0,
@@ -148,7 +151,7 @@ impl Station {
         let place = 2 * self.counts.frames;
         let repeated = self
             .decider
-            .pass(frame, place, &mut self.fragments, records);
+            .pass(frame, place, &mut self.room, &mut self.encoder, records);
         let outcomes = self.decider.take_outcomes();
         let came_to = count_outcomes(&outcomes);
         self.counts.frames += 1;
