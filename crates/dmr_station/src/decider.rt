@@ -10,7 +10,7 @@ ghost use Rattle.dmr_station.specs.Sent.{AreSentAs};
 ghost use Rattle.dmr_station.specs.StationRules.{IsSlotAsked};
 
 use crate::announcing::Announcer;
-use crate::encoder::Encoder;
+use crate::fragments::Fragments;
 use crate::sending::{count_repeated, encode_frame};
 use dmr_burst::Burst;
 use dmr_gateway::{Config, Gateway, GatewayFault, Outcome, Received};
@@ -107,13 +107,14 @@ impl Decider {
     }
 
     /// Takes a frame of the uplink, and gives the records of the frame of the downlink that is decided then. It answers how many of
-    /// them repeat a burst. The first of these records is the one at this place.
+    /// them repeat a burst. The first of these records is the one at this place. The fragments are those of the message that went
+    /// out last.
     pub(crate) fn pass(
         &mut self,
         frame: &[Option<[u8; 33]>; 2],
         place: u32,
         room: &mut Room,
-        encoder: &mut Encoder,
+        fragments: &mut Fragments,
         records: &mut [Option<([u8; 3], [u8; 33])>; 2],
     ) -> u32
         requires room { place + 1 < 2 ^ 32 }
@@ -128,7 +129,7 @@ impl Decider {
         next_burst(&mut self.gateway, 2, &outs[1], &mut gate[1]);
         let bursts = self.channel.bursts(outs, gate);
         let message = self.announcer.next(outs);
-        encode_frame(place, message, outs, &bursts, encoder, records);
+        encode_frame(place, message, outs, &bursts, fragments, records);
         let repeated = count_repeated(outs, &bursts);
         self.channel.go_on(outs, gate);
         repeated

@@ -4,8 +4,7 @@
 //! A `Station` is offered datagrams and takes the frames of the uplink one after another. For each of them it gives the two records
 //! of the frame of the downlink that is decided then, and what it received in it. It knows no file, and keeps no list that grows:
 //! what the lines, the channel (`dmr_slot`) and the gateway (`dmr_gateway`) remember, and the message whose second half is to be
-//! announced. It keeps the CACHs of the message that went out last and the octets of idle, too, so as not to work them out for each
-//! record.
+//! announced. It keeps the CACHs of the message that went out last, too, so as not to work them out for each record.
 //!
 //! `specs/StationRules.antt` has the rules, one frame after another, and `specs/DownlinkRules.antt` what they make of whole lists
 //! of frames: what the line of each slot gives, and what goes out in both; `specs/GatewayMeaning.antt` has the gateway's part of
@@ -17,7 +16,6 @@
 
 mod announcing;
 mod decider;
-mod encoder;
 mod fragments;
 pub mod laws;
 mod sending;

@@ -5,11 +5,10 @@ ghost use Rattle.std.specs.List.{flat_map};
 ghost use Rattle.dmr_station.specs.StationRules.{outcome_count};
 
 use crate::decider::{Decider, Room};
-use crate::encoder::Encoder;
+use crate::fragments::Fragments;
 use dmr_burst::clear;
 use dmr_gateway::{Config, Outcome, Received};
 use dmr_record::Outgoing;
-use dmr_slot::idle_burst;
 use std::alloc::{AllocError, Global};
 use std::marker::Model;
 
@@ -51,7 +50,7 @@ pub struct Counts {
 pub struct Station {
     decider: Decider,
     room: Room,
-    encoder: Encoder,
+    fragments: Fragments,
     counts: Counts,
     /// Whether silence was found to change nothing, and nothing was offered or taken since.
     is_at_rest: bool,
@@ -85,7 +84,7 @@ impl Station {
         Ok(Station {
             decider: Decider::new(alloc, config)?,
             room: Room::new(),
-            encoder: Encoder::new(idle_burst(config.colour)),
+            fragments: Fragments::new(),
             counts: Counts {
                 frames: 0,
                 repeated: 0,
@@ -151,7 +150,7 @@ impl Station {
         let place = 2 * self.counts.frames;
         let repeated = self
             .decider
-            .pass(frame, place, &mut self.room, &mut self.encoder, records);
+            .pass(frame, place, &mut self.room, &mut self.fragments, records);
         let outcomes = self.decider.take_outcomes();
         let came_to = count_outcomes(&outcomes);
         self.counts.frames += 1;
