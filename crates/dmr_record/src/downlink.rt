@@ -12,7 +12,7 @@ use crate::device::{Sink, Source};
 use crate::fault::RecordFault;
 use crate::next_slot::NextSlot;
 use crate::tag::{BURST, SILENCE};
-use crate::transfer::{fill_whole, put, put_both, read_octet};
+use crate::transfer::{fill_whole, put, read_octet};
 use crate::uplink::FRAME_LIMIT;
 
 /// How many slots a downlink file has at most: those of the longest uplink file, and of the six frames behind it.
@@ -83,9 +83,27 @@ pub fn write_slots<K: Sink>(
     match (&slots[0], &slots[1]) {
         (None, None) => put(sink, &[SILENCE, SILENCE]),
         (Some(first), Some(second)) => put_records(sink, first, second),
-        (None, Some(second)) => put_both(sink, &[SILENCE], &burst_record(second)),
-        (Some(first), None) => put_both(sink, &burst_record(first), &[SILENCE]),
+        (first, second) => write_each_slot(sink, first, second),
     }
+}
+
+/// Writes two slots, one after the other.
+#[inline(never)]
+#[tactic(auto, using(crate::proofs::Torn::Tears_after, crate::proofs::Torn::Tears_more))]
+fn write_each_slot<K: Sink>(
+    sink: &mut K,
+    first: &Option<([u8; 3], [u8; 33])>,
+    second: &Option<([u8; 3], [u8; 33])>,
+) -> Result<(), RecordFault>
+    requires well { K.has_failed sink.old ≡ false }
+    ensures octets { OnOk result (Appends (K.held sink.old) (K.held sink.new) (sent_octets first.now ++ sent_octets second.now)) }
+    ensures well { OnOk result (K.has_failed sink.new ≡ false) }
+    ensures fault { IfErr result (λ e. e ≡ RecordFault.Write) }
+    ensures failed { OnErr result (K.has_failed sink.new ≡ true) }
+    ensures torn { OnErr result (Tears (K.held sink.old) (K.held sink.new) (sent_octets first.now ++ sent_octets second.now)) }
+{
+    write_slot(sink, *first)?;
+    write_slot(sink, *second)
 }
 
 /// Writes the records of two bursts. Room for them is taken here alone.
