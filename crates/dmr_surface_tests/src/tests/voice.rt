@@ -61,7 +61,8 @@ fn header_of_a_call(rt: HostRuntime) {
 // A control signalling block is repeated, and belongs to no call.
 #[test]
 fn block_of_no_call(rt: HostRuntime) {
-    let (block, silence) = (heard(Some(&ONE_CSBK)), heard(None));
+    let block = heard(Some(&ONE_CSBK));
+    let silence = heard(None);
     let mut track = VoiceTrack::new(1);
     let out = track.step(&[block, silence, silence, silence, silence, silence]);
     let repeated = VoiceOut::Repeat {
