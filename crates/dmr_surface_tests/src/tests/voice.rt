@@ -5,7 +5,7 @@ use dmr_bits::Bits;
 use dmr_burst::{Burst, Emb, data_type, read_info};
 use dmr_link::FullLc;
 use dmr_slot::{Channel, SlotLine, SlotOut};
-use dmr_test_values::{CALL_HEADER, CALL_TERMINATOR, IDLE_BURST, ONE_CSBK, PRINTED_VOICE_BURST};
+use dmr_test_values::{CALL_HEADER, CALL_TERMINATOR, IDLE_BURST, PRINTED_VOICE_BURST};
 use dmr_voice::{DataBurst, Heard, Role, VoiceOut, VoiceTrack, hear};
 use std::alloc::AllocError;
 use std::test::Fail;
@@ -54,20 +54,6 @@ fn header_of_a_call(rt: HostRuntime) {
     let repeated = VoiceOut::Repeat {
         burst: data(data_type::VOICE_LC_HEADER, &CALL_HEADER),
         role: Role::Call(Some(CALL)),
-    };
-    assert!(rt; out == repeated);
-}
-
-// A control signalling block is repeated, and belongs to no call.
-#[test]
-fn block_of_no_call(rt: HostRuntime) {
-    let block = heard(Some(&ONE_CSBK));
-    let silence = heard(None);
-    let mut track = VoiceTrack::new(1);
-    let out = track.step(&[block, silence, silence, silence, silence, silence]);
-    let repeated = VoiceOut::Repeat {
-        burst: data(data_type::CSBK, &ONE_CSBK),
-        role: Role::Other,
     };
     assert!(rt; out == repeated);
 }
