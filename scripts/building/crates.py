@@ -68,6 +68,11 @@ def with_all_below(name):
     return [*found, name]
 
 
+def all_below(names):
+    """All that these crates stand on, each behind what it stands on itself."""
+    return [*dict.fromkeys(it for name in names for it in with_all_below(name)[:-1])]
+
+
 def own_sum(crate):
     """A sum of the sources of a crate as they stand now."""
     made = hashlib.sha256(repr([crate.name, crate.of_kit]).encode())

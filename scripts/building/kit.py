@@ -45,18 +45,34 @@ class Kit:
         for library in below.values():
             yield from ("-L", f"dependency={library.parent}")
 
-    def build(self, crate, below, jobs, made, keeps):
-        """The words that prove a crate and build it, over what an earlier build kept of its proofs, or at once. Of a library that
-        was built at once the crates above load what it states, and none of its proofs."""
-        yield from (self.compiler, "build", "--crate-name", crate.name, crate.root)
+    def subject(self, crate, below, jobs):
+        """The words for a crate that is to be proved: what it stands on, the logic, and how many jobs there are for it."""
+        yield from ("--crate-name", crate.name, crate.root)
         yield from self.libraries(crate, below)
         yield from ("--antt-project", f"{self.folder}/rattle/logic/antt-project.json")
         yield from ("--logic-built", f"{self.folder}/logic_built")
         yield from ("--links", f"{crate.name}=", "--jobs", str(jobs))
-        if crate.is_linked:
-            yield from ("--toolchain", f"{self.folder}/toolchain", "--backend", "llvm")
         if crate.is_archive:
             yield from ("--crate-type", "staticlib")
+
+    def check(self, crate, below, kept, functions):
+        """The words that check a crate with one job, over what earlier checks kept. With functions they check these and what these
+        call. Then each is checked to its end, also where it calls another that is refused."""
+        yield from (self.compiler, "check")
+        yield from self.subject(crate, below, 1)
+        yield from ("--incremental", kept)
+        for it in functions:
+            yield from ("--only", it)
+        if functions:
+            yield from ("--allow-holes", "--short-goals")
+
+    def build(self, crate, below, jobs, made, keeps):
+        """The words that prove a crate and build it, over what an earlier build kept of its proofs, or at once. Of a library that
+        was built at once the crates above load what it states, and none of its proofs."""
+        yield from (self.compiler, "build")
+        yield from self.subject(crate, below, jobs)
+        if crate.is_linked:
+            yield from ("--toolchain", f"{self.folder}/toolchain", "--backend", "llvm")
         if keeps:
             yield from ("--incremental", "out/incremental")
         elif not crate.is_linked:

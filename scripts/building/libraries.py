@@ -5,7 +5,7 @@ import subprocess
 import tempfile
 
 from building.building import MOST_JOBS, processors
-from building.crates import all_crates, with_all_below
+from building.crates import all_below, all_crates
 from building.kit import Kit
 from building.saying import fail
 
@@ -25,9 +25,9 @@ def is_of_the_gate(library):
     return (library / "format").is_file() and not any((library.parent / mark).exists() for mark in ("sources", "stamp"))
 
 
-def left_by_the_gate(name):
-    """The libraries below a crate that the gate has just left, or nothing where it hasn't left all of them."""
-    below = {it: all_crates()[it].out / f"rlib/{it}.rlib" for it in with_all_below(name)[:-1]}
+def left_by_the_gate(*names):
+    """The libraries below these crates that the gate has just left, or nothing where it hasn't left all of them."""
+    below = {it: all_crates()[it].out / f"rlib/{it}.rlib" for it in all_below(names)}
     return below if all(map(is_of_the_gate, below.values())) else None
 
 

@@ -87,6 +87,19 @@ def take_over(before):
                 Built(all_crates()[crate]).take_over()
 
 
+def finish(building, ending):
+    """Proves and builds what is left of a building. Answers whether the sources stayed as they were meanwhile."""
+    tell_begun(building)
+    try:
+        building.run(progress(), ending)
+    except Failed as fault:
+        tell_failed(fault)
+    except Changed:
+        say("the sources changed meanwhile")
+        return False
+    return True
+
+
 def build(programs):
     """Proves and builds these programs, and answers where they are. Once more, where the sources change meanwhile."""
     with alone() as (ending, held):
@@ -95,11 +108,15 @@ def build(programs):
             left = [it for it in programs if not ready(it)]
             if not left:
                 return [ready(it) for it in programs]
-            building = Building(Kit(), left, costs(), held)
-            tell_begun(building)
-            try:
-                building.run(progress(), ending)
-            except Failed as fault:
-                tell_failed(fault)
-            except Changed:
-                say("the sources changed meanwhile")
+            finish(Building(Kit(), left, costs(), held), ending)
+
+
+def build_libraries(names):
+    """Proves and builds these libraries, which have all that they stand on among them, and answers where each is. Once more, where
+    the sources change meanwhile."""
+    with alone() as (ending, held):
+        while True:
+            forget()
+            building = Building(Kit(), names, costs(), held)
+            if not building.left or finish(building, ending):
+                return {name: it.made for name, it in building.built.items()}

@@ -73,8 +73,32 @@ esac
 
 # A library is a folder with its sources, and a format that a test may have differ; a program prints those of all its libraries, and
 # then its own.
+# A check of a crate is for a copy elsewhere. It refuses a function by a word of its body: one that is wrong, one of whose proofs
+# names what is gone, and one that is right, where something spreads.
 RATTLE = COMMON + r"""
 name=$3
+if [ "$1" = check ]; then
+    awk -v crate="$name" -v asked=" $* " '
+        function refuse(f, why) { print "fn " crate "::" f ": " why; is_refused = 1 }
+        /^fn /{ f = substr($2, 1, index($2, "(") - 1); count++; names[count] = f }
+        /^    /{ body[f] = $1 }
+        { spreads = spreads || /spreads/ }
+        END {
+            for (i = 1; i <= count; i++) {
+                f = names[i]
+                proofs = "./proofs/" f "/Answers.antt"
+                answer = "`Rattle." crate ".proofs." f ".Answers.value`"
+                if (body[f] == "gone") print proofs ":1:1: error: `value`: what it cites was not admitted"
+                if (body[f] == "gone") refuse(f, "not proved; it stands on " answer ", which antt refuses")
+                else if (body[f] == "wrong" || spreads && body[f] == "right")
+                    refuse(f, "no proof: expected answers in " proofs "; `search` did not prove `value`")
+                else print "fn " crate "::" f ": " (asked ~ / --only / ? "no holes" : "proved")
+            }
+            if (asked !~ / --only /) print "logic=" (is_refused ? "not-proved" : "proved")
+            exit is_refused
+        }' src/lib.rt
+    exit
+fi
 top=${PWD%/crates/*}
 echo "begin $name" >>"$top/said"
 case " $* " in
