@@ -11,6 +11,9 @@ LIMIT = re.compile(r"ran out of (stack|the (steps|memory))|(outgrew the memory|s
 # What it says of a proof that names what is no longer there.
 NAME_GONE = re.compile(r"has no field|is not in scope|has no `|was not admitted")
 
+# So many lines are told of a check that says nothing of a function.
+LAST_LINES = 20
+
 
 class Verdict(enum.Enum):
     """What a wrong body came to."""
@@ -78,3 +81,8 @@ class Said:
         if self.status == 1 and last.startswith("logic=not-proved"):
             return Verdict.REFUSED
         return Verdict.AT_LIMIT if self.status == 3 and LIMIT.search(self.text) else Verdict.UNCLEAR
+
+    def about(self, functions):
+        """What it says of these functions, or at its end where it says nothing of them."""
+        told = [f"fn {path}: {self.functions[path]}" for path in sorted(functions) if path in self.functions]
+        return "\n".join(told or self.text.splitlines()[-LAST_LINES:])

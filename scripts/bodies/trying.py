@@ -30,7 +30,7 @@ ENDED = (-signal.SIGINT, -signal.SIGTERM)
 
 
 class Tried:
-    """What the edits of a crate came to, each with the verdict and with what the prover said, and how long that took."""
+    """What the edits of a crate came to, each with the verdict and with what the prover said of it, and how long that took."""
 
     def __init__(self, crate, verdicts, checks, seconds):
         self.crate, self.verdicts, self.checks, self.seconds = crate, verdicts, checks, seconds
@@ -68,14 +68,14 @@ class Trial:
             is_clear = not said.refused_beside(batch)
             for edit in batch:
                 verdict = said.verdict_in(edit.functions, False) if is_clear else Verdict.UNCLEAR
-                self.verdicts[edit] = verdict, said.text
+                self.verdicts[edit] = verdict, said.about(edit.functions)
             edits = [it for it in edits if it not in batch]
 
     def try_alone(self, kept, edit):
         """Tries an edit by itself: in the functions that refuse it, where they are known, and else in the whole crate."""
         said = self.check(kept, [edit], sorted(edit.functions))
         verdict = said.verdict_in(edit.functions, True) if edit.functions else said.verdict_in_all()
-        self.verdicts[edit] = verdict, said.text
+        self.verdicts[edit] = verdict, said.about(edit.functions)
 
     def run(self):
         begun = time.monotonic()

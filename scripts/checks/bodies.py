@@ -17,9 +17,9 @@ def check(report):
     libraries = (left_by_the_gate(*names) if report.is_proved else None) or build_libraries(all_below(names))
     done = [*tried(Kit(), names, libraries)]
     for it in done:
-        for edit, (verdict, text) in it.verdicts.items():
+        for edit, (verdict, told) in it.verdicts.items():
             is_refused = verdict in (Verdict.REFUSED, Verdict.AT_LIMIT)
-            report.expect(f"{it.crate.name} {edit.name}", is_refused, f"{verdict.value}\n{text}")
+            report.expect(f"{it.crate.name} {edit.name}", is_refused, f"{verdict.value}\n{told}")
     rows = sorted(done, key=lambda it: -it.seconds)[:LONGEST]
     report.longest += ["wrong bodies, of which those of these crates took longest:"]
     report.longest += [f"{it.seconds:7.1f} s {it.crate.name}: {len(it.verdicts)} in {it.checks} checks" for it in rows]
