@@ -4,9 +4,9 @@ import re
 
 from bodies.functions import functions_of, module_of, types_of
 
-FOLDER = "wrong-bodies"
+FOLDER = "must-fail"
 
-REFUSED_IN = re.compile(r"^refused-in: (\S+)$", re.MULTILINE)
+REFUSED_IN = re.compile(r"^# refused-in: (\S+)$", re.MULTILINE)
 
 
 class Unfit(Exception):

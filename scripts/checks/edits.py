@@ -31,10 +31,10 @@ def tried(tree, **edits):
     """Tries these wrong bodies of a crate, and answers how that ended."""
     tree.edit("left", SOURCE)
     for name, text in edits.items():
-        tree.put(f"crates/left/wrong-bodies/{name}.edit", text)
+        tree.put(f"crates/left/must-fail/{name}.edit", text)
     ran = tree.run("left", script=tree.top / "scripts/wrong_bodies")
     for name in edits:
-        (tree.top / f"crates/left/wrong-bodies/{name}.edit").unlink()
+        (tree.top / f"crates/left/must-fail/{name}.edit").unlink()
     return ran
 
 
@@ -61,9 +61,9 @@ def check_refused(tree):
     expect_told(tree, "outside of bodies", ran, 1, "left a: not refused")
     ran = tried(tree, a=edit("few;", "few; // spreads"))
     expect_told(tree, "outside of bodies, refused", ran, 0, "left a: refused")
-    ran = tried(tree, a=edit("few;", "few; // spreads", "refused-in: first"))
+    ran = tried(tree, a=edit("few;", "few; // spreads", "# refused-in: first"))
     expect_told(tree, "outside of bodies, in a function", ran, 0, "left a: refused")
-    ran = tried(tree, a=edit("few;", "few; // spreads", "refused-in: second"))
+    ran = tried(tree, a=edit("few;", "few; // spreads", "# refused-in: second"))
     expect_told(tree, "outside of bodies, in another function", ran, 1, "left a: not refused")
 
 
@@ -89,7 +89,7 @@ def check_step(tree):
     tree.edit("left", SOURCE)
     for new, status, last in (("wrong", 0, "2 passed, 0 failed"), ("well", 1, "1 passed, 1 failed")):
         for name, text in (("a", edit("right", new)), ("b", edit("good", "wrong"))):
-            tree.put(f"crates/left/wrong-bodies/{name}.edit", text)
+            tree.put(f"crates/left/must-fail/{name}.edit", text)
         ran = subprocess.run([tree.top / "check", "bodies"], **tree.how(), capture_output=True, text=True)
         told = ran.stdout.splitlines()
         tree.expect(f"a step over {new}", (ran.returncode, told[-1:]) == (status, [last]), ran)

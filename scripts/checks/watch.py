@@ -2,12 +2,33 @@
 
 import os
 import pathlib
+import re
 import threading
 
 # How often the gate's commands are looked at, in seconds.
 EVERY = 0.5
 
 TICKS = os.sysconf("SC_CLK_TCK")
+
+
+def number_of_edit(words):
+    """The number of the wrong body that a check tries, in the order of the files' names, or None."""
+    kept = words[words.index("--incremental") + 1] if "--incremental" in words else ""
+    found = re.search(r"/rt-edits-[^/]*/(\d+)$", kept)
+    return int(found[1]) if found else None
+
+
+class Command:
+    """A process of the prover: the crate that it is for, and what it does with it."""
+
+    def __init__(self, top, words):
+        self.crate = words[words.index("--crate-name") + 1]
+        number = number_of_edit(words)
+        edits = sorted((top / "crates" / self.crate / "must-fail").glob("*.edit"))
+        if number is not None and number < len(edits):
+            self.does = edits[number].stem
+        else:
+            self.does = "tests" if "--test" in words else ""
 
 
 def words_of(process):
@@ -21,10 +42,10 @@ def seconds_of(process):
 
 
 class Watch:
-    """Looks at the prover's processes while the gate runs, and adds up the processor seconds of each crate and of its tests."""
+    """Looks at the prover's processes while the gate runs, and adds up the processor seconds of each crate and of each edit."""
 
-    def __init__(self):
-        self.names, self.seconds = {}, {}
+    def __init__(self, top):
+        self.top, self.commands, self.seconds = top, {}, {}
         self.is_over = threading.Event()
         self.thread = threading.Thread(target=self.look_on, daemon=True)
 
@@ -52,21 +73,23 @@ class Watch:
         words = words_of(process)
         # Whatever else a process is, it may become one of the prover's yet.
         if words[0].endswith("/rattle") and "--crate-name" in words:
-            name = words[words.index("--crate-name") + 1]
-            self.names.setdefault(key, f"{name} tests" if "--test" in words else name)
+            self.commands.setdefault(key, Command(self.top, words))
             self.seconds[key] = seconds_of(process)
 
-    def sums(self):
-        """The seconds of each crate, and of its tests, the longest first."""
+    def sums(self, is_edit):
+        """The seconds of each crate with its tests, or of each edit, the longest first."""
         found = {}
         for key, seconds in self.seconds.items():
-            found[self.names[key]] = found.get(self.names[key], 0) + seconds
+            command = self.commands[key]
+            if (command.does not in ("", "tests")) == is_edit:
+                name = f"{command.crate} {command.does}".strip()
+                found[name] = found.get(name, 0) + seconds
         return sorted(found.items(), key=lambda it: -it[1])
 
     def lines(self):
-        """How long all took, and the ten crates that took longest."""
-        rows = self.sums()
-        if rows:
-            total = sum(seconds for _, seconds in rows)
-            yield f"proofs: {total / 60:.0f} processor minutes, of which these crates took longest:"
-            yield from (f"{seconds:7.1f} s {name}" for name, seconds in rows[:10])
+        """The ten crates and the ten edits that took longest."""
+        for what, rows in (("crates", self.sums(False)), ("wrong bodies", self.sums(True))):
+            if rows:
+                total = sum(seconds for _, seconds in rows)
+                yield f"{what}: {total / 60:.0f} processor minutes, of which these took longest:"
+                yield from (f"{seconds:7.1f} s {name}" for name, seconds in rows[:10])
