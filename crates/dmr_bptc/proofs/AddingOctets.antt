@@ -10,7 +10,8 @@ use Rattle.dmr_bits.proofs.Lists.{length-bits_of, bits_of_spelled, xor_bits-appe
 use Rattle.dmr_bits.proofs.Numbers.{bits_of_xor}
 use Rattle.dmr_bptc.specs.Octets.{octet_alone, spelled}
 
-xor_zeros : (x : List Bool) → xor_bits x (replicate (length x) false) ≡ x
+-- zeros add nothing
+pub xor_zeros : (x : List Bool) → xor_bits x (replicate (length x) false) ≡ x
 xor_zeros [] = refl
 xor_zeros (b ∷ x) = let head = xor_false b in let tail = xor_zeros x in cc
 

@@ -72,7 +72,16 @@ field_bit bits at width n i room is h =
     sym (bit_value q (omega arith)) ∙ ap {B = ℕ} (λ b. cond b 1 0) (sym (get_or-bits_of width n i h)
     ∙ field_at bits at width n i room is h)
 
--- a bit of a field within another
+-- the bits of a field within another
+pub inner_at : (bits : List Bool) (at total n from width below i : ℕ) → at + total ≤ length bits
+    → n ≡ number_of (take total (drop at bits)) → total ≡ from + (width + below) → i < width
+    → get_or (bits_of width (n / 2 ^ below % 2 ^ width)) i false ≡ get_or bits (at + (from + i)) false
+inner_at bits at total n from width below i room is e h =
+    ap (λ l. get_or l i false) (bits_of-mod width (n / 2 ^ below) ∙ sym (bits_of-middle from width below total n e))
+    ∙ get_or-take width (drop from (bits_of total n)) i false h ∙ get_or-drop from (bits_of total n) i false
+    ∙ field_at bits at total n (from + i) room is (omega arith)
+
+-- and one of them as a number
 pub inner_bit : (bits : List Bool) (at total n from width below i : ℕ) → at + total ≤ length bits
     → n ≡ number_of (take total (drop at bits)) → total ≡ from + (width + below) → i < width
     → n / 2 ^ below % 2 ^ width / 2 ^ (width - 1 - i) % 2 ≡ cond (get_or bits (at + (from + i)) false) 1 0
@@ -81,6 +90,4 @@ inner_bit bits at total n from width below i room is e h =
     let q : ℕ = m % 2 ^ width / 2 ^ (width - 1 - i) % 2 in
     sym (bit_value q (omega arith))
     ∙ ap {B = ℕ} (λ b. cond b 1 0) (sym (get_or-bits_of width (m % 2 ^ width) i h)
-    ∙ ap (λ l. get_or l i false) (bits_of-mod width m ∙ sym (bits_of-middle from width below total n e))
-    ∙ get_or-take width (drop from (bits_of total n)) i false h ∙ get_or-drop from (bits_of total n) i false
-    ∙ field_at bits at total n (from + i) room is (omega arith))
+    ∙ inner_at bits at total n from width below i room is e h)

@@ -14,7 +14,7 @@ use Rattle.std.proofs.lemmas.Nat.{pow_pos}
 use Rattle.std.proofs.lemmas.Nat.Bits.{bit_at-zero}
 use Rattle.dmr_codes.specs.Code.{ones_over, row_of, column_of}
 use Rattle.dmr_codes.specs.Seven.{IsHamming13, IsHamming15, hamming13_columns, hamming15_columns}
-use Rattle.dmr_bptc.specs.ProductWord.{place, cell, row, column, IsWritten}
+use Rattle.dmr_bptc.specs.ProductWord.{place, cell, row, column, information, IsProductWord, IsWritten}
 use Rattle.dmr_bptc.specs.Octets.{octet_alone, spelled}
 use Rattle.dmr_bptc.specs.declared.written_octets.TheConstants.{WRITTEN}
 use Rattle.dmr_bptc.proofs.Cells.{row_from, column_from, place_below, information_from}
@@ -28,13 +28,13 @@ bit_in w r c = w / 2 ^ (195 - place r c) % 2 == 1
 abbrev are_even : List ℕ → List Bool → Bool
 are_even columns bits = agree_below (λ j. eqb (ones_over j columns bits % 2) 0) (λ j. true) 4
 
-abbrev are_rows : ℕ → Bool
+abbrev pub are_rows : ℕ → Bool
 are_rows w = agree_below (λ r. are_even hamming15_columns (row_of (bit_in w) 15 r)) (λ r. true) 13
 
-abbrev are_columns : ℕ → Bool
+abbrev pub are_columns : ℕ → Bool
 are_columns w = agree_below (λ c. are_even hamming13_columns (column_of (bit_in w) 13 c)) (λ c. true) 15
 
-abbrev holds : ℕ → ℕ → Bool
+abbrev pub holds : ℕ → ℕ → Bool
 holds m w = agree_below (λ k. m / 2 ^ (95 - k) % 2 == 1) (λ k. bit_in w ((k + 3) / 11) ((k + 3) % 11)) 96
 
 abbrev is_clear : ℕ → Bool
@@ -57,6 +57,34 @@ column_is w c =
     column_from (bits_of 196 w) (column_of (bit_in w) 13 c) c (length-map-range_with_len (λ r. bit_in w r c) 0 13)
     (λ r h. get_or-map-range_with_len (λ r. bit_in w r c) 0 13 r r false h (omega arith) ∙ sym (cell_is w r c))
 
+-- a number that has the checks of a product word spells one
+pub product_number : (w : ℕ) → are_rows w ≡ true → are_columns w ≡ true → IsProductWord (bits_of 196 w)
+product_number w in_rows in_columns =
+    record {
+      rows = λ r h. subst IsHamming15 (row_is w r)
+          (record {
+            long = length-map-range_with_len (λ c. bit_in w r c) 0 15;
+            even = λ j l. eqb-true (ones_over j hamming15_columns (row_of (bit_in w) 15 r) % 2) 0
+                (agree_below_at (λ j. eqb (ones_over j hamming15_columns (row_of (bit_in w) 15 r) % 2) 0) (λ j. true) 4 j
+                (agree_below_at (λ r. are_even hamming15_columns (row_of (bit_in w) 15 r)) (λ r. true) 13 r in_rows h) l);
+          });
+      columns = λ c h. subst IsHamming13 (column_is w c)
+          (record {
+            long = length-map-range_with_len (λ r. bit_in w r c) 0 13;
+            even = λ j l. eqb-true (ones_over j hamming13_columns (column_of (bit_in w) 13 c) % 2) 0
+                (agree_below_at (λ j. eqb (ones_over j hamming13_columns (column_of (bit_in w) 13 c) % 2) 0) (λ j. true) 4 j
+                (agree_below_at (λ c. are_even hamming13_columns (column_of (bit_in w) 13 c)) (λ c. true) 15 c in_columns h) l);
+          });
+    }
+
+-- and what it holds is spelled by the number that its cells are compared with
+pub information_number : (m w : ℕ) → holds m w ≡ true → information (bits_of 196 w) ≡ bits_of 96 m
+information_number m w held =
+    sym (information_from (bits_of 196 w) (bits_of 96 m) (length-bits_of 96 m)
+    (λ k h. get_or-bits_of 96 m k h
+    ∙ agree_below_at (λ k. m / 2 ^ (95 - k) % 2 == 1) (λ k. bit_in w ((k + 3) / 11) ((k + 3) % 11)) 96 k held h
+    ∙ sym (cell_is w ((k + 3) / 11) ((k + 3) % 11))))
+
 written_number : (m w : ℕ) → is_written m w ≡ true → IsWritten (bits_of 96 m) (bits_of 196 w)
 unfolding is_written
 written_number m w e =
@@ -66,26 +94,8 @@ written_number m w e =
     let last = and_parts (is_clear w) _ rest.1 in
     record {
       long = length-bits_of 196 w;
-      word = record {
-        rows = λ r h. subst IsHamming15 (row_is w r)
-            (record {
-              long = length-map-range_with_len (λ c. bit_in w r c) 0 15;
-              even = λ j l. eqb-true (ones_over j hamming15_columns (row_of (bit_in w) 15 r) % 2) 0
-                  (agree_below_at (λ j. eqb (ones_over j hamming15_columns (row_of (bit_in w) 15 r) % 2) 0) (λ j. true) 4 j
-                  (agree_below_at (λ r. are_even hamming15_columns (row_of (bit_in w) 15 r)) (λ r. true) 13 r all.0 h) l);
-            });
-        columns = λ c h. subst IsHamming13 (column_is w c)
-            (record {
-              long = length-map-range_with_len (λ r. bit_in w r c) 0 13;
-              even = λ j l. eqb-true (ones_over j hamming13_columns (column_of (bit_in w) 13 c) % 2) 0
-                  (agree_below_at (λ j. eqb (ones_over j hamming13_columns (column_of (bit_in w) 13 c) % 2) 0) (λ j. true) 4 j
-                  (agree_below_at (λ c. are_even hamming13_columns (column_of (bit_in w) 13 c)) (λ c. true) 15 c more.0 h) l);
-            });
-      };
-      holds = sym (information_from (bits_of 196 w) (bits_of 96 m) (length-bits_of 96 m)
-          (λ k h. get_or-bits_of 96 m k h
-          ∙ agree_below_at (λ k. m / 2 ^ (95 - k) % 2 == 1) (λ k. bit_in w ((k + 3) / 11) ((k + 3) % 11)) 96 k rest.0 h
-          ∙ sym (cell_is w ((k + 3) / 11) ((k + 3) % 11))));
+      word = product_number w all.0 more.0;
+      holds = information_number m w rest.0;
       reserved = record {
         cells = λ c h. cell_is w 0 c ∙ agree_below_at (λ c. bit_in w 0 c) (λ c. false) 3 c last.0 h;
         first = get_or-bits_of 196 w 0 (omega arith) ∙ not-true (w / 2 ^ 195 % 2 == 1) last.1;
@@ -94,14 +104,14 @@ written_number m w e =
 
 -- ---- the entries of the table
 -- the number that the 196 bits of four words spell
-abbrev number_in : List ℕ → ℕ
+abbrev pub number_in : List ℕ → ℕ
 number_in words = ((get_or words 0 0 * 2 ^ 64 + get_or words 1 0) * 2 ^ 64 + get_or words 2 0) * 2 ^ 4 + get_or words 3 0
 
 -- the entry of the table for an octet of this value at this place
 abbrev pub entry : ℕ → ℕ → List ℕ
 entry p n = get_or (get_or WRITTEN p []) n []
 
-abbrev are_small : List ℕ → Bool
+abbrev pub are_small : List ℕ → Bool
 are_small words =
     nat_lt (get_or words 0 0) (2 ^ 64)
     && (nat_lt (get_or words 1 0) (2 ^ 64) && (nat_lt (get_or words 2 0) (2 ^ 64) && nat_lt (get_or words 3 0) (2 ^ 4)))
@@ -179,7 +189,7 @@ message_is p n h l =
     ∙ ap (λ x. (replicate (8 * p) false ++ bits_of 8 n) ++ x) (zeros_of b)
     ∙ append_assoc (replicate (8 * p) false) (bits_of 8 n) (replicate b false)
 
-spelled_is : (words : List ℕ) → are_small words ≡ true → bits_of 196 (number_in words) ≡ spelled words
+pub spelled_is : (words : List ℕ) → are_small words ≡ true → bits_of 196 (number_in words) ≡ spelled words
 spelled_is words e =
     let a : ℕ = get_or words 0 0 in
     let b : ℕ = get_or words 1 0 in

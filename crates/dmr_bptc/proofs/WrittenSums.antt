@@ -4,7 +4,7 @@ use Rattle.dmr_bits.specs.Bits.{xor, xor_bits}
 use Rattle.dmr_bits.proofs.Lists.{length-xor_bits, get_or-xor_bits}
 use Rattle.dmr_codes.specs.Words.{IsWord-xor}
 use Rattle.dmr_codes.specs.Seven.{IsHamming13, IsHamming15, hamming13_columns, hamming15_columns}
-use Rattle.dmr_bptc.specs.ProductWord.{place, cell, row, column, IsWritten}
+use Rattle.dmr_bptc.specs.ProductWord.{place, cell, row, column, information, IsProductWord, IsWritten}
 use Rattle.dmr_bptc.proofs.Cells.{length-row, length-column, get_or-row, get_or-column, row_from, column_from, place_below}
 use Rattle.dmr_bptc.proofs.Cells.{information_from}
 use Rattle.dmr_bptc.proofs.Existing.{length-information}
@@ -46,31 +46,39 @@ column-xor a b c e f =
 both_clear : (a b : Bool) → a ≡ false → b ≡ false → xor a b ≡ false
 both_clear a b e f = rw (e, f) refl
 
--- a written form of 96 bits has that many of information
-pub length-message : (message bits : List Bool) → IsWritten message bits → length message ≡ 96
-length-message message bits is = ap length (sym is.holds) ∙ length-information bits
+-- the sum of two product words is one
+pub product-xor : (a b : List Bool) → length a ≡ 196 → length b ≡ 196 → IsProductWord a → IsProductWord b
+    → IsProductWord (xor_bits a b)
+product-xor a b e f u v =
+    record {
+      rows = λ r h. subst IsHamming15 (row-xor a b r e f)
+          (IsWord-xor hamming15_columns 4 (row a r) (row b r) (u.rows r h) (v.rows r h));
+      columns = λ c h. subst IsHamming13 (column-xor a b c e f)
+          (IsWord-xor hamming13_columns 4 (column a c) (column b c) (u.columns c h) (v.columns c h));
+    }
+
+-- and it holds the sum of what they hold
+pub information-xor : (m n a b : List Bool) → length a ≡ 196 → length b ≡ 196 → information a ≡ m → information b ≡ n
+    → information (xor_bits a b) ≡ xor_bits m n
+information-xor m n a b e f u v =
+    let p : length m ≡ 96 = ap length (sym u) ∙ length-information a in
+    let q : length n ≡ 96 = ap length (sym v) ∙ length-information b in
+    sym (information_from (xor_bits a b) (xor_bits m n) (length-xor_bits m n (p ∙ sym q) ∙ p)
+    (λ k h.
+    get_or-xor_bits m n k (omega arith) (omega arith)
+    ∙ ap (λ x. xor x (get_or n k false)) (ap (λ l. get_or l k false) (sym u) ∙ information_at a k h)
+    ∙ ap (xor (cell a ((k + 3) / 11) ((k + 3) % 11))) (ap (λ l. get_or l k false) (sym v) ∙ information_at b k h)
+    ∙ sym (cell-xor a b ((k + 3) / 11) ((k + 3) % 11) e f)))
 
 -- the sum of two written forms is that of the sum
 pub written-xor : (m n a b : List Bool) → IsWritten m a → IsWritten n b → IsWritten (xor_bits m n) (xor_bits a b)
 written-xor m n a b u v =
     let e : length a ≡ 196 = u.long in
     let f : length b ≡ 196 = v.long in
-    let p : length m ≡ 96 = length-message m a u in
-    let q : length n ≡ 96 = length-message n b v in
     record {
       long = length-xor_bits a b (e ∙ sym f) ∙ e;
-      word = record {
-        rows = λ r h. subst IsHamming15 (row-xor a b r e f)
-            (IsWord-xor hamming15_columns 4 (row a r) (row b r) (u.word.rows r h) (v.word.rows r h));
-        columns = λ c h. subst IsHamming13 (column-xor a b c e f)
-            (IsWord-xor hamming13_columns 4 (column a c) (column b c) (u.word.columns c h) (v.word.columns c h));
-      };
-      holds = sym (information_from (xor_bits a b) (xor_bits m n) (length-xor_bits m n (p ∙ sym q) ∙ p)
-          (λ k h.
-          get_or-xor_bits m n k (omega arith) (omega arith)
-          ∙ ap (λ x. xor x (get_or n k false)) (ap (λ l. get_or l k false) (sym u.holds) ∙ information_at a k h)
-          ∙ ap (xor (cell a ((k + 3) / 11) ((k + 3) % 11))) (ap (λ l. get_or l k false) (sym v.holds) ∙ information_at b k h)
-          ∙ sym (cell-xor a b ((k + 3) / 11) ((k + 3) % 11) e f)));
+      word = product-xor a b e f u.word v.word;
+      holds = information-xor m n a b e f u.holds v.holds;
       reserved = record {
         cells = λ c h. cell-xor a b 0 c e f ∙ both_clear (cell a 0 c) (cell b 0 c) (u.reserved.cells c h) (v.reserved.cells c h);
         first = get_or-xor_bits a b 0 (omega arith) (omega arith)

@@ -1,5 +1,5 @@
 //! Correcting columns and then rows, and the information of what that gives.
-ghost use Rattle.std.specs.Prelude.{◌≡◌, ◌<◌, ◌≤◌, ◌+◌, ◌-◌, ◌*◌, ◌/◌, ◌%◌, ◌^◌, ℕ, List, Bool, true, false, Some};
+ghost use Rattle.std.specs.Prelude.{◌≡◌, ◌<◌, ◌≤◌, ◌+◌, ◌-◌, ◌*◌, ◌/◌, ◌%◌, ◌^◌, ℕ, List, Bool, IsTrue, true, false, Some};
 ghost use Rattle.std.specs.Prelude.{IfSome, option_map, slice_index_or};
 ghost use Rattle.dmr_bits.specs.Bits.{bits_of};
 ghost use Rattle.dmr_codes.specs.Seven.{IsHamming15};
@@ -10,6 +10,9 @@ ghost use Rattle.dmr_bptc.specs.declared.decoding.Restored.{Restored};
 
 use crate::encoding::bptc_encode;
 use crate::likely::likely_information;
+use crate::mended::mended_information;
+use crate::nearness::differs_once_a_column;
+use crate::reserved::with_reserved_cells;
 use crate::table::{Table, are_columns_words, correct_columns, correct_row, first_cells, table_of};
 use dmr_bits::Bits;
 
@@ -42,12 +45,21 @@ pub fn bptc_restore(bits: &Bits<196>) -> Option<Restored>
     ensures decoded { IsDecoded bits.now (option_map (λ (r : Restored). r.information) result) }
     ensures written { IfSome result (λ r. IsWritten r.information r.written) }
 {
-    // Most often no bit is wrong, and what was received is the written form of what it holds.
+    // Most often no bit is wrong but reserved ones.
     let likely = likely_information(bits);
     let written = bptc_encode(&likely);
-    if written.distance(bits) == 0 {
+    if is_received(&written, bits) {
         return Some(Restored {
             information: likely,
+            written,
+        });
+    }
+    // Where few are wrong, they most often stand in columns of their own.
+    let mended = mended_information(bits, &likely);
+    let written = bptc_encode(&mended);
+    if is_near(&written, bits) {
+        return Some(Restored {
+            information: mended,
             written,
         });
     }
@@ -58,6 +70,21 @@ pub fn bptc_restore(bits: &Bits<196>) -> Option<Restored>
         information,
         written: bptc_encode(&information),
     })
+}
+
+/// Whether a written form was received, but for the reserved cells.
+fn is_received(written: &Bits<196>, bits: &Bits<196>) -> bool
+    ensures decoded { IsTrue result → (message : List Bool) → IsWritten message written.now → IsDecoded bits.now (Some message) }
+{
+    with_reserved_cells(written, bits) == *bits
+}
+
+/// Whether received bits hold what a written form holds, as far as a look at the columns tells: but for the reserved cells, they
+/// differ from it at most once in each column.
+fn is_near(written: &Bits<196>, bits: &Bits<196>) -> bool
+    ensures decoded { IsTrue result → (message : List Bool) → IsWritten message written.now → IsDecoded bits.now (Some message) }
+{
+    differs_once_a_column(&with_reserved_cells(written, bits), bits)
 }
 
 /// The information of 196 bits once each column and then each row is corrected.

@@ -11,6 +11,7 @@ pub mod Pieces
 pub mod Readings
 pub mod ReceivedLemmas
 pub mod ReceivedReading
+pub mod Silences
 pub mod Spellings
 pub mod Torn
 pub mod UplinkLemmas

@@ -12,3 +12,9 @@ pub record Tears (old new : Option (List ℕ)) (octets : List ℕ) : Type 0 wher
   pub count : ℕ
   pub fewer : count < length octets
   pub front : Appends old new (take count octets)
+
+-- A sink took all of the first octets, and then a front of others, and not all of these.
+pub record TearsBehind (first : List ℕ) (old new : Option (List ℕ)) (others : List ℕ) : Type 0 where
+  pub between : Option (List ℕ)
+  pub whole : Appends old between first
+  pub torn : Tears between new others

@@ -5,5 +5,6 @@ pub mod Head
 pub mod NextSlot
 pub mod Outgoing
 pub mod Received
+pub mod Silence
 pub mod Spelling
 pub mod Uplink

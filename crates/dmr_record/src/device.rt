@@ -1,10 +1,13 @@
 //! Where octets come from and where they go.
 
-ghost use Rattle.std.specs.Prelude.{◌≡◌, ℕ, ◌<◌, ◌≤◌, [], ◌∷◌, List, Option, Bool, false, length, IfOk, IfSome, IfNone, OnErr};
-ghost use Rattle.std.specs.Io.KnownBytes.{Consumes, IsAtEnd, ReadConsumes, WriteAppends};
+ghost use Rattle.std.specs.Prelude.{◌≡◌, ℕ, ◌<◌, ◌≤◌, [], ◌∷◌, List, Option, Bool, false, length};
+ghost use Rattle.std.specs.Prelude.{IfOk, IfSome, IfNone, OnOk, OnErr};
+ghost use Rattle.std.specs.Io.KnownBytes.{Appends, Consumes, IsAtEnd, ReadConsumes, WriteAppends};
 ghost use Rattle.std.specs.Io.Buffered.{reader_remaining};
-ghost use Rattle.dmr_record.specs.Devices.{failed_after};
+ghost use Rattle.dmr_record.specs.Devices.{TearsBehind, failed_after};
+ghost use Rattle.dmr_record.specs.Silence.{silence_octets};
 
+use crate::silence::{Copied, SILENT_FRAMES, write_silence};
 use std::io::{BufRead, BufReader, Read, Write};
 
 /// A device has failed. It doesn't say why.
@@ -40,6 +43,26 @@ pub trait Source {
             Ok(0) => Ok(None),
             Ok(_) => Ok(Some(buffer[0])),
             Err(fault) => Err(fault),
+        }
+    }
+
+    /// Copies silent frames that are at hand to a sink, which has the same octets for them, and passes over those that went out
+    /// whole. It copies as many as the sink takes of `SILENT_RUN` frames, and none where there are fewer at hand.
+    fn copy_silence<K: Sink>(&mut self, sink: &mut K) -> Copied
+        requires well { has_failed self.old ≡ false }
+        requires sink { K.has_failed sink.old ≡ false }
+        ensures few { result.frames ≤ 32 }
+        ensures passed { Consumes (left self.old) (left self.new) (silence_octets result.frames) }
+        ensures well { has_failed self.new ≡ false }
+        ensures written { OnOk result.result
+            (Appends (K.held sink.old) (K.held sink.new) (silence_octets result.frames)) }
+        ensures torn { OnErr result.result
+            (TearsBehind (silence_octets result.frames) (K.held sink.old) (K.held sink.new) (silence_octets 1)) }
+        ensures failure { K.has_failed sink.new ≡ failed_after (K.has_failed sink.old) result.result }
+    {
+        Copied {
+            frames: 0,
+            result: Ok(()),
         }
     }
 }
@@ -168,6 +191,19 @@ impl<R: Read> Source for FromBuffered<R> {
             }
             [] => read_one(&mut self.reader, &mut self.is_failed),
         }
+    }
+
+    #[inline(always)]
+    fn copy_silence<K: Sink>(&mut self, sink: &mut K) -> Copied {
+        if !self.reader.buffer().starts_with(&SILENT_FRAMES) {
+            return Copied {
+                frames: 0,
+                result: Ok(()),
+            };
+        }
+        let copied = write_silence(sink);
+        self.reader.consume(2 * copied.frames as usize);
+        copied
     }
 }
 

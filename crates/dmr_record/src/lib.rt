@@ -7,8 +7,9 @@
 //! Contracts see a device as the octets that it has left or holds, where it tells them, and whether it has
 //! failed: `specs/Devices.antt`. What a file holds is a list of records, and each stream has a file of `specs/`
 //! that says how a record is spelled and what octets show which fault: `Head`, `Uplink`, `Outgoing`, `Downlink`
-//! and `Received`. A call says what it did by the octets that it took or put: those of a record, or those that
-//! show the fault. `laws` says that a file has one reading, and that a file of records shows no fault.
+//! and `Received`. `Silence` has the octets of silent frames, which are the same in both streams of slots. A call
+//! says what it did by the octets that it took or put: those of a record, or those that show the fault. `laws` says
+//! that a file has one reading, and that a file of records shows no fault.
 #![tactic(auto)]
 
 mod device;
@@ -19,6 +20,7 @@ pub mod laws;
 mod next_slot;
 mod outgoing;
 mod received;
+mod silence;
 mod tag;
 mod transfer;
 mod uplink;
@@ -39,5 +41,6 @@ pub use outgoing::{
 pub use received::{
     OCTET_LIMIT, RECEIVED_LIMIT, Received, ReceivedKind, read_received, write_received,
 };
+pub use silence::{Copied, SILENT_RUN};
 pub use transfer::put;
 pub use uplink::{FRAME_LIMIT, read_frame, read_frame_into, read_uplink_slot, write_uplink_slot};

@@ -1,6 +1,6 @@
 //! The uplink file, frame by frame.
 
-ghost use Rattle.std.specs.Prelude.{◌≡◌, ◌%◌, ◌<◌, ◌⊎◌, [], ◌∷◌, List, ℕ, length, false, true, Some};
+ghost use Rattle.std.specs.Prelude.{◌≡◌, ◌%◌, ◌<◌, ◌⊎◌, [], ◌∷◌, List, ℕ, length, None, Some, false, true};
 ghost use Rattle.std.specs.Prelude.{IfOk, IfErr, OnOk, OnErr, IfSome, IfNone};
 ghost use Rattle.std.specs.Io.KnownBytes.{Consumes, Appends, IsAtEnd};
 ghost use Rattle.dmr_record.specs.Devices.{Tears};
@@ -23,6 +23,16 @@ pub const FRAME_LIMIT: u32 = 1 << 20;
 /// How many slots an uplink file has at most: two for each frame.
 const UPLINK_SLOT_LIMIT: u32 = 2 * FRAME_LIMIT;
 
+/// Makes a slot silent, which most often is so already.
+#[inline(always)]
+fn silence(slot: &mut Option<[u8; 33]>)
+    ensures silent { slot.new ≡ None }
+{
+    if slot.is_some() {
+        *slot = None;
+    }
+}
+
 /// Reads the rest of a slot that begins with this tag, to its place.
 #[inline(always)]
 fn read_slot_into<S: Source>(
@@ -42,21 +52,20 @@ fn read_slot_into<S: Source>(
 {
     match tag {
         SILENCE => {
-            *slot = None;
+            silence(slot);
             Ok(())
         }
-        BURST => {
-            *slot = Some(read_burst(source)?);
-            Ok(())
-        }
+        BURST => read_burst(source, slot.insert([0; 33])),
         _ => Err(RecordFault::BadTag),
     }
 }
 
-/// Reads the octets of a burst.
-fn read_burst<S: Source>(source: &mut S) -> Result<[u8; 33], RecordFault>
+/// Reads the octets of a burst to their place.
+#[inline(always)]
+fn read_burst<S: Source>(source: &mut S, burst: &mut [u8; 33]) -> Result<(), RecordFault>
     requires well { S.has_failed source.old ≡ false }
-    ensures burst { IfOk result (λ burst. Consumes (S.left source.old) (S.left source.new) burst) }
+    ensures burst { OnOk result (Consumes (S.left source.old) (S.left source.new) burst.new) }
+    ensures whole { length burst.new ≡ 33 }
     ensures well { OnOk result (S.has_failed source.new ≡ false) }
     ensures part { OnErr result ((part : List ℕ) × (length part < 33)
         × Consumes (S.left source.old) (S.left source.new) part) }
@@ -64,9 +73,13 @@ fn read_burst<S: Source>(source: &mut S) -> Result<[u8; 33], RecordFault>
     ensures cut { IfErr result (λ e. is_of_end e ≡ true → IsAtEnd (S.left source.new)) }
     ensures device { IfErr result (λ e. S.has_failed source.new ≡ is_device_fault e) }
 {
-    let mut burst = [0u8; 33];
-    fill_whole(source, &mut burst, 33)?;
-    Ok(burst)
+    // Most often a source gives all of it at once.
+    match source.read(&mut burst[..]) {
+        Ok(33) => Ok(()),
+        Ok(0) => Err(RecordFault::CutRecord),
+        Ok(came) => fill_whole(source, &mut burst[came..], 33 - came),
+        Err(_) => Err(RecordFault::Read),
+    }
 }
 
 /// Reads the next frame of an uplink file behind its head: slot 1 and slot 2, each silent or a burst. It

@@ -1,5 +1,5 @@
 -- Which faults a reader of a file shows, and which file a fault is of.
-use Rattle.std.proofs.Common.{◌≡◌, ℕ, true, List, refl}
+use Rattle.std.proofs.Common.{◌≡◌, ℕ, true, List, refl, subst, sym}
 use Rattle.dmr_record.specs.declared.fault.RecordFault.{RecordFault}
 use Rattle.dmr_record.specs.declared.fault.RecordFault.TheVariants.{Magic, Version, CutRecord, BadTag, HalfFrame}
 use Rattle.dmr_record.specs.declared.fault.RecordFault.TheVariants.{FrameOrder, TooLong, Read, Write}
@@ -78,6 +78,11 @@ torn_with_uplink (File Uplink fault) m uplink z ready frame a b c d u tears = ab
 torn_with_uplink (File Outgoing fault) m uplink z ready frame a b c d u tears = absurd u
 torn_with_uplink (File Downlink fault) m uplink z ready frame a b c d (write, u) tears = (write, tears Downlink u)
 torn_with_uplink (File Received fault) m uplink z ready frame a b c d (write, u) tears = (write, tears Received u)
+
+-- a silent frame among others is such a frame
+pub torn_in_silence : (e : RunFault) (m : Moment) (uplink : KnownOctets) (z : Files) → e ≡ File Downlink Write
+    → TearsWithUplink Downlink m uplink z → LeavesWithUplink e m uplink z
+torn_in_silence e m uplink z is tears = subst (λ (e : RunFault). LeavesWithUplink e m uplink z) (sym is) (refl, tears)
 
 -- the same, past the end of the uplink
 pub torn_past_uplink : (e : RunFault) (m : Moment) (x y z : KnownOctets) (ready : State) (frame : UplinkSlots)

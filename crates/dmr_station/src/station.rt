@@ -1,5 +1,5 @@
 //! The base station, frame after frame.
-ghost use Rattle.std.specs.Prelude.{◌≡◌, ◌+◌, ◌*◌, ◌^◌, ◌<◌, ◌≤◌, [], ◌∷◌, None, IsTrue, IfOk, IfSome, option_to_list};
+ghost use Rattle.std.specs.Prelude.{◌≡◌, ◌+◌, ◌*◌, ◌^◌, ◌<◌, ◌≤◌, [], ◌∷◌, None, IsTrue, IfOk, IfSome, option_to_list, replicate};
 ghost use Rattle.std.specs.Prelude.{if◌then◌else◌};
 ghost use Rattle.std.specs.List.{flat_map};
 ghost use Rattle.dmr_station.specs.StationRules.{outcome_count};
@@ -73,8 +73,9 @@ impl Station {
     ghost use Rattle.dmr_gateway.specs.Received.{IsFitReceived};
     ghost use Rattle.std.specs.Prelude.{◌↔◌, IsTrue, option_copied};
     ghost use Rattle.dmr_gateway.specs.GatewayRules.{IsSlot, HasNothingReceived, next_received};
-    ghost use Rattle.dmr_station.specs.StationRules.{settings_of};
-    ghost use Rattle.dmr_station.specs.Station.{fresh, IsOffered, IsExchanged, taken_once, counts_of_gateway};
+    ghost use Rattle.dmr_station.specs.DownlinkRules.{silent_frame};
+    ghost use Rattle.dmr_station.specs.StationRules.{RestsInSilence, settings_of};
+    ghost use Rattle.dmr_station.specs.Station.{fresh, IsOffered, AreExchanged, IsExchanged, taken_once, counts_of_gateway};
 
     /// A station that has heard and sent nothing. It takes memory here alone, for each slot's line, and for each slot of
     /// the gateway, and an error is that it was refused.
@@ -131,14 +132,49 @@ impl Station {
         ensures exchanged { IsExchanged self.old frame.now records.new self.new }
     {
         // Most frames are silent, and where all around them is, nothing changes.
-        if self.is_at_rest && is_silent(frame) {
-            self.decider.pass_silence();
-            self.counts.frames += 1;
+        if self.rests_in(frame) {
+            self.pass_silent_frame();
             clear(&mut records[0]);
             clear(&mut records[1]);
         } else {
             self.decide(frame, records);
         }
+    }
+
+    /// Whether a frame is silent, and silence was found to change nothing. Then `pass_silence` takes it, and each silent frame
+    /// behind it.
+    #[inline(always)]
+    pub fn rests_in(&self, frame: &UplinkFrame) -> bool
+        ensures silent { IsTrue result → frame.now ≡ silent_frame }
+        ensures rests { IsTrue result → RestsInSilence self.now.memory }
+    {
+        self.is_at_rest && is_silent(frame)
+    }
+
+    /// Takes so many silent frames where silence changes nothing. It is as if `exchange` took each of them: nothing goes out, and
+    /// nothing is received.
+    pub fn pass_silence(&mut self, frames: u32)
+        requires rests { RestsInSilence self.old.memory }
+        requires frames { self.old.frames + frames ≤ 2 ^ 29 }
+        ensures exchanged { AreExchanged self.old (replicate frames []) (replicate frames silent_frame)
+            (replicate frames (None ∷ None ∷ [])) (replicate frames []) self.new }
+        ensures rests { RestsInSilence self.new.memory }
+    {
+        for _frame in 0..frames {
+            self.pass_silent_frame();
+        }
+    }
+
+    /// Takes a silent frame where silence changes nothing.
+    #[inline(always)]
+    fn pass_silent_frame(&mut self)
+        requires rests { RestsInSilence self.old.memory }
+        requires frames { self.old.frames < 2 ^ 29 }
+        ensures exchanged { IsExchanged self.old silent_frame (None ∷ None ∷ []) self.new }
+        ensures rests { RestsInSilence self.new.memory }
+    {
+        self.decider.pass_silence();
+        self.counts.frames += 1;
     }
 
     /// Takes a frame of the uplink, whatever came before it.

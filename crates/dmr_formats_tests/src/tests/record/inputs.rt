@@ -4,6 +4,7 @@ ghost use Rattle.std.specs.Prelude.{◌≡◌, false};
 use super::SENDINGS;
 use dmr_record::*;
 use dmr_test_devices::{FailsAt, OneByOne};
+use std::io::BufReader;
 
 /// A control signalling block as a radio sends it.
 const BLOCK: [u8; 33] = [
@@ -177,4 +178,46 @@ fn full_sinks(rt: HostRuntime) {
     let mut room = [0xee; 44];
     assert!(rt; write_one_datagram(&mut ToWrite::new(&mut room[..])) == Err(RecordFault::Write));
     assert!(rt; ONE_DATAGRAM.starts_with(&room));
+}
+
+/// What comes of copying silence to a sink with this room.
+fn copied_to<S: Source>(source: &mut S, room: &mut [u8]) -> Copied
+    requires well { S.has_failed source.old ≡ false }
+    ensures well { S.has_failed source.new ≡ false }
+{
+    source.copy_silence(&mut ToWrite::new(room))
+}
+
+/// A run of silent frames is copied where all of it is at hand, as far as the sink takes it.
+#[test]
+fn silence_at_hand(rt: HostRuntime) {
+    let none = Copied {
+        frames: 0,
+        result: Ok(()),
+    };
+    let whole = Copied {
+        frames: 32,
+        result: Ok(()),
+    };
+    let torn = Copied {
+        frames: 31,
+        result: Err(DeviceFault),
+    };
+    let silence = [0u8; 135];
+    let mut room = [0xee; 64];
+    assert!(rt; copied_to(&mut FromRead::new(&silence[..]), &mut room) == none);
+    if let Ok(reader) = BufReader::with_capacity(rt.alloc(), 200, &silence[..]) {
+        let mut source = FromBuffered::new(reader);
+        // Nothing is at hand before the first octet is read.
+        assert!(rt; copied_to(&mut source, &mut room) == none);
+        assert!(rt; source.next() == Ok(Some(0)));
+        assert!(rt; copied_to(&mut source, &mut room) == whole);
+        assert!(rt; room == [0; 64]);
+        // There is room for 31 frames and half of one.
+        assert!(rt; copied_to(&mut source, &mut room[..63]) == torn);
+        // Eight octets are left, and no run.
+        assert!(rt; copied_to(&mut source, &mut room) == none);
+    } else {
+        assert!(rt; false, "there is room");
+    }
 }

@@ -1,14 +1,12 @@
 use Rattle.std.proofs.Common.{rules}
 use Rattle.dmr_station.proofs.Pairs.{both_set}
-use Rattle.dmr_station.proofs.Resting.{exchanged_in_silence}
 use Rattle.dmr_station.proofs.station.Station.exchange_into.Goals as goal
 
-pub returns-then-is_silent : goal.returns-then-is_silent
-returns-then-is_silent c =
-    let frame = c.is_silent.ensures.silent c.if-is_silent.true in
+pub returns-then-rests_in : goal.returns-then-rests_in
+returns-then-rests_in c =
+    let frame = c.rests_in.ensures.silent c.if-rests_in.true in
     record {
-      exchanged = rw (← c.self.view_is, frame)
-          (rw (both_set c.args.records.now c.clear.new.place c.clear-then-is_silent.new.place (search rules))
-          (rw (c.clear.ensures.gone, c.clear-then-is_silent.ensures.gone)
-          (exchanged_in_silence _ c.pass_silence.new.self c.pass_silence.ensures.rests c.pass_silence.ensures.asked)));
+      exchanged = rw frame
+          (rw (both_set c.args.records.now c.clear.new.place c.clear-then-rests_in.new.place (search rules))
+          (rw (c.clear.ensures.gone, c.clear-then-rests_in.ensures.gone) c.pass_silent_frame.ensures.exchanged));
     }
