@@ -1,9 +1,11 @@
 //! What is printed of two lists. The lines are worked out from docs/protocol.md, and so are the counts.
 use crate::recordings::UPLINK;
-use crate::tests::{ALL, NAMES, Wanted, expect, expect_octets};
+use crate::tests::{
+    ALL, NAMES, NEVER, Wanted, expect, expect_octets, expect_read_failure, expect_write_failure,
+};
 use dmr_compare::{CompareSettings, Ignored, Shift, compare};
 use dmr_record::{FromRead, ToWrite};
-use dmr_test_devices::{FailsAt, OneByOne};
+use dmr_test_devices::OneByOne;
 use std::process::Abort;
 use std::test::Fail;
 
@@ -315,48 +317,16 @@ fn failing_devices_of_lists(rt: HostRuntime) -> Result<(), Fail> {
     let alloc = rt.alloc();
     let first = format!(in alloc; "{RECEIVED}{STATUS}")?;
     let first = hex::decode(alloc, first.as_bytes())?;
-    let second = format!(in alloc; "{RECEIVED}03000000060102000003000401020006")?;
-    let second = hex::decode(alloc, second.as_bytes())?;
     // The head is one call, and a record three: its tag, its fields and its octets.
     for (calls, octet) in [(0, 0), (1, 8), (3, 8), (4, 24)] {
-        let mut good = FromRead::new(first.as_slice());
-        let mut bad = FailsAt::new(FromRead::new(first.as_slice()), calls);
-        let mut output = ToWrite::new(Vec::new(alloc));
-        let mut errors = ToWrite::new(Vec::new(alloc));
-        let status = compare(
-            alloc,
-            &ALL,
-            &NAMES,
-            &mut good,
-            &mut bad,
-            &mut output,
-            &mut errors,
-        );
-        assert_eq!(&rt; status, 2);
-        assert_eq!(&rt; output.into_inner().len(), 0);
-        let wanted = format!(in alloc; "error: two?.dmrd: read failed at octet {octet}\n")?;
-        assert!(&rt; errors.into_inner().as_slice() == wanted.as_bytes());
+        let told = format!(in alloc; "error: two?.dmrd: read failed at octet {octet}\n")?;
+        expect_read_failure(&rt, first.as_slice(), NEVER, calls, told.as_str());
     }
+    let second = format!(in alloc; "{RECEIVED}03000000060102000003000401020006")?;
+    let second = hex::decode(alloc, second.as_bytes())?;
     // The first line is one write, the second two, and the counts are one.
-    for (calls, lines) in [(0, 0), (1, 1), (2, 1), (3, 2)] {
-        let mut one = FromRead::new(first.as_slice());
-        let mut other = FromRead::new(second.as_slice());
-        let mut output = FailsAt::new(ToWrite::new(Vec::new(alloc)), calls);
-        let mut errors = ToWrite::new(Vec::new(alloc));
-        let status = compare(
-            alloc,
-            &ALL,
-            &NAMES,
-            &mut one,
-            &mut other,
-            &mut output,
-            &mut errors,
-        );
-        assert_eq!(&rt; status, 2);
-        let printed = output.into_inner().into_inner();
-        let ends = printed.as_slice().iter().filter(|octet| **octet == 10);
-        assert_eq!(&rt; ends.count(), lines);
-        assert_eq!(&rt; errors.into_inner().len(), 0);
+    for (fails, lines) in [(0, 0), (1, 1), (2, 1), (3, 2)] {
+        expect_write_failure(&rt, first.as_slice(), second.as_slice(), fails, lines);
     }
     Ok(())
 }

@@ -513,11 +513,72 @@ fn faults(rt: HostRuntime) -> Result<(), Fail> {
     )
 }
 
+/// The call that no device lives to fail at.
+pub(crate) const NEVER: u64 = u64::MAX;
+
+/// A file is compared with itself until reading fails, for each of the two at one of these calls. Nothing is printed then, and this
+/// is told.
+pub(crate) fn expect_read_failure(
+    rt: &(impl Abort + AllocGlobal),
+    octets: &[u8],
+    first_fails: u64,
+    second_fails: u64,
+    told: &str,
+) {
+    let alloc = rt.alloc();
+    let mut first = FailsAt::new(FromRead::new(octets), first_fails);
+    let mut second = FailsAt::new(FromRead::new(octets), second_fails);
+    let mut output = ToWrite::new(Vec::new(alloc));
+    let mut errors = ToWrite::new(Vec::new(alloc));
+    let status = compare(
+        alloc,
+        &ALL,
+        &NAMES,
+        &mut first,
+        &mut second,
+        &mut output,
+        &mut errors,
+    );
+    assert_eq!(rt; status, 2);
+    assert_eq!(rt; output.into_inner().len(), 0);
+    assert!(rt; errors.into_inner().as_slice() == told.as_bytes());
+}
+
+/// Two files that differ are compared until printing fails at this call. So many lines are printed then, and nothing is told.
+pub(crate) fn expect_write_failure(
+    rt: &(impl Abort + AllocGlobal),
+    first: &[u8],
+    second: &[u8],
+    fails: u64,
+    lines: usize,
+) {
+    let alloc = rt.alloc();
+    let mut first = FromRead::new(first);
+    let mut second = FromRead::new(second);
+    let mut output = FailsAt::new(ToWrite::new(Vec::new(alloc)), fails);
+    let mut errors = ToWrite::new(Vec::new(alloc));
+    let status = compare(
+        alloc,
+        &ALL,
+        &NAMES,
+        &mut first,
+        &mut second,
+        &mut output,
+        &mut errors,
+    );
+    assert_eq!(rt; status, 2);
+    let printed = output.into_inner().into_inner();
+    let ends = printed.as_slice().iter().filter(|octet| **octet == 10);
+    assert_eq!(rt; ends.count(), lines);
+    assert_eq!(rt; errors.into_inner().len(), 0);
+}
+
 #[test]
 fn failing_sources(rt: HostRuntime) -> Result<(), Fail> {
     let alloc = rt.alloc();
     let text = downlink(&rt)?;
     let octets = hex::decode(alloc, text.as_bytes())?;
+    let octets = octets.as_slice();
     // The head is one call, each silent slot one, and a burst two.
     for (calls, told) in [
         (0, "read failed at octet 0\n"),
@@ -525,40 +586,10 @@ fn failing_sources(rt: HostRuntime) -> Result<(), Fail> {
         (12, "read failed at octet 19, frame 5, slot 2\n"),
         (14, "read failed at octet 20, frame 6, slot 1\n"),
     ] {
-        let mut output = ToWrite::new(Vec::new(alloc));
-        let mut errors = ToWrite::new(Vec::new(alloc));
-        let mut good = FromRead::new(octets.as_slice());
-        let mut bad = FailsAt::new(FromRead::new(octets.as_slice()), calls);
-        let status = compare(
-            alloc,
-            &ALL,
-            &NAMES,
-            &mut good,
-            &mut bad,
-            &mut output,
-            &mut errors,
-        );
-        assert_eq!(&rt; status, 2);
-        assert_eq!(&rt; output.into_inner().len(), 0);
-        let wanted = format!(in alloc; "error: two?.dmrd: {told}")?;
-        assert!(&rt; errors.into_inner().as_slice() == wanted.as_bytes());
-        let mut errors = ToWrite::new(Vec::new(alloc));
-        let mut output = ToWrite::new(Vec::new(alloc));
-        let mut good = FromRead::new(octets.as_slice());
-        let mut bad = FailsAt::new(FromRead::new(octets.as_slice()), calls);
-        let status = compare(
-            alloc,
-            &ALL,
-            &NAMES,
-            &mut bad,
-            &mut good,
-            &mut output,
-            &mut errors,
-        );
-        assert_eq!(&rt; status, 2);
-        assert_eq!(&rt; output.into_inner().len(), 0);
-        let wanted = format!(in alloc; "error: one.dmrd: {told}")?;
-        assert!(&rt; errors.into_inner().as_slice() == wanted.as_bytes());
+        let first = format!(in alloc; "error: one.dmrd: {told}")?;
+        expect_read_failure(&rt, octets, calls, NEVER, first.as_str());
+        let second = format!(in alloc; "error: two?.dmrd: {told}")?;
+        expect_read_failure(&rt, octets, NEVER, calls, second.as_str());
     }
     Ok(())
 }
@@ -566,40 +597,22 @@ fn failing_sources(rt: HostRuntime) -> Result<(), Fail> {
 #[test]
 fn failing_sinks(rt: HostRuntime) -> Result<(), Fail> {
     let alloc = rt.alloc();
-    let expected = downlink(&rt)?;
-    let first = hex::decode(alloc, expected.as_bytes())?;
-    let got = format!(in alloc; "{DOWNLINK_BEFORE}{TURNED}{DOWNLINK_BEHIND}")?;
-    let second = hex::decode(alloc, got.as_bytes())?;
+    let first = downlink(&rt)?;
+    let first = hex::decode(alloc, first.as_bytes())?;
+    let second = format!(in alloc; "{DOWNLINK_BEFORE}{TURNED}{DOWNLINK_BEHIND}")?;
+    let second = hex::decode(alloc, second.as_bytes())?;
     // A line is one write: two of the difference, and one of the counts.
-    for (calls, lines) in [(0, 0), (1, 1), (2, 2)] {
-        let mut one = FromRead::new(first.as_slice());
-        let mut other = FromRead::new(second.as_slice());
-        let mut output = FailsAt::new(ToWrite::new(Vec::new(alloc)), calls);
-        let mut errors = ToWrite::new(Vec::new(alloc));
-        let status = compare(
-            alloc,
-            &ALL,
-            &NAMES,
-            &mut one,
-            &mut other,
-            &mut output,
-            &mut errors,
-        );
-        assert_eq!(&rt; status, 2);
-        let printed = output.into_inner().into_inner();
-        assert_eq!(&rt;
-            printed
-                .as_slice()
-                .iter()
-                .filter(|octet| **octet == 10)
-                .count(),
-            lines
-        );
-        assert_eq!(&rt; errors.into_inner().len(), 0);
+    for (fails, lines) in [(0, 0), (1, 1), (2, 2)] {
+        expect_write_failure(&rt, first.as_slice(), second.as_slice(), fails, lines);
     }
-    // And where a fault can't be told.
-    let mut one = FromRead::new(first.as_slice());
-    let mut other = FromRead::new(second.get(..4).unwrap_or(&[]));
+    Ok(())
+}
+
+#[test]
+fn fault_that_cannot_be_told(rt: HostRuntime) {
+    let alloc = rt.alloc();
+    let mut one = FromRead::new(b"DMRD\x01\x00\x00\x00".as_slice());
+    let mut other = FromRead::new(b"DMRD".as_slice());
     let mut output = ToWrite::new(Vec::new(alloc));
     let mut errors = FailsAt::new(ToWrite::new(Vec::new(alloc)), 0);
     let status = compare(
@@ -611,8 +624,7 @@ fn failing_sinks(rt: HostRuntime) -> Result<(), Fail> {
         &mut output,
         &mut errors,
     );
-    assert_eq!(&rt; status, 2);
-    Ok(())
+    assert_eq!(rt; status, 2);
 }
 
 #[test]

@@ -183,6 +183,39 @@ fn print_entries<S: Source, K: Sink>(
     }
 }
 
+/// Prints what a log, of which no frame came, tells of a file, as far as the file can be read.
+fn print_told<S: Source, K: Sink>(
+    alloc: Global,
+    settings: &LogSettings,
+    log: &mut Log,
+    source: &mut S,
+    sink: &mut K,
+) -> Result<(), LogFault>
+    requires new { log.old ≡ spec.log_of settings.now.colour settings.now.address }
+    requires source { S.has_failed source.old ≡ false }
+    requires sink { K.has_failed sink.old ≡ false }
+    ensures put { part.IsLogPutByEnd result settings.now (S.left source.old) (S.left source.new)
+        (K.held sink.old) (K.held sink.new) }
+    ensures well { OnOk result (S.has_failed source.new ≡ false) }
+    ensures source { IfErr result (λ e. part.HasReadFailed e (S.has_failed source.new)) }
+    ensures failed { K.has_failed sink.new ≡ has_sink_failed result }
+{
+    let Ok(mut text) = String::with_capacity(alloc, LONGEST_LINE) else {
+        return Err(LogFault::Memory);
+    };
+    read_uplink_head(source)?;
+    print_head(alloc, settings.form, sink)?;
+    let printing = Printing {
+        alloc,
+        form: settings.form,
+        start: settings.start,
+        address: settings.address.unwrap_or(0),
+        filter: settings.filter,
+    };
+    let summary = print_entries(printing, log, source, &mut text, sink)?;
+    print_end(settings, summary, &mut text, sink)
+}
+
 /// Prints the log of a file to a sink, as far as the file can be read.
 fn print_to<S: Source, K: Sink>(
     alloc: Global,
@@ -200,20 +233,7 @@ fn print_to<S: Source, K: Sink>(
     ensures failed { K.has_failed sink.new ≡ has_sink_failed result }
 {
     let mut log = new_log(alloc, settings.colour, settings.address)?;
-    let Ok(mut text) = String::with_capacity(alloc, LONGEST_LINE) else {
-        return Err(LogFault::Memory);
-    };
-    read_uplink_head(source)?;
-    print_head(alloc, settings.form, sink)?;
-    let printing = Printing {
-        alloc,
-        form: settings.form,
-        start: settings.start,
-        address: settings.address.unwrap_or(0),
-        filter: settings.filter,
-    };
-    let summary = print_entries(printing, &mut log, source, &mut text, sink)?;
-    print_end(settings, summary, &mut text, sink)
+    print_told(alloc, settings, &mut log, source, sink)
 }
 
 /// Tells why the log of a file of this name wasn't printed whole, or another view of that log.

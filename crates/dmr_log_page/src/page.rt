@@ -4,6 +4,7 @@ ghost use Rattle.std.specs.Io.KnownBytes.{IsAtEnd};
 ghost use Rattle.dmr_lines.specs.Status.{failure, success};
 ghost use Rattle.dmr_log_forms.specs.Faults.{has_sink_failed};
 ghost use Rattle.dmr_log_forms.specs.Part as forms;
+ghost use Rattle.dmr_log_forms.specs.Whole.{log_of};
 ghost use Rattle.dmr_log_forms.specs.declared.fault.LogFault.{LogFault as Fault};
 ghost use Rattle.dmr_log_page.specs.Minutes.{entries_of};
 ghost use Rattle.dmr_log_page.specs.Pages as spec;
@@ -66,6 +67,44 @@ fn print_minutes<S: Source, K: Sink>(
     }
 }
 
+/// Prints the page of what a log, of which no frame came, tells of a file, as far as the file can be read.
+fn print_told<S: Source, K: Sink>(
+    alloc: Global,
+    name: &str,
+    settings: &PageSettings,
+    log: &mut Log,
+    source: &mut S,
+    sink: &mut K,
+) -> Result<(), LogFault>
+    requires new { log.old ≡ log_of settings.now.colour settings.now.address }
+    requires source { S.has_failed source.old ≡ false }
+    requires sink { K.has_failed sink.old ≡ false }
+    ensures put { part.IsPagePutByEnd result settings.now (S.left source.old) (S.left source.new)
+        (K.held sink.old) (K.held sink.new) }
+    ensures well { OnOk result (S.has_failed source.new ≡ false) }
+    ensures source { IfErr result (λ e. forms.HasReadFailed e (S.has_failed source.new)) }
+    ensures failed { K.has_failed sink.new ≡ has_sink_failed result }
+{
+    let Ok(mut minute) = Minute::new(alloc) else {
+        return Err(LogFault::Memory);
+    };
+    let Ok(mut text) = String::with_capacity(alloc, TEXT) else {
+        return Err(LogFault::Memory);
+    };
+    read_uplink_head(source)?;
+    print(&PageHead { name, settings }, &mut text, sink)?;
+    let printing = PagePrinting {
+        start: settings.start,
+        address: settings.address.unwrap_or(0),
+    };
+    let summary = print_minutes(printing, &mut minute, log, source, &mut text, sink)?;
+    let end = PageEnd {
+        summary,
+        has_gateway: settings.address.is_some(),
+    };
+    print(&end, &mut text, sink)
+}
+
 /// Prints the page of a file to a sink, as far as the file can be read.
 fn print_to<S: Source, K: Sink>(
     alloc: Global,
@@ -85,24 +124,7 @@ fn print_to<S: Source, K: Sink>(
     ensures failed { K.has_failed sink.new ≡ has_sink_failed result }
 {
     let mut log = new_log(alloc, settings.colour, settings.address)?;
-    let Ok(mut minute) = Minute::new(alloc) else {
-        return Err(LogFault::Memory);
-    };
-    let Ok(mut text) = String::with_capacity(alloc, TEXT) else {
-        return Err(LogFault::Memory);
-    };
-    read_uplink_head(source)?;
-    print(&PageHead { name, settings }, &mut text, sink)?;
-    let printing = PagePrinting {
-        start: settings.start,
-        address: settings.address.unwrap_or(0),
-    };
-    let summary = print_minutes(printing, &mut minute, &mut log, source, &mut text, sink)?;
-    let end = PageEnd {
-        summary,
-        has_gateway: settings.address.is_some(),
-    };
-    print(&end, &mut text, sink)
+    print_told(alloc, name, settings, &mut log, source, sink)
 }
 
 /// Prints the page of a file of this name to the first sink, as far as the file can be read, and answers the exit status. The

@@ -21,6 +21,19 @@ pub enum Listed {
     Export,
 }
 
+/// All commands, in the order in which help has them.
+pub const COMMANDS: [Listed; 9] = [
+    Listed::Run,
+    Listed::Slot,
+    Listed::Show,
+    Listed::Log,
+    Listed::Make,
+    Listed::Damage,
+    Listed::Compare,
+    Listed::Import,
+    Listed::Export,
+];
+
 impl Listed {
     /// The command of a name, if there is one.
     pub fn named(name: &str) -> Option<Listed>

@@ -25,7 +25,7 @@ mod words;
 
 pub use answer::{print_answer, print_elsewhere, print_unwritten};
 pub use arguments::{colour, file, frame, number, word};
-pub use commands::{Listed, bare_command, command};
+pub use commands::{COMMANDS, Listed, bare_command, command};
 pub use found::{flag_of, given_text_of, is_text_of, text_of};
 pub use repeating::repeating_commands;
 pub use words::{print_no_words, words_of};

@@ -1,7 +1,7 @@
 //! The command line of the program that repeats: `run` and `slot` with their options, and every other command by its name.
 
 use crate::arguments::{colour, file, number, word};
-use crate::commands::{Listed, bare_command, command};
+use crate::commands::{COMMANDS, Listed, bare_command, command};
 use crate::texts::{ABOUT_RUNS, ABOUT_SLOTS};
 use clap::{Arg, ArgAction, Command, value_parser};
 use std::alloc::{AllocError, Global};
@@ -109,17 +109,26 @@ fn slot_command<'a>(alloc: Global) -> Result<Command<'a>, AllocError> {
         .arg(burst(alloc))
 }
 
+/// A command of the program that repeats with its options, or another one by its name alone.
+fn listed_command<'a>(alloc: Global, listed: Listed) -> Result<Command<'a>, AllocError> {
+    match listed {
+        Listed::Run => run_command(alloc),
+        Listed::Slot => slot_command(alloc),
+        Listed::Show
+        | Listed::Log
+        | Listed::Make
+        | Listed::Damage
+        | Listed::Compare
+        | Listed::Import
+        | Listed::Export => Ok(bare_command(alloc, listed)),
+    }
+}
+
 /// The command line of the program that repeats, with every other command by its name alone.
 pub fn repeating_commands<'a>(alloc: Global) -> Result<Command<'a>, AllocError> {
-    let run = run_command(alloc)?;
-    let slot = slot_command(alloc)?;
-    let show = bare_command(alloc, Listed::Show);
-    let log = bare_command(alloc, Listed::Log);
-    let make = bare_command(alloc, Listed::Make);
-    let damage = bare_command(alloc, Listed::Damage);
-    let compare = bare_command(alloc, Listed::Compare);
-    let import = bare_command(alloc, Listed::Import);
-    let export = bare_command(alloc, Listed::Export);
-    let commands = vec![in alloc; run, slot, show, log, make, damage, compare, import, export]?;
+    let mut commands = Vec::new(alloc);
+    for listed in COMMANDS {
+        commands.push(listed_command(alloc, listed)?)?;
+    }
     command(alloc, commands)
 }

@@ -8,7 +8,7 @@ mod singles;
 
 use dmr_record::FromRead;
 use dmr_script::{
-    NumberedStatement, Script, Sender, Statement, Transmission, Transmit, read_script,
+    NumberedStatement, RefusedLine, Script, Sender, Statement, Transmission, Transmit, read_script,
 };
 use std::alloc::{AllocError, Global};
 use std::process::Abort;
@@ -19,16 +19,26 @@ fn script_of(alloc: Global, text: &str) -> Result<Script, AllocError> {
     read_script(alloc, &mut source)
 }
 
-/// The statement of the second line behind `slot 1`, and that nothing is refused.
-fn says(rt: &impl Abort, alloc: Global, line: &str, expected: Statement) -> Result<(), AllocError> {
+/// The last statement where this line stands behind `slot 1`, or which line is refused.
+fn read_behind_slot(
+    alloc: Global,
+    line: &str,
+) -> Result<Result<Option<NumberedStatement>, RefusedLine>, AllocError> {
     let text = format!(in alloc; "slot 1\n{line}\n")?;
     let mut script = script_of(alloc, text.as_str())?;
-    assert_eq!(rt; script.refused, None, "{line}");
-    let expected = Some(NumberedStatement {
+    match script.refused {
+        Some(refused) => Ok(Err(refused)),
+        None => Ok(Ok(script.statements.pop())),
+    }
+}
+
+/// The statement of the second line behind `slot 1`, and that nothing is refused.
+fn says(rt: &impl Abort, alloc: Global, line: &str, expected: Statement) -> Result<(), AllocError> {
+    let expected = Ok(Some(NumberedStatement {
         line: 2,
         statement: expected,
-    });
-    assert_eq!(rt; script.statements.pop(), expected, "{line}");
+    }));
+    assert_eq!(rt; read_behind_slot(alloc, line)?, expected, "{line}");
     Ok(())
 }
 

@@ -26,11 +26,15 @@ pub(crate) fn files<'a>(
 fn with_formats<'a>(
     alloc: Global,
     command: Listed,
-    formats: Vec<Command<'a>>,
+    formats: [Result<Command<'a>, AllocError>; 3],
 ) -> Result<Command<'a>, AllocError> {
+    let mut made = Vec::new(alloc);
+    for format in formats {
+        made.push(format?)?;
+    }
     bare_command(alloc, command)
         .subcommand_required(true)
-        .subcommands(formats)
+        .subcommands(made)
 }
 
 /// `export text`, with its files.
@@ -140,18 +144,16 @@ fn import_datagrams_command<'a>(alloc: Global) -> Result<Command<'a>, AllocError
 
 /// `export`, with the formats in which a file can be written.
 pub(crate) fn export_command<'a>(alloc: Global) -> Result<Command<'a>, AllocError> {
-    let text = export_text_command(alloc)?;
-    let datagrams = export_datagrams_command(alloc)?;
-    let dmrd = export_dmrd_command(alloc)?;
-    let formats = vec![in alloc; text, datagrams, dmrd]?;
-    with_formats(alloc, Listed::Export, formats)
+    let text = export_text_command(alloc);
+    let datagrams = export_datagrams_command(alloc);
+    let dmrd = export_dmrd_command(alloc);
+    with_formats(alloc, Listed::Export, [text, datagrams, dmrd])
 }
 
 /// `import`, with the formats from which a file can be made.
 pub(crate) fn import_command<'a>(alloc: Global) -> Result<Command<'a>, AllocError> {
-    let text = import_text_command(alloc)?;
-    let datagrams = import_datagrams_command(alloc)?;
-    let dmrd = import_dmrd_command(alloc)?;
-    let formats = vec![in alloc; text, datagrams, dmrd]?;
-    with_formats(alloc, Listed::Import, formats)
+    let text = import_text_command(alloc);
+    let datagrams = import_datagrams_command(alloc);
+    let dmrd = import_dmrd_command(alloc);
+    with_formats(alloc, Listed::Import, [text, datagrams, dmrd])
 }

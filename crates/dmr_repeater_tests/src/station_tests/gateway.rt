@@ -39,6 +39,16 @@ pub fn offer(rt: &impl Abort, station: &mut Station, count: u16, confirmed: bool
     });
 }
 
+/// The station has received the status in slot 2, and nothing more.
+fn expect_status(rt: &impl Abort, station: &mut Station) {
+    let received = station.take_received().expect(rt, "a status is received");
+    assert_eq!(rt; received.slot, 2);
+    assert!(rt; received.kind == ReceivedKind::Status);
+    assert_eq!(rt; received.source, 3);
+    assert!(rt; received.octets.as_slice() == &[1, 2, 0, 5][..]);
+    assert!(rt; station.take_received().is_none());
+}
+
 // It came in the first frame of the uplink, and is received in the frame of the downlink in which it is repeated.
 #[test]
 fn status_received(rt: HostRuntime) {
@@ -56,14 +66,19 @@ fn status_received(rt: HostRuntime) {
         assert!(rt; station.take_received().is_none());
         let _records = next_frame(&rt, &mut station, frame);
     }
-    let received = station.take_received().expect(&rt, "a status is received");
-    assert_eq!(rt; received.slot, 2);
-    assert!(rt; received.kind == ReceivedKind::Status);
-    assert_eq!(rt; received.source, 3);
-    assert!(rt; received.octets.as_slice() == &[1, 2, 0, 5][..]);
-    assert!(rt; station.take_received().is_none());
+    expect_status(&rt, &mut station);
     let counts = station.counts();
     assert!(rt; (counts.frames, counts.repeated, counts.received) == (7, 1, 1));
+}
+
+/// Both slots are on the air in the next frame, and slot 2 sends a block that begins with these octets.
+fn expect_block(rt: &impl Abort, station: &mut Station, front: &[u8; 10]) {
+    let [first, second] = next_frame(rt, station, &SILENCE);
+    assert!(rt; first.is_some());
+    let (_, burst) = second.expect(rt, "slot 2 sends");
+    let message = bptc_decode(&read_info(&burst)).expect(rt, "it is read");
+    let octets: [u8; 12] = message.octets();
+    assert!(rt; octets.starts_with(front));
 }
 
 // Two preambles, the header and a block; octets that end in the address go nowhere. A packet is counted with its last burst.
@@ -77,12 +92,7 @@ fn datagrams_offered(rt: HostRuntime) {
         b"\xBD\x00\x80\x02\x00\x00\x02\x00\x00\x01",
     ];
     for want in &wanted {
-        let [first, second] = next_frame(&rt, &mut station, &SILENCE);
-        assert!(rt; first.is_some());
-        let (_, burst) = second.expect(&rt, "slot 2 sends");
-        let message = bptc_decode(&read_info(&burst)).expect(&rt, "it is read");
-        let octets: [u8; 12] = message.octets();
-        assert!(rt; octets.starts_with(*want));
+        expect_block(&rt, &mut station, want);
     }
     let _header = next_frame(&rt, &mut station, &SILENCE);
     assert_eq!(rt; station.counts().sent, 0);

@@ -13,8 +13,9 @@ use dmr_checks::{Mask, opens, seal};
 use dmr_csbk::csbk_read;
 use dmr_embedded::{embed, extract};
 use dmr_link::{LcUse, lc_read};
-use dmr_station::SILENCE;
+use dmr_station::{SILENCE, Station};
 use dmr_test_values::IDLE_BLOCK;
+use std::process::Abort;
 
 /// How many frames are taken that may have a burst.
 const FRAMES: u32 = 10_000;
@@ -235,26 +236,32 @@ fn count_bursts(slots: &[Sent]) -> usize {
     slots.iter().filter(|slot| slot.is_some()).count()
 }
 
-#[test]
-fn hostile_frames(rt: HostRuntime) {
+/// All slots that a station gives for such frames, and for silence behind them.
+fn slots_of_hostile_frames(rt: &(impl Abort + AllocGlobal), station: &mut Station) -> Vec<Sent> {
     let mut numbers = Numbers(2026);
-    let mut station = new_station(&rt, rt.alloc());
     let mut slots = Vec::new(rt.alloc());
     for number in 0..FRAMES + 6 {
         if number % 40 == 0 {
-            offer(&rt, &mut station, 28, number % 80 == 0);
+            offer(rt, station, 28, number % 80 == 0);
         }
         let frame = if number < FRAMES {
             [numbers.slot(), numbers.slot()]
         } else {
             SILENCE
         };
-        for record in next_frame(&rt, &mut station, &frame) {
+        for record in next_frame(rt, station, &frame) {
             slots
                 .push(record.map(|sent| sent.1))
-                .expect(&rt, "there is memory");
+                .expect(rt, "there is memory");
         }
     }
+    slots
+}
+
+#[test]
+fn hostile_frames(rt: HostRuntime) {
+    let mut station = new_station(&rt, rt.alloc());
+    let slots = slots_of_hostile_frames(&rt, &mut station);
     let counts = station.counts();
     assert_eq!(rt; counts.frames, FRAMES + 6);
     // A few of the slots hold what is repeated, and datagrams go out between, so that all rules are met.

@@ -2,6 +2,7 @@
 use super::script_of;
 use dmr_script::{CallShape, CallStart, HeaderKind, Headers, Statement, Transmission};
 use std::alloc::{AllocError, Global};
+use std::process::Abort;
 use std::test::Fail;
 
 /// The shape of a call with these letters.
@@ -25,88 +26,68 @@ fn presence(alloc: Global, letters: &[u8]) -> Result<Vec<bool>, AllocError> {
     letters.iter().map(|letter| *letter != b'.').collect(alloc)
 }
 
-/// The shape of a call with headers.
-fn headed(
-    alloc: Global,
+/// These letters are a call with these headers behind the first, silences, places and terminators.
+fn expect_headed(
+    rt: &(impl Abort + AllocGlobal),
+    letters: &str,
     more: &[HeaderKind],
     silences: u8,
     places: &[u8],
     terminators: u32,
-) -> Result<Option<CallShape>, AllocError> {
-    Ok(Some(CallShape {
+) -> Result<(), AllocError> {
+    let alloc = rt.alloc();
+    let shape = CallShape {
         start: CallStart::Headers(Headers {
             more: more.to_vec(alloc)?,
             silences,
         }),
         places: presence(alloc, places)?,
         terminators,
-    }))
+    };
+    assert_eq!(rt; shape_of(alloc, letters)?, Some(shape), "{letters}");
+    Ok(())
 }
 
-/// The shape of a call that is cut off.
-fn late(
-    alloc: Global,
+/// These letters are a call that is cut off, with these places in front of the first A and from there on, and terminators.
+fn expect_late(
+    rt: &(impl Abort + AllocGlobal),
+    letters: &str,
     tail: &[u8],
     places: &[u8],
     terminators: u32,
-) -> Result<Option<CallShape>, AllocError> {
-    Ok(Some(CallShape {
+) -> Result<(), AllocError> {
+    let alloc = rt.alloc();
+    let shape = CallShape {
         start: CallStart::Late(presence(alloc, tail)?),
         places: presence(alloc, places)?,
         terminators,
-    }))
+    };
+    assert_eq!(rt; shape_of(alloc, letters)?, Some(shape), "{letters}");
+    Ok(())
 }
 
 #[test]
 fn calls_with_headers(rt: HostRuntime) -> Result<(), Fail> {
-    let alloc = rt.alloc();
     let again = HeaderKind::Voice;
     let privacy = HeaderKind::Privacy;
-    assert_eq!(rt; shape_of(alloc, "H")?, headed(alloc, &[], 0, b"", 0)?);
-    assert_eq!(rt;
-        shape_of(alloc, "HHPT T")?,
-        headed(alloc, &[again, privacy], 0, b"", 2)?
-    );
-    assert_eq!(rt;
-        shape_of(alloc, "H . A.CDEF T")?,
-        headed(alloc, &[], 1, b"A.CDEF", 1)?
-    );
-    assert_eq!(rt;
-        shape_of(alloc, "H..... A")?,
-        headed(alloc, &[], 5, b"A", 0)?
-    );
-    assert_eq!(rt;
-        shape_of(alloc, "H A.....T")?,
-        headed(alloc, &[], 0, b"A.....", 1)?
-    );
-    assert_eq!(rt;
-        shape_of(alloc, "H A..... ABC")?,
-        headed(alloc, &[], 0, b"A.....ABC", 0)?
-    );
-    assert_eq!(rt;
-        shape_of(alloc, "2*HP 2*ABCDEF 3*T")?,
-        headed(alloc, &[privacy, again, privacy], 0, b"ABCDEFABCDEF", 3)?
-    );
+    let three = [privacy, again, privacy];
+    expect_headed(&rt, "H", &[], 0, b"", 0)?;
+    expect_headed(&rt, "HHPT T", &[again, privacy], 0, b"", 2)?;
+    expect_headed(&rt, "H . A.CDEF T", &[], 1, b"A.CDEF", 1)?;
+    expect_headed(&rt, "H..... A", &[], 5, b"A", 0)?;
+    expect_headed(&rt, "H A.....T", &[], 0, b"A.....", 1)?;
+    expect_headed(&rt, "H A..... ABC", &[], 0, b"A.....ABC", 0)?;
+    expect_headed(&rt, "2*HP 2*ABCDEF 3*T", &three, 0, b"ABCDEFABCDEF", 3)?;
     Ok(())
 }
 
 #[test]
 fn late_calls(rt: HostRuntime) -> Result<(), Fail> {
-    let alloc = rt.alloc();
-    assert_eq!(rt;
-        shape_of(alloc, "EF ABCDEF")?,
-        late(alloc, b"EF", b"ABCDEF", 0)?
-    );
-    assert_eq!(rt; shape_of(alloc, "B.D.F A.....AB")?, None);
-    assert_eq!(rt;
-        shape_of(alloc, "B.D.F A....F AB")?,
-        late(alloc, b"B.D.F", b"A....FAB", 0)?
-    );
-    assert_eq!(rt;
-        shape_of(alloc, ".....ABCDEFT")?,
-        late(alloc, b".....", b"ABCDEF", 1)?
-    );
-    assert_eq!(rt; shape_of(alloc, "AB")?, late(alloc, b"", b"AB", 0)?);
+    expect_late(&rt, "EF ABCDEF", b"EF", b"ABCDEF", 0)?;
+    assert_eq!(rt; shape_of(rt.alloc(), "B.D.F A.....AB")?, None);
+    expect_late(&rt, "B.D.F A....F AB", b"B.D.F", b"A....FAB", 0)?;
+    expect_late(&rt, ".....ABCDEFT", b".....", b"ABCDEF", 1)?;
+    expect_late(&rt, "AB", b"", b"AB", 0)?;
     Ok(())
 }
 

@@ -1,5 +1,6 @@
 //! The command lines of captures of datagrams.
 use super::carrying::{Few, expect_printed};
+use super::command_line::is_refused;
 use dmr_datagrams::{ExportSettings, ImportSettings};
 use dmr_tools::{ExportFormat, ImportFormat, Request, request_of};
 use std::test::Fail;
@@ -40,6 +41,25 @@ fn lists_of_captures_that_are_asked_for(rt: HostRuntime) -> Result<(), Fail> {
         "dmrgate",
         "import",
         "datagrams",
+        "in",
+        "out",
+        "--slot=2",
+        "--full-rate",
+    ];
+    let full = ImportSettings {
+        full: true,
+        ..plain
+    };
+    assert!(rt; list_asked(&rt, &words)? == full);
+    Ok(())
+}
+
+#[test]
+fn confirmed_list_of_a_capture_that_is_asked_for(rt: HostRuntime) -> Result<(), Fail> {
+    let words = [
+        "dmrgate",
+        "import",
+        "datagrams",
         "--confirmed",
         "in",
         "--first-frame=4294967295",
@@ -53,25 +73,15 @@ fn lists_of_captures_that_are_asked_for(rt: HostRuntime) -> Result<(), Fail> {
         first_frame: u32::MAX,
     };
     assert!(rt; list_asked(&rt, &words)? == confirmed);
-    let words = [
-        "dmrgate",
-        "import",
-        "datagrams",
-        "in",
-        "out",
-        "--slot=2",
-        "--full-rate",
-    ];
-    let full = ImportSettings {
-        full: true,
-        ..plain
-    };
-    assert!(rt; list_asked(&rt, &words)? == full);
+    Ok(())
+}
+
+#[test]
+fn lists_of_captures_that_are_refused(rt: HostRuntime) {
     for slot in ["--slot=0", "--slot=3", "--full-rate"] {
         let words = ["dmrgate", "import", "datagrams", "in", "out", slot];
-        assert!(rt; request_of(rt.alloc(), &words).is_err(), "{slot}");
+        assert!(rt; is_refused(&rt, &words), "{slot}");
     }
-    Ok(())
 }
 
 #[test]

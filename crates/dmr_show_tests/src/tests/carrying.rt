@@ -1,7 +1,8 @@
 //! The command lines of `import` and `export`, over a system of a few files.
+use super::command_line::is_refused;
 use dmr_files::{FileKind, Identity, Open, Place, StandardFiles, System};
 use dmr_record::ToWrite;
-use dmr_tools::{ExportFormat, ImportFormat, Request, obey, request_of};
+use dmr_tools::{ExportFormat, ImportFormat, PairPlaces, Request, obey, request_of};
 use std::io::{self, ErrorKind, Write};
 use std::process::Abort;
 use std::test::Fail;
@@ -119,6 +120,21 @@ pub(crate) fn expect_printed(
     assert!(rt; errors.into_inner().as_slice() == err.as_bytes());
 }
 
+/// Between which places these words ask to carry a text.
+fn places_asked<'a>(rt: &impl AllocGlobal, words: &'a [&'a str]) -> Result<PairPlaces<'a>, Fail> {
+    match request_of(rt.alloc(), words)? {
+        Request::Import {
+            format: ImportFormat::Text,
+            places,
+        }
+        | Request::Export {
+            format: ExportFormat::Text,
+            places,
+        } => Ok(places),
+        _ => Err(Fail::from("no text is carried")),
+    }
+}
+
 /// These words ask to carry a file from this place to that one.
 fn expect_carried(
     rt: &(impl Abort + AllocGlobal),
@@ -126,18 +142,7 @@ fn expect_carried(
     input: &str,
     output: &str,
 ) -> Result<(), Fail> {
-    let request = request_of(rt.alloc(), words)?;
-    let places = match request {
-        Request::Import {
-            format: ImportFormat::Text,
-            places,
-        } => places,
-        Request::Export {
-            format: ExportFormat::Text,
-            places,
-        } => places,
-        _ => return Err(Fail::from("no text is carried")),
-    };
+    let places = places_asked(rt, words)?;
     assert!(rt; places.input.name() == input && places.output.name() == output);
     assert_eq!(rt; places.input.is_standard(), input == "-");
     assert_eq!(rt; places.output.is_standard(), output == "-");
@@ -155,15 +160,21 @@ fn files_in_their_order(rt: HostRuntime) -> Result<(), Fail> {
             "-in",
             "./-",
         )?;
+    }
+    Ok(())
+}
+
+#[test]
+fn words_of_import_and_export_that_are_refused(rt: HostRuntime) {
+    for command in ["import", "export"] {
         for words in [
             ["dmrgate", command, "text", "in"].as_slice(),
             ["dmrgate", command, "words", "in", "out"].as_slice(),
             ["dmrgate", command, "text", "in", "out", "more"].as_slice(),
         ] {
-            assert!(rt; request_of(rt.alloc(), words).is_err(), "{words:?}");
+            assert!(rt; is_refused(&rt, words), "{words:?}");
         }
     }
-    Ok(())
 }
 
 #[test]

@@ -51,8 +51,13 @@ impl System for OneFile {
     }
 }
 
+/// Whether these words ask for nothing that there is.
+pub(super) fn is_refused(rt: &impl AllocGlobal, words: &[&str]) -> bool {
+    request_of(rt.alloc(), words).is_err()
+}
+
 #[test]
-fn lines_that_are_asked_for(rt: HostRuntime) -> Result<(), Fail> {
+fn listing_that_is_asked_for(rt: HostRuntime) -> Result<(), Fail> {
     let words = ["dmrgate", "show", "up"];
     let all = Filter {
         slot: None,
@@ -63,6 +68,11 @@ fn lines_that_are_asked_for(rt: HostRuntime) -> Result<(), Fail> {
         return Err(Fail::from("no listing"));
     };
     assert!(rt; name == "up" && form == Form::Listing && filter == all);
+    Ok(())
+}
+
+#[test]
+fn strip_that_is_asked_for(rt: HostRuntime) -> Result<(), Fail> {
     let words = [
         "dmrgate",
         "show",
@@ -84,6 +94,11 @@ fn lines_that_are_asked_for(rt: HostRuntime) -> Result<(), Fail> {
         return Err(Fail::from("no listing"));
     };
     assert!(rt; name == "-" && form == Form::Strip && filter == some);
+    Ok(())
+}
+
+#[test]
+fn filters_that_are_refused(rt: HostRuntime) {
     for (option, value) in [
         ("--slot", "0"),
         ("--slot", "3"),
@@ -91,9 +106,8 @@ fn lines_that_are_asked_for(rt: HostRuntime) -> Result<(), Fail> {
         ("--to", "-1"),
     ] {
         let words = ["dmrgate", "show", "up", option, value];
-        assert!(rt; request_of(rt.alloc(), &words).is_err(), "{option} {value}");
+        assert!(rt; is_refused(&rt, &words), "{option} {value}");
     }
-    Ok(())
 }
 
 /// These words end with this status, and print so to either sink.

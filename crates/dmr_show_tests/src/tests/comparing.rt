@@ -1,5 +1,5 @@
 //! The command line of `compare`, over a system of one file.
-use super::command_line::expect_printed;
+use super::command_line::{expect_printed, is_refused};
 use dmr_compare::{CompareSettings, Ignored, Shift};
 use dmr_tools::{Comparison, Request, request_of};
 use std::test::Fail;
@@ -13,7 +13,7 @@ fn asked<'a>(rt: &impl AllocGlobal, words: &'a [&'a str]) -> Result<Comparison<'
 }
 
 #[test]
-fn comparisons_that_are_asked_for(rt: HostRuntime) -> Result<(), Fail> {
+fn comparison_that_is_asked_for(rt: HostRuntime) -> Result<(), Fail> {
     let words = ["dmrgate", "compare", "up", "-"];
     let Comparison {
         first,
@@ -26,6 +26,11 @@ fn comparisons_that_are_asked_for(rt: HostRuntime) -> Result<(), Fail> {
         is_quiet: false,
     };
     assert!(rt; first.name() == "up" && second.is_standard() && settings == plain);
+    Ok(())
+}
+
+#[test]
+fn comparison_with_all_options(rt: HostRuntime) -> Result<(), Fail> {
     let words = [
         "dmrgate", "compare", "--ignore", "vocoder", "-", "down", "--shift", "-1048576", "--quiet",
     ];
@@ -43,6 +48,11 @@ fn comparisons_that_are_asked_for(rt: HostRuntime) -> Result<(), Fail> {
         is_quiet: true,
     };
     assert!(rt; first.is_standard() && second.name() == "down" && settings == some);
+    Ok(())
+}
+
+#[test]
+fn comparison_that_ignores_both(rt: HostRuntime) -> Result<(), Fail> {
     let words = [
         "dmrgate",
         "compare",
@@ -59,6 +69,11 @@ fn comparisons_that_are_asked_for(rt: HostRuntime) -> Result<(), Fail> {
         vocoder: true,
     };
     assert!(rt; settings.shift == Some(Shift::Later(7)) && settings.ignored == both);
+    Ok(())
+}
+
+#[test]
+fn comparisons_that_are_refused(rt: HostRuntime) {
     for (option, value) in [
         ("--shift", "1048577"),
         ("--shift", "-1048577"),
@@ -66,9 +81,8 @@ fn comparisons_that_are_asked_for(rt: HostRuntime) -> Result<(), Fail> {
         ("--ignore", "burst"),
     ] {
         let words = ["dmrgate", "compare", "up", "down", option, value];
-        assert!(rt; request_of(rt.alloc(), &words).is_err(), "{option} {value}");
+        assert!(rt; is_refused(&rt, &words), "{option} {value}");
     }
-    Ok(())
 }
 
 #[test]

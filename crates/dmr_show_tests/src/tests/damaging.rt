@@ -1,5 +1,6 @@
 //! The command line of `damage`, over a system of a few files.
 use super::carrying::{Few, expect_printed};
+use super::command_line::is_refused;
 use dmr_damage::Damage;
 use dmr_tools::{Request, request_of};
 use std::test::Fail;
@@ -22,7 +23,7 @@ fn damage_asked(
 }
 
 #[test]
-fn damage_that_is_asked_for(rt: HostRuntime) -> Result<(), Fail> {
+fn damage_within_limits_that_is_asked_for(rt: HostRuntime) -> Result<(), Fail> {
     let words = ["dmrgate", "damage", "up", "-"];
     let plain = (Damage::WithinLimits { colour: 1 }, 0);
     assert!(rt; damage_asked(&rt, &words, "up", "-")? == plain);
@@ -37,6 +38,11 @@ fn damage_that_is_asked_for(rt: HostRuntime) -> Result<(), Fail> {
     ];
     let own = (Damage::WithinLimits { colour: 13 }, u64::MAX);
     assert!(rt; damage_asked(&rt, &words, "-", "out")? == own);
+    Ok(())
+}
+
+#[test]
+fn damage_at_a_rate_that_is_asked_for(rt: HostRuntime) -> Result<(), Fail> {
     for (option, errors, loss) in [
         ("--errors=10000", 10_000, 0),
         ("--errors=0", 0, 0),
@@ -54,6 +60,11 @@ fn damage_that_is_asked_for(rt: HostRuntime) -> Result<(), Fail> {
     ];
     let rates = (Damage::AtRate { errors: 4, loss: 3 }, 0);
     assert!(rt; damage_asked(&rt, &words, "up", "out")? == rates);
+    Ok(())
+}
+
+#[test]
+fn damage_that_is_refused(rt: HostRuntime) {
     for (first, second) in [
         ("--colour", "16"),
         ("--errors", "10001"),
@@ -63,9 +74,8 @@ fn damage_that_is_asked_for(rt: HostRuntime) -> Result<(), Fail> {
         ("--loss=1", "--color=1"),
     ] {
         let words = ["dmrgate", "damage", "up", "out", first, second];
-        assert!(rt; request_of(rt.alloc(), &words).is_err(), "{first} {second}");
+        assert!(rt; is_refused(&rt, &words), "{first} {second}");
     }
-    Ok(())
 }
 
 #[test]

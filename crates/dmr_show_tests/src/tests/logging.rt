@@ -1,5 +1,5 @@
 //! The command line of `log`, over a system of one file.
-use super::command_line::expect_printed;
+use super::command_line::{expect_printed, is_refused};
 use dmr_log_forms::{LogForm, LogSettings, StartTime};
 use dmr_log_page::PageSettings;
 use dmr_show::Filter;
@@ -23,7 +23,7 @@ fn refused(rt: &impl AllocGlobal, words: &[&str]) -> Result<LogRefusal, Fail> {
 }
 
 #[test]
-fn logs_that_are_asked_for(rt: HostRuntime) -> Result<(), Fail> {
+fn log_that_is_asked_for(rt: HostRuntime) -> Result<(), Fail> {
     let words = ["dmrgate", "log", "up"];
     let (name, settings) = asked(&rt, &words)?;
     let all = Filter {
@@ -34,6 +34,13 @@ fn logs_that_are_asked_for(rt: HostRuntime) -> Result<(), Fail> {
     assert!(rt; name == "up" && settings.form == LogForm::Lines && settings.filter == all);
     assert!(rt; settings.colour == 1 && settings.address.is_none());
     assert!(rt; settings.start.is_none());
+    let words = ["dmrgate", "log", "up", "--csv"];
+    assert!(rt; asked(&rt, &words)?.1.form == LogForm::Table);
+    Ok(())
+}
+
+#[test]
+fn log_with_all_options(rt: HostRuntime) -> Result<(), Fail> {
     let words = [
         "dmrgate",
         "log",
@@ -62,8 +69,6 @@ fn logs_that_are_asked_for(rt: HostRuntime) -> Result<(), Fail> {
     assert!(rt; settings.colour == 15);
     assert_eq!(rt; settings.address, Some(16_777_215));
     assert!(rt; settings.start == StartTime::read("2026-01-31T12:00:00Z"));
-    let words = ["dmrgate", "log", "up", "--csv"];
-    assert!(rt; asked(&rt, &words)?.1.form == LogForm::Table);
     Ok(())
 }
 
@@ -73,16 +78,19 @@ fn logs_that_are_refused(rt: HostRuntime) -> Result<(), Fail> {
     assert_eq!(rt; refused(&rt, &backwards)?, LogRefusal::Backwards);
     let time = ["dmrgate", "log", "up", "--start", "noon"];
     assert_eq!(rt; refused(&rt, &time)?, LogRefusal::Time);
+    Ok(())
+}
+
+#[test]
+fn words_of_log_that_are_refused(rt: HostRuntime) {
     for words in [
         ["dmrgate", "log", "up", "--colour", "16"],
         ["dmrgate", "log", "up", "--llid", "0"],
         ["dmrgate", "log", "up", "--llid", "16777216"],
     ] {
-        assert!(rt; request_of(rt.alloc(), &words).is_err());
+        assert!(rt; is_refused(&rt, &words));
     }
-    let both = ["dmrgate", "log", "up", "--csv", "--json"];
-    assert!(rt; request_of(rt.alloc(), &both).is_err());
-    Ok(())
+    assert!(rt; is_refused(&rt, &["dmrgate", "log", "up", "--csv", "--json"]));
 }
 
 #[test]
@@ -110,11 +118,16 @@ fn asked_for_a_page<'a>(
 }
 
 #[test]
-fn pages_of_logs(rt: HostRuntime) -> Result<(), Fail> {
+fn page_that_is_asked_for(rt: HostRuntime) -> Result<(), Fail> {
     let words = ["dmrgate", "log", "up", "--html"];
     let (name, settings) = asked_for_a_page(&rt, &words)?;
     assert!(rt; name == "up" && settings.colour == 1 && settings.address.is_none());
     assert!(rt; settings.start.is_none());
+    Ok(())
+}
+
+#[test]
+fn page_with_all_options(rt: HostRuntime) -> Result<(), Fail> {
     let words = [
         "dmrgate",
         "log",
@@ -131,13 +144,17 @@ fn pages_of_logs(rt: HostRuntime) -> Result<(), Fail> {
     assert!(rt; name == "-" && settings.colour == 15);
     assert_eq!(rt; settings.address, Some(9));
     assert!(rt; settings.start == StartTime::read("2026-01-31T12:00:00Z"));
+    Ok(())
+}
+
+#[test]
+fn pages_that_are_refused(rt: HostRuntime) {
     for form in ["--csv", "--json"] {
         let both = ["dmrgate", "log", "up", "--html", form];
-        assert!(rt; request_of(rt.alloc(), &both).is_err());
+        assert!(rt; is_refused(&rt, &both), "{form}");
     }
     for some in ["--slot", "--from", "--to"] {
         let both = ["dmrgate", "log", "up", some, "1", "--html"];
-        assert!(rt; request_of(rt.alloc(), &both).is_err());
+        assert!(rt; is_refused(&rt, &both), "{some}");
     }
-    Ok(())
 }

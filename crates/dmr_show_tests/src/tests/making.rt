@@ -1,9 +1,11 @@
 //! The command line of `make`, over a system of a few scripts.
 use super::carrying::Output;
+use super::command_line::is_refused;
 use dmr_files::{FileKind, Identity, Open, Place, StandardFiles, System};
 use dmr_record::ToWrite;
 use dmr_tools::{MakePlaces, Request, obey, request_of};
 use std::io::{self, ErrorKind};
+use std::process::Abort;
 use std::test::Fail;
 
 /// A control block in slot 1, and a datagram to send.
@@ -70,7 +72,7 @@ impl System for Scripts {
 }
 
 #[test]
-fn files_that_are_asked_for(rt: HostRuntime) -> Result<(), Fail> {
+fn recording_that_is_asked_for(rt: HostRuntime) -> Result<(), Fail> {
     let words = ["dmrgate", "make", "scene", "-"];
     let Request::Make(
         MakePlaces {
@@ -83,6 +85,13 @@ fn files_that_are_asked_for(rt: HostRuntime) -> Result<(), Fail> {
         return Err(Fail::from("no script, or a list"));
     };
     assert!(rt; script.name() == "scene" && uplink.name() == "-");
+    let words = ["dmrgate", "make", "scene"];
+    assert!(rt; is_refused(&rt, &words), "no recording");
+    Ok(())
+}
+
+#[test]
+fn recording_and_list_that_are_asked_for(rt: HostRuntime) -> Result<(), Fail> {
     let words = ["dmrgate", "make", "--outgoing=list", "-", "up"];
     let Request::Make(
         MakePlaces {
@@ -95,14 +104,29 @@ fn files_that_are_asked_for(rt: HostRuntime) -> Result<(), Fail> {
         return Err(Fail::from("no script, or no list"));
     };
     assert!(rt; script.name() == "-" && uplink.name() == "up" && outgoing.name() == "list");
-    let words = ["dmrgate", "make", "scene"];
-    assert!(rt; request_of(rt.alloc(), &words).is_err(), "no recording");
     Ok(())
+}
+
+/// These words of `make` end with this status, and print so to either sink.
+fn expect_printed(
+    rt: &(impl Abort + AllocGlobal),
+    system: &Scripts,
+    words: &[&str],
+    status: u8,
+    out: &str,
+    err: &str,
+) {
+    let alloc = rt.alloc();
+    let mut output = ToWrite::new(Vec::new(alloc));
+    let mut errors = ToWrite::new(Vec::new(alloc));
+    let ended = obey(alloc, words, system, &mut output, &mut errors);
+    assert_eq!(rt; ended, status);
+    assert!(rt; output.into_inner().as_slice() == out.as_bytes());
+    assert!(rt; errors.into_inner().as_slice() == err.as_bytes());
 }
 
 #[test]
 fn what_is_printed_of_scripts(rt: HostRuntime) {
-    let alloc = rt.alloc();
     let counts = "frames 1 slot-1 1 slot-2 0 transmissions 1 datagrams 1\n";
     let shared = "error: UPLINK and --outgoing can't both be standard output\n";
     for (script, uplink, list, status, out, err) in [
@@ -147,29 +171,18 @@ fn what_is_printed_of_scripts(rt: HostRuntime) {
         ("scene", "up", "full", 1, "", "error: full: write failed\n"),
     ] {
         let words = ["dmrgate", "make", script, uplink, "--outgoing", list];
-        let mut output = ToWrite::new(Vec::new(alloc));
-        let mut errors = ToWrite::new(Vec::new(alloc));
         let system = Scripts { is_terminal: false };
-        let ended = obey(alloc, &words, &system, &mut output, &mut errors);
-        assert_eq!(rt; ended, status);
-        assert!(rt; output.into_inner().as_slice() == out.as_bytes());
-        assert!(rt; errors.into_inner().as_slice() == err.as_bytes());
+        expect_printed(&rt, &system, &words, status, out, err);
     }
 }
 
 #[test]
 fn files_of_scripts_to_a_terminal(rt: HostRuntime) {
-    let alloc = rt.alloc();
+    let refused = "error: -: standard output is a terminal\n";
     for words in [
         ["dmrgate", "make", "scene", "-", "--outgoing=list"],
         ["dmrgate", "make", "scene", "up", "--outgoing=-"],
     ] {
-        let mut output = ToWrite::new(Vec::new(alloc));
-        let mut errors = ToWrite::new(Vec::new(alloc));
-        let system = Scripts { is_terminal: true };
-        let ended = obey(alloc, &words, &system, &mut output, &mut errors);
-        let refused = "error: -: standard output is a terminal\n";
-        assert!(rt; ended == 1 && output.into_inner().is_empty());
-        assert!(rt; errors.into_inner().as_slice() == refused.as_bytes());
+        expect_printed(&rt, &Scripts { is_terminal: true }, &words, 1, "", refused);
     }
 }

@@ -180,33 +180,41 @@ fn expect_fault(
     expect_file(rt, text.as_str(), end, file)
 }
 
+/// The head of an uplink without a frame.
+const HEAD: &str = "444D525501000000";
+
+#[test]
+fn texts_at_fault_behind_a_burst(rt: HostRuntime) -> Result<(), Fail> {
+    let line = "0 1 0062008201900100042004E004CD5D7F77FD757AC81800280250028000C0120022\n";
+    let slot = UPLINK.strip_suffix("00").unwrap_or("");
+    for (behind, fault) in [
+        ("", TextFault::NoLastLine),
+        (line, TextFault::PlacesDontGrow),
+        ("frames 0\n", TextFault::WrongNumber),
+    ] {
+        let lines = format!(in rt.alloc(); "{line}{behind}")?;
+        expect_fault(&rt, lines.as_str(), 3, fault, slot)?;
+    }
+    Ok(())
+}
+
 #[test]
 fn texts_at_fault(rt: HostRuntime) -> Result<(), Fail> {
-    let alloc = rt.alloc();
-    let head = "444D525501000000";
-    let burst = "0062008201900100042004E004CD5D7F77FD757AC81800280250028000C0120022";
-    let line = format!(in alloc; "0 1 {burst}\n")?;
-    let line = line.as_str();
-    let slot = format!(in alloc; "{head}01{burst}")?;
-    let slot = slot.as_str();
-    expect_fault(&rt, line, 3, TextFault::NoLastLine, slot)?;
-    let twice = format!(in alloc; "{line}{line}")?;
-    expect_fault(&rt, twice.as_str(), 3, TextFault::PlacesDontGrow, slot)?;
-    let none = format!(in alloc; "{line}frames 0\n")?;
-    expect_fault(&rt, none.as_str(), 3, TextFault::WrongNumber, slot)?;
-    let short = burst.strip_suffix("2").unwrap_or("");
-    let odd = format!(in alloc; "0 1 {short}\n")?;
-    expect_fault(&rt, odd.as_str(), 2, TextFault::WrongBurst, head)?;
-    expect_fault(&rt, "1048576 1 -\n", 2, TextFault::TooLong, head)?;
-    expect_fault(&rt, "00 1 -\n", 2, TextFault::WrongNumber, head)?;
-    expect_fault(&rt, "records 0\n", 2, TextFault::NoLastLine, head)?;
-    expect_fault(
-        &rt,
-        "frames 0\n\n#\nframes 0\n",
-        5,
-        TextFault::LineBehindLast,
-        head,
-    )?;
+    let odd = "0 1 0062008201900100042004E004CD5D7F77FD757AC81800280250028000C012002\n";
+    for (lines, line, fault) in [
+        (odd, 2, TextFault::WrongBurst),
+        ("1048576 1 -\n", 2, TextFault::TooLong),
+        ("00 1 -\n", 2, TextFault::WrongNumber),
+        ("records 0\n", 2, TextFault::NoLastLine),
+        ("frames 0\n\n#\nframes 0\n", 5, TextFault::LineBehindLast),
+    ] {
+        expect_fault(&rt, lines, line, fault, HEAD)?;
+    }
+    Ok(())
+}
+
+#[test]
+fn texts_without_a_first_line(rt: HostRuntime) -> Result<(), Fail> {
     let end = |line| Err(ImportEnd::Text(LineFault {
         line,
         fault: TextFault::NoFirstLine,
