@@ -14,6 +14,9 @@ MANUAL = "share/man/man1/dmrgate.1"
 BASH = "share/bash-completion/completions/dmrgate"
 ZSH = "share/zsh/site-functions/_dmrgate"
 FISH = "share/fish/vendor_completions.d/dmrgate.fish"
+# The formats of import and export, and the commands that take no file behind their options.
+FORMATS = {"text", "datagrams", "dmrd"}
+WITHOUT_FILES = {"run", "slot"}
 
 # Stands in for socat, between the ports of a modem: one sends an uplink, and the other takes a downlink.
 SOCAT = """#!/bin/sh
@@ -578,13 +581,24 @@ def offered(report, *words):
     return set(ran.stdout.split())
 
 
-def check_completions(report, top, run, slot, show, log, make, damage, compare, carrying, listing, capturing, hotspot, sending):
-    commands = {"run", "slot", "show", "log", "make", "damage", "compare", "import", "export"}
-    for words, wanted in (
-        (["dmrgate", ""], {*commands, "help"} | top),
-        (["dmrgate", "-"], top),
+def check_completions(report, options):
+    """The completions offer each command, each format, and the options of each command; and files where it takes some."""
+    commands = {name.split()[0] for name in options if name}
+    check_bash(report, options, commands)
+    check_zsh(report, options, commands)
+    check_fish(report, options, commands)
+    for shell, file in (("zsh", ZSH), ("fish", FISH), ("bash", BASH)):
+        if shutil.which(shell):
+            ran = subprocess.run([shell, "-n", report.top / file], capture_output=True, text=True)
+            report.expect(f"{shell} reads its completions", (ran.returncode, ran.stderr) == (0, ""), ran.stderr)
+
+
+def check_bash(report, options, commands):
+    rows = [
+        (["dmrgate", ""], {*commands, "help"} | options[""]),
+        (["dmrgate", "-"], options[""]),
         (["dmrgate", "s"], {"slot", "show"}),
-        (["dmrgate", "run", ""], run),
+        (["dmrgate", "run", ""], options["run"]),
         (["dmrgate", "run", "--c"], {"--colour", "--call-hang", "--channel-hang"}),
         (["dmrgate", "run", "--uplink", "READ"], {"README.md"}),
         # Bash parts words at =, unless it is told not to.
@@ -594,94 +608,89 @@ def check_completions(report, top, run, slot, show, log, make, damage, compare, 
         (["dmrgate", "run", "--llid", "="], set()),
         (["dmrgate", "run", "--color", ""], set()),
         (["dmrgate", "run", "--", "-"], set()),
-        (["dmrgate", "slot", "-"], slot),
-        (["dmrgate", "show", "-"], show),
         (["dmrgate", "show", "READ"], {"README.md"}),
         (["dmrgate", "show", "--slot", ""], {"1", "2"}),
         (["dmrgate", "show", "--slot", "="], {"1", "2"}),
         (["dmrgate", "show", "--slot=2"], {"--slot=2"}),
         (["dmrgate", "show", "--from", ""], set()),
         (["dmrgate", "show", "--", "-"], set()),
-        (["dmrgate", "show", "--", "READ"], {"README.md"}),
-        (["dmrgate", "log", "-"], log),
         (["dmrgate", "log", "READ"], {"README.md"}),
         (["dmrgate", "log", "--start", ""], set()),
-        (["dmrgate", "log", "--", "READ"], {"README.md"}),
-        (["dmrgate", "make", "-"], make),
         (["dmrgate", "make", "READ"], {"README.md"}),
         (["dmrgate", "make", "README.md", "CHANGE"], {"CHANGELOG.md"}),
         (["dmrgate", "make", "--outgoing", "READ"], {"README.md"}),
-        (["dmrgate", "make", "--", "READ"], {"README.md"}),
-        (["dmrgate", "damage", "-"], damage),
         (["dmrgate", "damage", "READ"], {"README.md"}),
         (["dmrgate", "damage", "README.md", "CHANGE"], {"CHANGELOG.md"}),
         (["dmrgate", "damage", "--c"], {"--colour"}),
         (["dmrgate", "damage", "--seed", ""], set()),
         (["dmrgate", "damage", "--errors", ""], set()),
         (["dmrgate", "damage", "--loss="], set()),
-        (["dmrgate", "damage", "--", "READ"], {"README.md"}),
-        (["dmrgate", "compare", "-"], compare),
         (["dmrgate", "compare", "READ"], {"README.md"}),
         (["dmrgate", "compare", "README.md", "CHANGE"], {"CHANGELOG.md"}),
         (["dmrgate", "compare", "--ignore", ""], {"cach", "vocoder"}),
         (["dmrgate", "compare", "--ignore=v"], {"--ignore=vocoder"}),
         (["dmrgate", "compare", "--shift", ""], set()),
-        (["dmrgate", "compare", "--", "READ"], {"README.md"}),
         (["dmrgate", "help", ""], commands),
         (["dmrgate", "help", "show", ""], set()),
-        (["dmrgate", "help", "import", ""], {"text", "datagrams", "dmrd"}),
-        (["dmrgate", "help", "export", ""], {"text", "datagrams", "dmrd"}),
-        (["dmrgate", "import", ""], {"text", "datagrams", "dmrd", "help"} | carrying),
-        (["dmrgate", "import", "dmrd", "-"], hotspot),
+        (["dmrgate", "help", "import", ""], FORMATS),
+        (["dmrgate", "help", "export", ""], FORMATS),
+        (["dmrgate", "import", ""], {*FORMATS, "help"} | options["import"]),
         (["dmrgate", "import", "dmrd", "--repeater", ""], set()),
-        (["dmrgate", "import", "datagrams", "-"], listing),
         (["dmrgate", "import", "datagrams", "READ"], {"README.md"}),
         (["dmrgate", "import", "datagrams", "--slot", ""], {"1", "2"}),
         (["dmrgate", "import", "datagrams", "--first-frame", ""], set()),
-        (["dmrgate", "export", "datagrams", "-"], capturing),
         (["dmrgate", "export", "datagrams", "--start", ""], set()),
-        (["dmrgate", "export", "dmrd", "-"], sending),
         (["dmrgate", "export", "dmrd", "--repeater", ""], set()),
         (["dmrgate", "export", "d"], {"datagrams", "dmrd"}),
         (["dmrgate", "export", "t"], {"text"}),
-        (["dmrgate", "export", "text", "-"], carrying),
         (["dmrgate", "export", "text", "READ"], {"README.md"}),
         (["dmrgate", "import", "text", "README.md", "CHANGE"], {"CHANGELOG.md"}),
         (["dmrgate", "import", "text", "--", "READ"], {"README.md"}),
-    ):
+    ]
+    rows += [(["dmrgate", *name.split(), "-"], wanted) for name, wanted in options.items() if name]
+    rows += [(["dmrgate", name, "--", "READ"], {"README.md"}) for name in sorted(commands - WITHOUT_FILES)]
+    for words, wanted in rows:
         had = offered(report, *words)
         report.expect(f"bash offers for {words}", had == wanted, had ^ wanted)
+
+
+def check_zsh(report, options, commands):
     text = (report.top / ZSH).read_text()
-    begin = text.index("    run)")
-    later = r"^    (?:slot|show|log|make|damage|compare|import|export|help)\)$"
-    parts = [text[:begin], *re.split(later, text[begin:], flags=re.MULTILINE)]
-    names = "the program", "run", "slot", "show", "log", "make", "damage", "compare", "import", "export"
-    offers = top, run, slot, show, log, make, damage, compare, listing | hotspot, capturing | sending
-    for name, part, wanted in zip(names, parts, offers):
-        report.expect(f"zsh's options of {name}", options_in(part) == wanted, options_in(part) ^ wanted)
-        kinds = {"import": 3, "export": 3}.get(name, 1)
-        is_so = name == "the program" or part.count("_arguments -S ") == kinds
-        report.expect(f"zsh offers no option of {name} behind --", is_so, part)
+    lists = [{*re.findall(r'([a-z]+)\\:"', it)} for it in re.findall(r"'1:(?:command|format):\(\((.*)\)\)'", text)]
+    report.expect("zsh's commands and formats", lists == [{*it, "help"} for it in (commands, FORMATS, FORMATS)], lists)
+    lists = [{*it.split()} for it in re.findall(r"'\d:(?:command|format):\(([a-z ]+)\)'", text)]
+    report.expect("zsh's commands and formats behind help", lists == [commands, FORMATS], lists)
+    front, *behind = re.split(r"^    ([a-z]+)\)$", text, flags=re.MULTILINE)
+    parts = {"": front, **dict(zip(behind[::2], behind[1::2]))}
+    report.expect("zsh has a case of each command", {*parts} == {"", *commands, "help"}, {*parts} ^ {"", *commands, "help"})
+    for name in ("", *sorted(commands)):
+        part = parts.get(name, "")
+        wanted = set().union(*(had for command, had in options.items() if command.partition(" ")[0] == name))
+        report.expect(f"zsh's options of {name or 'the program'}", options_in(part) == wanted, options_in(part) ^ wanted)
+        kinds = sum(command.startswith(f"{name} ") for command in options) or 1
+        is_so = not name or part.count("_arguments -S ") == kinds
+        report.expect(f"zsh offers no option of {name or 'the program'} behind --", is_so, part)
         without = re.findall(r"(--[a-z-]+)\[[^]]*\]:", part)
-        report.expect(f"zsh takes each value of {name} behind = too", not without, without)
-    lines = (report.top / FISH).read_text().splitlines()
-    everywhere = {"--help"}
-    marks = (
-        ("the program", "__fish_use_subcommand", top), ("run", "from run'", run), ("show", "from show'", show),
-        ("log", "from log'", log), ("make", "from make'", make), ("damage", "from damage'", damage),
-        ("compare", "from compare'", compare),
-        ("import datagrams", "from import; and __fish_seen_subcommand_from datagrams'", listing),
-        ("import dmrd", "from import; and __fish_seen_subcommand_from dmrd'", hotspot),
-        ("export datagrams", "from export; and __fish_seen_subcommand_from datagrams'", capturing),
-        ("export dmrd", "from export; and __fish_seen_subcommand_from dmrd'", sending),
-    )
-    for name, mark, wanted in marks:
-        had = everywhere | {f"--{word}" for line in lines if mark in line for word in re.findall(r" -l ([a-z-]+)", line)}
-        report.expect(f"fish's options of {name}", had == wanted, had ^ wanted)
-    for shell, file in (("zsh", ZSH), ("fish", FISH), ("bash", BASH)):
-        if shutil.which(shell):
-            ran = subprocess.run([shell, "-n", report.top / file], capture_output=True, text=True)
-            report.expect(f"{shell} reads its completions", (ran.returncode, ran.stderr) == (0, ""), ran.stderr)
+        report.expect(f"zsh takes each value of {name or 'the program'} behind = too", not without, without)
+
+
+def check_fish(report, options, commands):
+    text = (report.top / FISH).read_text()
+    had = {*re.findall(r" -n __fish_use_subcommand -a ([a-z]+) ", text)}
+    report.expect("fish's commands", had == {*commands, "help"}, had ^ {*commands, "help"})
+    had = {*re.search(r"from help' -a '([a-z ]+)'$", text, re.MULTILINE)[1].split()}
+    report.expect("fish's commands behind help", had == commands, had ^ commands)
+    for command in ("import", "export"):
+        had = {*re.findall(rf"from [a-z ]*{command}[a-z ]*; and not .* -a ([a-z]+) ", text)}
+        report.expect(f"fish's formats of {command}", had == FORMATS, had ^ FORMATS)
+    had = {*" ".join(re.findall(r"'__fish_seen_subcommand_from ([a-z ]+)' -F$", text, re.MULTILINE)).split()}
+    wanted = commands - WITHOUT_FILES - {"import", "export"} | FORMATS
+    report.expect("fish offers files", had == wanted, had ^ wanted)
+    for name, wanted in options.items():
+        mark = f"from {name.replace(' ', '; and __fish_seen_subcommand_from ')}'" if name else "__fish_use_subcommand"
+        lines = [line for line in text.splitlines() if mark in line]
+        had = {"--help", *(f"--{word}" for line in lines for word in re.findall(r" -l ([a-z-]+)", line))}
+        report.expect(f"fish's options of {name or 'the program'}", had == wanted, had ^ wanted)
 
 
 def shell(command, folder):
@@ -789,16 +798,13 @@ def check_readme(report):
 def check(report):
     check_alike(report)
     options = check_help(report)
-    commands = "", "run", "slot", "show", "log", "make", "damage", "compare", "import text", "import datagrams", "export datagrams"
-    top, run, slot, show, log, make, damage, compare, carrying, listing, capturing = (options[it] for it in commands)
-    hotspot, sending = options["import dmrd"], options["export dmrd"]
     ran = report.call("--version")
     version = ran.out.decode().strip()
     is_version = re.fullmatch(r"dmrgate \d+\.\d+\.\d+", version) and ran.status == 0 and ran.err == b""
     report.expect("the version", is_version, ran)
     short = report.call("-V")
     report.expect("-V is --version", (short.status, short.out, short.err) == (ran.status, ran.out, ran.err), short)
-    check_manual(report, top | run | slot | show | log | make | damage | compare | listing | capturing | hotspot | sending, version)
+    check_manual(report, set().union(*options.values()), version)
     check_examples(report)
-    check_completions(report, top, run, slot, show, log, make, damage, compare, carrying, listing, capturing, hotspot, sending)
+    check_completions(report, options)
     check_readme(report)
