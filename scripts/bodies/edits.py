@@ -4,7 +4,8 @@ import re
 
 from bodies.functions import functions_of, module_of, types_of
 
-FOLDER = "must-fail"
+# Where a crate has them. Those of the first folder `rt ci` tries too, each by itself.
+FOLDERS = ("must-fail", "wrong-bodies")
 
 REFUSED_IN = re.compile(r"^# refused-in: (\S+)$", re.MULTILINE)
 
@@ -69,7 +70,7 @@ def changes_in(text):
 
 def files_of(crate):
     """The files of a crate's edits in the order of their names."""
-    return sorted((crate / FOLDER).glob("*.edit"))
+    return sorted((file for folder in FOLDERS for file in (crate / folder).glob("*.edit")), key=lambda it: it.name)
 
 
 def edits_of(crate):

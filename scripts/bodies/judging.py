@@ -11,6 +11,12 @@ LIMIT = re.compile(r"ran out of (stack|the (steps|memory))|(outgrew the memory|s
 # What it says of a proof that names what is no longer there.
 NAME_GONE = re.compile(r"has no field|is not in scope|has no `|was not admitted")
 
+# An error in a text of the crate, which may name what the error is in.
+ERROR = re.compile(r"^(?:\./)?(?:src|specs)/\S+: error: (`[^`]*`: )?(.*)", re.MULTILINE)
+
+# What such an error says, beside names, of a text that can't be read or that names what there isn't.
+CANT_READ = re.compile(r"is not in scope|has no field|is no name|operand is missing|expected the end|cannot continue")
+
 # So many lines are told of a check that says nothing of a function.
 LAST_LINES = 20
 
@@ -19,14 +25,14 @@ class Verdict(enum.Enum):
     """What a wrong body came to."""
 
     REFUSED = "refused"
-    AT_LIMIT = "refused only by a limit of the prover"
+    AT_LIMIT = "not judged, since the prover came to a limit"
     NAME_GONE = "refused only since a proof names what the edit took away, which says nothing of the contract"
     PROVED = "not refused"
     UNCLEAR = "not judged"
 
 
 # An edit of several functions came to the first of these that one of them came to.
-ORDER = (Verdict.REFUSED, Verdict.AT_LIMIT, Verdict.NAME_GONE, Verdict.UNCLEAR)
+ORDER = (Verdict.REFUSED, Verdict.NAME_GONE, Verdict.AT_LIMIT, Verdict.UNCLEAR)
 
 
 class Said:
@@ -68,10 +74,14 @@ class Said:
         found = {self.verdict_on(path, is_alone) for path in functions}
         return next((it for it in ORDER if it in found), Verdict.PROVED)
 
-    def refused_beside(self, edits):
-        """The functions that are refused though none of these edits stands in them."""
+    def is_read(self):
+        """Whether all texts of the crate could be read. Where one couldn't, no contract was tried."""
+        return all(found[1] and not CANT_READ.search(re.sub("`[^`]*`", "", found[2])) for found in ERROR.finditer(self.text))
+
+    def beside(self, edits):
+        """What the functions came to in which none of these edits stands."""
         edited = {path for edit in edits for path in edit.functions}
-        return [it for it in self.functions if it not in edited and self.verdict_on(it) is Verdict.REFUSED]
+        return {self.verdict_on(it) for it in self.functions if it not in edited}
 
     def verdict_in_all(self):
         """What an edit came to for which all of the crate was checked."""

@@ -6,6 +6,9 @@ refused, since it is checked there against what the other promises. Most of a ch
 does, whatever the body says.
 
 An edit that stands outside of bodies is checked by itself, and so is one that came to no verdict beside others.
+
+A refusal counts where the same prover proves what wasn't edited: other functions in the same check, or the crate as it is behind
+it.
 """
 
 import concurrent.futures
@@ -34,6 +37,10 @@ class Tried:
 
     def __init__(self, crate, verdicts, checks, seconds):
         self.crate, self.verdicts, self.checks, self.seconds = crate, verdicts, checks, seconds
+
+    def is_refused(self):
+        """Whether all of them were refused."""
+        return all(verdict is Verdict.REFUSED for verdict, _ in self.verdicts.values())
 
 
 class Trial:
@@ -65,26 +72,40 @@ class Trial:
             batch = batch_of(edits)
             functions = sorted(path for edit in batch for path in edit.functions)
             said = self.check(kept, batch, functions)
-            is_clear = not said.refused_beside(batch)
+            beside = said.beside(batch)
+            is_clear = said.is_read() and Verdict.REFUSED not in beside
+            is_clear = is_clear and (Verdict.PROVED in beside or self.is_proved(kept, batch))
             for edit in batch:
                 verdict = said.verdict_in(edit.functions, False) if is_clear else Verdict.UNCLEAR
                 self.verdicts[edit] = verdict, said.about(edit.functions)
             edits = [it for it in edits if it not in batch]
 
-    def try_alone(self, kept, edit):
-        """Tries an edit by itself: in the functions that refuse it, where they are known, and else in the whole crate."""
-        said = self.check(kept, [edit], sorted(edit.functions))
-        verdict = said.verdict_in(edit.functions, True) if edit.functions else said.verdict_in_all()
-        self.verdicts[edit] = verdict, said.about(edit.functions)
+    def try_alone(self, kept, edits, is_each):
+        """Tries edits one by one: each in the functions that refuse it, where they are known and not all of the crate is asked for.
+        Behind them the crate is checked as it is."""
+        for edit in edits:
+            functions = [] if is_each else sorted(edit.functions)
+            said = self.check(kept, [edit], functions)
+            verdict = said.verdict_in(functions, True) if functions else said.verdict_in_all()
+            self.verdicts[edit] = verdict if said.is_read() else Verdict.UNCLEAR, said.about(functions)
+        if edits and not self.is_proved(kept, [] if is_each else edits):
+            why = "the crate isn't proved as it is, so that a refusal tells nothing"
+            self.verdicts.update({it: (Verdict.UNCLEAR, why) for it in edits})
 
-    def run(self):
+    def is_proved(self, kept, edits):
+        """Whether the crate as it is is proved in the functions of these edits, or all of it. Where it isn't, a refusal tells
+        nothing of what was edited."""
+        functions = sorted({path for edit in edits for path in edit.functions}) if all(it.functions for it in edits) else []
+        said = self.check(kept, [], functions)
+        return (said.verdict_in(functions, True) if functions else said.verdict_in_all()) is Verdict.PROVED
+
+    def run(self, is_each):
         begun = time.monotonic()
         edits = edits_of(self.crate.folder)
         with tempfile.TemporaryDirectory(prefix="dmrgate-bodies-kept-") as kept:
-            self.try_together(kept, [it for it in edits if not it.is_alone])
-            for edit in edits:
-                if edit.is_alone or self.verdicts[edit][0] is Verdict.UNCLEAR:
-                    self.try_alone(kept, edit)
+            self.try_together(kept, [it for it in edits if not it.is_alone and not is_each])
+            unclear = [it for it in edits if self.verdicts.get(it, (Verdict.UNCLEAR,))[0] is Verdict.UNCLEAR]
+            self.try_alone(kept, unclear, is_each)
         return Tried(self.crate, self.verdicts, self.checks, time.monotonic() - begun)
 
 
@@ -109,12 +130,13 @@ def long_first(names):
     return sorted(names, key=lambda it: -known.get(it, UNKNOWN) - EACH * len(files_of(all_crates()[it].folder)))
 
 
-def tried(kit, names, libraries):
-    """Tries the wrong bodies of these crates, as many at once as processors and memory allow. Answers each when it is done."""
+def tried(kit, names, libraries, is_each=False):
+    """Tries the wrong bodies of these crates, many in one check or each in one of all its crate. As many crates are tried at once
+    as processors and memory allow. Answers each crate when it is done."""
     lanes = max(1, min(processors(), free_memory() // MEMORY))
     with concurrent.futures.ThreadPoolExecutor(lanes) as pool:
         below = {name: {it: libraries[it] for it in with_all_below(name)[:-1]} for name in names}
-        begun = [pool.submit(Trial(kit, all_crates()[name], below[name]).run) for name in long_first(names)]
+        begun = [pool.submit(Trial(kit, all_crates()[name], below[name]).run, is_each) for name in long_first(names)]
         try:
             yield from (it.result() for it in concurrent.futures.as_completed(begun))
         finally:

@@ -33,7 +33,10 @@ class Kit:
         self.compiler = self.folder / "bin/rattle"
         if not self.compiler.is_file():
             fail(f"{rt} is of no Rattle kit that could build it: there is no {self.compiler}")
-        self.identity = f"{self.folder} {answer_of(rt, 'version')}"
+        version = answer_of(rt, "version")
+        self.identity = f"{self.folder} {version}"
+        # What kits that prove the same have in common.
+        self.logic = version.partition(" logic ")[2]
 
     def libraries(self, crate, below):
         """The words for what a crate stands on: libraries of the kit, and those of the repository, which are built."""

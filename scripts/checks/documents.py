@@ -376,7 +376,10 @@ def check_samples(report):
     rows = [name for name, _ in tables_of((report.top / "samples/README.md").read_text(), "| Folder | Shows |")]
     names = {it.name for it in folders}
     report.expect("samples/README.md has a row for each sample", sorted(rows) == sorted(names), names ^ set(rows))
-    frames = sum(int((it / "summary.txt").read_text().split()[1]) for it in folders)
+    lines = [it / "summary.txt" for it in folders]
+    lacking = [it.parent.name for it in lines if not it.is_file()]
+    report.expect("each sample has the line of its run, summary.txt", not lacking, lacking)
+    frames = sum(int(it.read_text().split()[1]) for it in lines if it.is_file())
     tested = (report.top / "crates/dmr_repeater_tests/src/tests/samples.rt").read_text().count("\npub static ")
     text = " ".join((report.top / "docs/testing.md").read_text().split())
     for told in (f"Their {len(folders)} downlinks have {frames:,} frames.", f"{tested} of them are also tests of `rt ci`."):

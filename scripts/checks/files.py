@@ -169,12 +169,14 @@ def check_devices(report):
     """Files of two devices may have one number, and are two files."""
     memory = pathlib.Path("/dev/shm")
     if not memory.is_dir():
+        report.skip(3, "no second device, /dev/shm")
         return
     downlink = (report.top / "samples/one_csbk/downlink.dmrd").read_bytes()
     with tempfile.TemporaryDirectory(dir=memory) as folder, Room(report, it.ONE_CSBK, it.OUTGOING_HEAD) as room:
         twins = twin_in(pathlib.Path(folder))
         # Where a device counts from large numbers on, there are none.
         if not twins:
+            report.skip(3, "no files of two devices that have one number")
             return
         file, other = twins
         ran = room.run(downlink=file, uplink=other)

@@ -6,7 +6,8 @@ import subprocess
 
 from checks import recordings as it
 from checks import talks
-from checks.bursts import CONTROL_BLOCK, DATA_HEADER, SYNC, bits_of, bits_of_octets, data_burst, information_of, number_of, sealed
+from checks.bursts import CONTROL_BLOCK, DATA_HEADER, SYNC, bits_of, bits_of_octets, data_burst, embedded_fields, information_of
+from checks.bursts import number_of, sealed, voice_burst, voice_sync_burst
 from checks.compare import BURST, recording_of, slots_of
 from checks.log import CALL_OF_2, recording, scene, slots_of_call
 from checks.pipes import on_terminal
@@ -164,13 +165,23 @@ def control(digits, colour=1):
     return burst_of_block(CSBK, sealed(bytes.fromhex(digits), CONTROL_BLOCK), colour)
 
 
-def packet_of(body, rate=dmr.DataType.RATE_HALF, number=None, sap=4, source=2, target=1, is_group=False):
-    """The bursts of a full try of a packet, with no preambles."""
+def packet_of(body, rate=dmr.DataType.RATE_HALF, number=None, sap=4, is_group=False, wants_answer=True, serials=None):
+    """The bursts of a try of a packet from radio 2 to 1, with no preambles: of all of it, or of these blocks."""
     is_confirmed = number is not None
     pieces, pad = packets.split(body, rate, is_confirmed)
     blocks = [packets.confirmed_block(piece, serial, rate) for serial, piece in enumerate(pieces)] if is_confirmed else pieces
-    header = packets.PacketHeader(target, source, sap, len(blocks), pad, is_group, number)
-    return [header_of(header.written()), *(dmr.DataBurst(1, rate, octets).written() for octets in blocks)]
+    sent = blocks if serials is None else [blocks[serial] for serial in serials]
+    header = packets.PacketHeader(1, 2, sap, len(sent), pad, is_group, number, serials is None)
+    header.wants_answer = is_confirmed and wants_answer
+    return [header_of(header.written()), *(dmr.DataBurst(1, rate, octets).written() for octets in sent)]
+
+
+def short_data_of(body, kind):
+    """The bursts of short data from radio 2 to talk group 9, of this data format."""
+    blocks, pad = packets.split(body, dmr.DataType.RATE_HALF, False)
+    many = len(blocks)
+    first = bytes([0x80 | many >> 4 << 4 | 13, 10 << 4 | many & 0xF, 0, 0, 9, 0, 0, 2, kind << 2 | 1, 8 * pad])
+    return [header_of(sealed(first, DATA_HEADER)), *(burst_of_block(RATE_HALF, octets) for octets in blocks)]
 
 
 def datagram_of(number, data, source_port=5018, target_port=5016, target=bytes([12, 0, 0, 1])):
@@ -205,7 +216,21 @@ def spoken(octets):
     return recording_of(octets[:8], made)
 
 
-ZEROS = "00" * 8
+def superframe_of(carried, pi=0):
+    """The six bursts of a superframe in which B to E carry this link control, or none."""
+    fields = embedded_fields(bytes.fromhex(carried)) if carried else 4 * [0]
+    orders = (1, 3, 3, 2) if carried else (0, 0, 0, 0)
+    parts = [voice_burst(lcss, pi, field) for lcss, field in zip(orders, fields)]
+    return [voice_sync_burst(), *parts, voice_burst(0, pi)]
+
+
+ZEROS, SEVEN = "00" * 8, "01020304050607"
+
+# A packet of three blocks.
+BODY = bytes(range(25))
+
+# What superframes carry in turn: the link control of the call, none, an alias of eight letters in two parts, and three others.
+CARRIED = [CALL_OF_2, None, "0400904564" "20506F6F", "05006C650000000000", f"0800{SEVEN}", f"0700{SEVEN}", f"2110{SEVEN}"]
 STATUS = header_of(sealed(bytes.fromhex("0EA00000010000032805"), DATA_HEADER))
 
 # A line, and the slots that it sends.
@@ -232,6 +257,19 @@ SENT = [
     ("failed 2 -> 1, N(S) 3, SAP 3", answer_of(packets.Answer.FAILED, sap=3)),
     ("selective repeat 2 -> 1, N(S) 3, wanted 0 63 of 64", answer_of(packets.Answer.SELECTIVE, (0, 63), 64)),
     ("selective repeat 2 -> 1, N(S) 3, wanted 1 of 65", answer_of(packets.Answer.SELECTIVE, (1,), 65)),
+    ("short data 2 -> group 9, format 5, octets 0102030405", short_data_of(bytes([1, 2, 3, 4, 5]), 5)),
+    (f"short data 2 -> group 9, format 63, octets {'07' * 200}", short_data_of(200 * b"\7", 63)),
+    (f"confirmed 2 -> 1, N(S) 1, unanswered, octets {BODY.hex()}", packet_of(BODY, number=1, wants_answer=False)),
+    ("group call 5 -> 9, privacy, broadcast, priority 1: H T", slots_of_call("000049000009000005", "HT")),
+    ("unit call 5 -> 9, emergency, OVCM, priority 2: H T", slots_of_call("030086000009000005", "HT")),
+    (f"talker alias header {SEVEN}: H T", slots_of_call(f"0400{SEVEN}", "HT")),
+    (f"terminator LC opcode 33, fid 16, {SEVEN}", slots_of_call(f"2110{SEVEN}", "T")),
+    (f"{CALLS}, PI: ABCDEF", superframe_of(CALL_OF_2, 1)),
+    (
+        f'{CALLS}, carrying own / none / alias "Ed Poole" / GPS info {SEVEN} / talker alias block 3 {SEVEN}'
+        f" / LC opcode 33, fid 16, {SEVEN}: 8*ABCDEF",
+        [burst for carried in [*CARRIED, CALL_OF_2] for burst in superframe_of(carried)],
+    ),
     (f"{CALLS}: HH T", slots_of_call(CALL_OF_2, "HHT")),
     (f"{CALLS}: H .. ABCDEF A..DEF TT", slots_of_call(CALL_OF_2, "H..ABCDEFA..DEFTT")),
     (f"{CALLS}: CD.F A.CDEF T", slots_of_call(CALL_OF_2, "CD.FA.CDEFT")),
@@ -272,6 +310,25 @@ def check_sent(report):
     report.expect("one silence in front of data", octets == recording(wanted), octets.hex())
     octets, _ = made(report, "colour 9\nslot 1\nsilence 1\nopcode 0, fid 0, " + ZEROS)
     report.expect("the own colour code", octets == recording([None, control("00" * 10, 9)]), octets.hex())
+
+
+TRIES = f"""\
+slot 1
+confirmed 2 -> 1, N(S) 3, SAP 9, octets {BODY.hex()}: D b.b
+silence 1
+full
+full: cD .bb
+partial 2 0: ccD b.
+"""
+
+
+def check_tries(report):
+    """Further tries of a packet have its header and its blocks. Preambles count what follows them."""
+    full, some = packet_of(BODY, number=3, sap=9), packet_of(BODY, number=3, sap=9, serials=[2, 0])
+    one, two, three = (control(f"BD0080{left:02X}000001000002") for left in (4, 4, 3))
+    slots = [*full[:2], None, full[3], None, *full, None, one, full[0], None, *full[2:], None, two, three, *some[:2], None]
+    octets, _ = made(report, TRIES)
+    report.expect("tries of a packet", octets == recording(slots), octets.hex())
 
 
 def check_scene(report):
@@ -380,8 +437,9 @@ def check_bent(report):
     """Each script, cut at each line, with each word left out, and with each line twice."""
     everything = "".join(f"{line}\nsilence 6\n" for line, _ in SENT)
     sends = "send at 3, rate 1, UDP 12.0.0.1:1 -> 225.0.0.9:2, id 7, 0102\n"
-    everything = f"colour 1\nslot 1\n{everything}slot 2\n{sends}frames 600\n"
-    for name, text in (("scene", SCENE), ("dialogue", DIALOGUE), ("all", everything)):
+    everything = f"colour 1\nslot 1\n{everything}slot 2\n{sends}frames 900\n"
+    scenes = {f"scene of {it.parent.name}": it.read_text() for it in sorted((report.top / "samples").glob("*/scene.txt"))}
+    for name, text in {"scene": SCENE, "dialogue": DIALOGUE, "tries": TRIES, "all": everything, **scenes}.items():
         expect_ending(report, f"{name}, whole", text.encode())
         lines = text.splitlines(keepends=True)
         for number, line in enumerate(lines):

@@ -41,7 +41,7 @@ def check_files(tree):
     for file in ("specs/Left.antt", "proofs/left/Left.antt"):
         tree.put(f"crates/left/{file}", "left is left\n")
         tree.expect_run(f"a new file {file}", ["left", "dmrgate"])
-    tree.put("crates/left/must-fail/left_is_right.edit", "")
+    tree.put("crates/left/wrong-bodies/left_is_right.edit", "")
     tree.put("crates/left/stdin", "")
     tree.expect_run("files that nothing is built of", [])
 

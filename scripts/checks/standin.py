@@ -73,8 +73,8 @@ esac
 
 # A library is a folder with its sources, and a format that a test may have differ; a program prints those of all its libraries, and
 # then its own.
-# A check of a crate is for a copy elsewhere. It refuses a function by a word of its body: one that is wrong, one of whose proofs
-# names what is gone, and one that is right, where something spreads.
+# A check of a crate is for a copy elsewhere. It refuses a function by a word of its body: one that is wrong, one that can't be
+# read, one of whose proofs names what is gone, and one that is right, where something spreads. Of a long one it can't tell.
 RATTLE = COMMON + r"""
 name=$3
 if [ "$1" = check ]; then
@@ -88,8 +88,14 @@ if [ "$1" = check ]; then
                 f = names[i]
                 proofs = "./proofs/" f "/Answers.antt"
                 answer = "`Rattle." crate ".proofs." f ".Answers.value`"
-                if (body[f] == "gone") print proofs ":1:1: error: `value`: what it cites was not admitted"
-                if (body[f] == "gone") refuse(f, "not proved; it stands on " answer ", which antt refuses")
+                if (body[f] == "gone") {
+                    print proofs ":1:1: error: `value`: what it cites was not admitted"
+                    refuse(f, "not proved; it stands on " answer ", which antt refuses")
+                } else if (body[f] == "unread") {
+                    print "src/lib.rt:1:1: error: `" f "`: `what` is not in scope"
+                    refuse(f, "not proved")
+                } else if (body[f] == "long")
+                    refuse(f, "could not tell")
                 else if (body[f] == "wrong" || spreads && body[f] == "right")
                     refuse(f, "no proof: expected answers in " proofs "; `search` did not prove `value`")
                 else print "fn " crate "::" f ": " (asked ~ / --only / ? "no holes" : "proved")

@@ -52,6 +52,7 @@ front_data call forms h = (
       (all_same IsDataOrSilent (silences_behind call.shape.places.items h) Silent tt),
 )
 
+-- the terminators of a call are data bursts
 pub ends_data : (call : Call) (forms : CallForms) → AllByRecursion IsDataOrSilent (ends_of call forms)
 ends_data call forms =
     all_same IsDataOrSilent call.shape.terminators

@@ -9,6 +9,7 @@ mod Listing
 mod OneRecorded
 mod OtherColours
 mod Placing
+mod Refused
 mod Scripts
 mod SentSlots
 mod SlotLines

@@ -7,6 +7,7 @@ ghost use Rattle.dmr_hearing.specs.Slots.{Voice};
 ghost use Rattle.dmr_making.specs.Made.{IsMade};
 ghost use Rattle.dmr_making.specs.Senders.{IsSendable};
 ghost use Rattle.dmr_making.specs.Sends.{SendsCall, SendsSaid, Transmitted};
+ghost use Rattle.dmr_making_laws.specs.Refused.{FewSilencesAreNoPause, FrontsAreWellFormed};
 ghost use Rattle.dmr_making_laws.specs.Scripts.{ListsAreWellFormed, PlansHaveLists};
 ghost use Rattle.dmr_making_laws.specs.Scripts.{RecordingsAreOfTheirLists, RunsWriteWhatScriptsMean};
 ghost use Rattle.dmr_planning.specs.Counting.{slot_count};
@@ -36,6 +37,17 @@ pub fn plans_have_lists()
 /// The transmissions of each slot of a script, each with the silences behind it, are well formed as a whole.
 pub fn lists_are_well_formed()
     ensures law { ListsAreWellFormed }
+{}
+
+/// The transmissions of the statements in front of any line of a script are well formed as a whole, too. So they are in front of a
+/// line that is refused.
+pub fn fronts_are_well_formed()
+    ensures law { FrontsAreWellFormed }
+{}
+
+/// Where a script is refused for too few silences between two transmissions, no list is well formed in which both stand so.
+pub fn few_silences_are_no_pause()
+    ensures law { FewSilencesAreNoPause }
 {}
 
 /// What `write_uplink` writes of the plan of a script into an empty file is a recording of the transmissions of both slots.

@@ -7,6 +7,7 @@ mod damaging;
 mod logging;
 mod making;
 mod objects;
+mod stand_in;
 mod text;
 
 use dmr_record::{FromRead, ToWrite};

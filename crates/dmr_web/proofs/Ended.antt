@@ -47,6 +47,7 @@ asked_of P written asked counted frame left_out from a a' h h' k k' notation fir
     (subst (λ n. P written counted n a' h' k') out (subst (λ o. P written counted left_out o h' k') of
     (subst (λ o. P written counted left_out a o k') none (subst (λ o. P written counted left_out a h o) shown holds)))))
 
+-- what is answered of a list that was told whole
 pub all_by_end : {T : Type 0} (r : Result T Stop) (is_json : Bool) (written : WrittenAs)
     (status number frame from counted left_out length next : ℕ) (octets text : List ℕ) (told : Told) (format : FileFormat)
     (a b h k : Option (List ℕ)) → status ≡ status_by_end r → told ≡ told_by_end r length next
@@ -70,6 +71,7 @@ all_by_end (Err Output) is_json written status number frame from counted left_ou
     is tells asked of none notation first out listed end shown met =
     absurd (wrong_part (sym is ∙ met))
 
+-- what is answered of one that was told up to a fault of its file
 pub fault_by_end : {T : Type 0} (r : Result T Stop) (is_json : Bool) (written : WrittenAs)
     (status number frame from counted left_out length next : ℕ) (octets text : List ℕ) (told : Told) (format : FileFormat)
     (a b h k : Option (List ℕ)) → status ≡ status_by_end r → told ≡ told_by_end r length next
@@ -94,6 +96,7 @@ fault_by_end (Err Output) is_json written status number frame from counted left_
     is tells asked of none notation first out listed shown met =
     absurd (wrong_full (sym is ∙ met))
 
+-- what is answered of one that was told as far as there was room for text
 pub part_by_end : {T : Type 0} (r : Result T Stop) (is_json : Bool) (written : WrittenAs)
     (status number frame from counted left_out length next : ℕ) (octets text : List ℕ) (told : Told) (format : FileFormat)
     (a b h k : Option (List ℕ)) → status ≡ status_by_end r → told ≡ told_by_end r length next
@@ -116,6 +119,7 @@ part_by_end (Err Output) is_json written status number frame from counted left_o
           left_out from a (Some octets) h (Some []) k (front_held text length) notation first out of none shown listed;
     })
 
+-- what is answered of a recording that was drawn whole
 pub pictured_by_end : {T : Type 0} (r : Result T Stop) (status number length next : ℕ) (frames : Frames) (octets text : List ℕ)
     (told : Told) (recording : Recording) (a b h k : Option (List ℕ)) → status ≡ status_by_end r → told ≡ told_by_end r length next
     → numbered_format number ≡ Some (format_of recording) → a ≡ Some octets → h ≡ Some []
@@ -139,6 +143,7 @@ pictured_by_end (Err Output) status number length next frames octets text told r
     shown met =
     absurd (wrong_part (sym is ∙ met))
 
+-- what is answered of one that was drawn up to a fault of its file
 pub picture_fault_by_end : {T : Type 0} (r : Result T Stop) (status number length next : ℕ) (frames : Frames) (octets text : List ℕ)
     (told : Told) (recording : Recording) (a b h k : Option (List ℕ)) → status ≡ status_by_end r → told ≡ told_by_end r length next
     → numbered_format number ≡ Some (format_of recording) → a ≡ Some octets → h ≡ Some []
@@ -163,6 +168,7 @@ picture_fault_by_end (Err Output) status number length next frames octets text t
     listed shown met =
     absurd (wrong_full (sym is ∙ met))
 
+-- what is answered of a head that was read
 pub head_told : (file text : List ℕ) (length : ℕ) (told : Told) (format : FileFormat) (a b h k : Option (List ℕ))
     → told ≡ record (told_text length 0) { format = format_number format } → a ≡ Some file → h ≡ Some []
     → IsHeadRead format a b → PutsLine h k → k ≡ front_held text length → IsHeadListed file text told
@@ -176,6 +182,7 @@ head_told file text length told format a b h k tells of none head line shown =
           (subst (λ o. PutsLine h o) shown line));
     })
 
+-- what is answered of a head at fault
 pub head_fault_told : (stop : Stop) (status length next : ℕ) (file text : List ℕ) (told : Told) (a b h k : Option (List ℕ))
     → status ≡ status_at stop → told ≡ told_at stop length next → a ≡ Some file → h ≡ Some []
     → IfFile stop (λ fault. IsHeadFault fault a b) → IfFile stop (λ fault. PutsLine h k) → k ≡ front_held text length

@@ -26,6 +26,7 @@ strips_put Takes held_of each old new (x ∷ xs) (next, first, rest) =
     puts_as (picture_lines x + sum_by picture_lines xs) _ _ _ (sym (sum_by-cons picture_lines x xs))
     (puts_more _ _ _ _ _ (each old x next first) (strips_put Takes held_of each next new xs rest))
 
+-- a recording that was read whole is drawn whole
 pub pictured : {L : Type 0} (old new : L) (Takes : L → Picture → L → Type 0) (held_of : L → Option (List ℕ)) (of : Recording)
     (frames : Frames) (slots : List RecordedSlot) (end : ListingTurn) (a b k : Option (List ℕ))
     → IsStripped Takes of frames slots [] end a b old new → PutsEachStrip Takes held_of → PutsLine (held_of new) k
@@ -42,6 +43,7 @@ pictured old new Takes held_of of frames slots end a b k stripped each line = re
   };
 }
 
+-- one that was read up to a fault is drawn up to it
 pub pictured_to_fault : {L : Type 0} (old new : L) (Takes : L → Picture → L → Type 0) (held_of : L → Option (List ℕ))
     (of : Recording) (frames : Frames) (fault : FaultLine) (a b k : Option (List ℕ))
     → IsStrippedUpToFault Takes of frames fault a b old new → PutsEachStrip Takes held_of → PutsLine (held_of new) k

@@ -211,6 +211,7 @@ recording_listed old new Takes sight of slots end a b listed none each =
       put = and_none _ _ _ put;
     }
 
+-- a recording that was read up to a fault is listed up to it
 pub recording_to_fault : {L : Type 0} (old new : L) (Takes : L → ListedBurst → L → Type 0) (sight : Sight L) (of : Recording)
     (fault : FaultLine) (a b : Option (List ℕ)) → recording.IsListedUpToFault Takes of fault a b old new → sight.taken old ≡ 0
     → TakesEach Takes sight head_of_burst
@@ -242,6 +243,7 @@ as_left sight old between new entries heads (taken, put) (same, held) = (
   subst (λ h. GivenInTurn PutsHeadedLine (sight.held old) (drop (sight.left old) heads) h) (sym held) put,
 )
 
+-- one whose listing had no more room is listed as far as there was room
 pub recording_in_part : {L : Type 0} (old new : L) (Takes Refuses : L → ListedBurst → L → Type 0) (sight : Sight L)
     (of : Recording) (a b : Option (List ℕ)) → recording.IsListedUpToLine Takes Refuses of a b old new → sight.taken old ≡ 0
     → TakesEach Takes sight head_of_burst → LeavesEach Refuses sight
@@ -265,6 +267,7 @@ sendings_many : (sendings : List Sending) (reads : List Outgoing) → AreReadFro
     → length reads ≡ entry_count (Sendings sendings)
 sendings_many sendings reads are = reads_many sendings reads are ∙ sym (length-map sendings place_of_sending)
 
+-- an outgoing list that was read whole is listed whole
 pub outgoing_listed : {L : Type 0} (old new : L) (Takes : L → Outgoing → L → Type 0) (sight : Sight L) (sendings : List Sending)
     (a b : Option (List ℕ)) → outgoing.AreSendingsListed Takes sendings [] a b old new → sight.taken old ≡ 0
     → TakesEach Takes sight head_of_record
@@ -276,6 +279,7 @@ outgoing_listed old new Takes sight sendings a b listed none each =
     (reads_headed (sight.notation old) (sight.frame old) sendings listed.given.reads listed.given.listed) none listed.given.given in
     record { records = Sendings sendings; read = listed.read; many = many; put = and_none _ _ _ put }
 
+-- one that was read up to a fault is listed up to it
 pub outgoing_to_fault : {L : Type 0} (old new : L) (Takes : L → Outgoing → L → Type 0) (sight : Sight L) (fault : FaultLine)
     (a b : Option (List ℕ)) → outgoing.AreSendingsListedUpToFault Takes fault a b old new → sight.taken old ≡ 0
     → TakesEach Takes sight head_of_record
@@ -288,6 +292,7 @@ outgoing_to_fault old new Takes sight fault a b listed none each =
     listed.given.given in
     record { records = Sendings listed.sendings; read = listed.read; many = many; put = and_none _ _ _ put }
 
+-- one whose listing had no more room is listed as far as there was room
 pub outgoing_in_part : {L : Type 0} (old new : L) (Takes Refuses : L → Outgoing → L → Type 0) (sight : Sight L)
     (a b : Option (List ℕ)) → outgoing.AreSendingsListedUpToLine Takes Refuses a b old new → sight.taken old ≡ 0
     → TakesEach Takes sight head_of_record → LeavesEach Refuses sight
@@ -305,6 +310,7 @@ outgoing_in_part old new Takes Refuses sight a b listed none each leaves =
 receipts_many : (receipts : List Receipt) → length receipts ≡ entry_count (Receipts receipts)
 receipts_many receipts = sym (length-map receipts place_of_receipt)
 
+-- a received list that was read whole is listed whole
 pub received_listed : {L : Type 0} (old new : L) (Takes : L → Receipt → L → Type 0) (sight : Sight L) (receipts : List Receipt)
     (a b : Option (List ℕ)) → received.AreReceiptsListed Takes receipts [] a b old new → sight.taken old ≡ 0
     → TakesEach Takes sight head_of_record
@@ -315,6 +321,7 @@ received_listed old new Takes sight receipts a b listed none each =
     (receipts_headed (sight.notation old) (sight.frame old) receipts) none listed.given in
     record { records = Receipts receipts; read = listed.read; many = many; put = and_none _ _ _ put }
 
+-- one that was read up to a fault is listed up to it
 pub received_to_fault : {L : Type 0} (old new : L) (Takes : L → Receipt → L → Type 0) (sight : Sight L) (fault : FaultLine)
     (a b : Option (List ℕ)) → received.AreReceiptsListedUpToFault Takes fault a b old new → sight.taken old ≡ 0
     → TakesEach Takes sight head_of_record
@@ -325,6 +332,7 @@ received_to_fault old new Takes sight fault a b listed none each =
     (receipts_headed (sight.notation old) (sight.frame old) listed.receipts) none listed.given in
     record { records = Receipts listed.receipts; read = listed.read; many = many; put = and_none _ _ _ put }
 
+-- one whose listing had no more room is listed as far as there was room
 pub received_in_part : {L : Type 0} (old new : L) (Takes Refuses : L → Receipt → L → Type 0) (sight : Sight L)
     (a b : Option (List ℕ)) → received.AreReceiptsListedUpToLine Takes Refuses a b old new → sight.taken old ≡ 0
     → TakesEach Takes sight head_of_record → LeavesEach Refuses sight
@@ -396,6 +404,7 @@ one_behind [] a b c same line = (
 )
 one_behind (head ∷ heads) a b c (next, first, rest) line = (next, first, one_behind heads next b c rest line)
 
+-- what is listed to its end, with a line more behind it
 pub end_and_line : (of : FileFormat) (notation : WrittenAs) (frame from next : ℕ) (a b h j k : Option (List ℕ))
     → IsListedToEnd of notation frame from next 0 a b h j → PutsLine j k → IsListedToEnd of notation frame from next 1 a b h k
 end_and_line of notation frame from next a b h j k listed line = record {
@@ -405,6 +414,7 @@ end_and_line of notation frame from next a b h j k listed line = record {
   put = one_behind _ h j k listed.put line;
 }
 
+-- what is listed up to a fault, with a line more behind it
 pub fault_and_line : (of : FileFormat) (notation : WrittenAs) (frame from next : ℕ) (fault : FaultLine)
     (a b h j k : Option (List ℕ)) → IsListedToFault of notation frame from next 0 fault a b h j → PutsLine j k
     → IsListedToFault of notation frame from next 1 fault a b h k

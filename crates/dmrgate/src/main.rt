@@ -5,7 +5,7 @@
 //! Every other command of `dmrgate` is another program's, the tools (`dmrgate_tools`).
 //!
 //! Its stored run is over a recording: the uplink and the received file are files, the outgoing list comes in by standard input,
-//! and the downlink goes out by standard output, in front of the numbers of the run.
+//! and the downlink goes out by standard output. The numbers of the run are then printed to standard error.
 #![tactic(auto)]
 
 use std::process::ExitCode;

@@ -1,6 +1,5 @@
 //! The command lines of captures of datagrams.
-use super::carrying::{Few, expect_printed};
-use super::command_line::is_refused;
+use super::stand_in::{AT_A_TERMINAL, PLAIN, expect_printed, is_refused};
 use dmr_datagrams::{ExportSettings, ImportSettings};
 use dmr_tools::{ExportFormat, ImportFormat, Request, request_of};
 use std::test::Fail;
@@ -118,12 +117,11 @@ fn captures_of_lists_that_are_asked_for(rt: HostRuntime) -> Result<(), Fail> {
 
 #[test]
 fn what_is_printed_of_captures(rt: HostRuntime) {
-    let plain = Few { is_terminal: false };
     let words = ["dmrgate", "import", "datagrams", "up", "out", "--slot", "1"];
-    expect_printed(&rt, &plain, &words, 1, "", "error: up: no capture\n");
+    expect_printed(&rt, &PLAIN, &words, 1, "", "error: up: no capture\n");
     let words = ["dmrgate", "export", "datagrams", "up", "out"];
     let told = "error: up: bad magic at octet 0\n";
-    expect_printed(&rt, &plain, &words, 1, "", told);
+    expect_printed(&rt, &PLAIN, &words, 1, "", told);
     let words = [
         "dmrgate",
         "export",
@@ -134,8 +132,8 @@ fn what_is_printed_of_captures(rt: HostRuntime) {
         "now",
     ];
     let told = "error: --start is no time, as 2026-01-31T12:00:00Z\n";
-    expect_printed(&rt, &plain, &words, 2, "", told);
+    expect_printed(&rt, &PLAIN, &words, 2, "", told);
     let words = ["dmrgate", "export", "datagrams", "up", "-"];
     let told = "error: -: standard output is a terminal\n";
-    expect_printed(&rt, &Few { is_terminal: true }, &words, 1, "", told);
+    expect_printed(&rt, &AT_A_TERMINAL, &words, 1, "", told);
 }

@@ -1,124 +1,8 @@
-//! The command lines of `import` and `export`, over a system of a few files.
-use super::command_line::is_refused;
-use dmr_files::{FileKind, Identity, Open, Place, StandardFiles, System};
-use dmr_record::ToWrite;
-use dmr_tools::{ExportFormat, ImportFormat, PairPlaces, Request, obey, request_of};
-use std::io::{self, ErrorKind, Write};
+//! The command lines of `import` and `export`.
+use super::stand_in::{StandIn, TEXT, expect_printed, is_refused};
+use dmr_tools::{ExportFormat, ImportFormat, PairPlaces, Request, request_of};
 use std::process::Abort;
 use std::test::Fail;
-
-/// Recordings of no frames, and the text of the first.
-const RECORDING: &[u8] = b"DMRU\x01\x00\x00\x00";
-
-const DOWNLINK: &[u8] = b"DMRD\x01\x00\x00\x00";
-
-const TEXT: &[u8] = b"dmrgate uplink 1\nframes 0\n";
-
-/// A file that keeps nothing of what is written to it, or takes nothing.
-#[derive(Drop)]
-pub(crate) enum Output {
-    Open,
-    Full,
-}
-
-impl Write for Output {
-    fn write(&mut self, piece: &[u8]) -> io::Result<usize> {
-        match self {
-            Output::Open => Ok(piece.len()),
-            Output::Full => Err(io::Error::from(ErrorKind::StorageFull)),
-        }
-    }
-
-    fn flush(&mut self) -> io::Result<()> {
-        Ok(())
-    }
-}
-
-/// A system with two recordings and a text, and a file behind its standard output. The first recording and the text have two names.
-#[derive(Drop)]
-pub(crate) struct Few {
-    pub(crate) is_terminal: bool,
-}
-
-/// The regular file of this number.
-fn regular(number: u64) -> Identity {
-    Identity {
-        device: 1,
-        number,
-        kind: FileKind::Regular,
-    }
-}
-
-impl System for Few {
-    type Input = &'static [u8];
-
-    type Output = Output;
-
-    fn open_input(&self, place: Place<'_>) -> io::Result<Open<&'static [u8]>> {
-        match place {
-            Place::Path("up") => Ok(Open {
-                file: RECORDING,
-                identity: regular(1),
-            }),
-            Place::Path("down") => Ok(Open {
-                file: DOWNLINK,
-                identity: regular(6),
-            }),
-            Place::Path("text") | Place::Standard => Ok(Open {
-                file: TEXT,
-                identity: regular(5),
-            }),
-            Place::Path(_) => Err(io::Error::from(ErrorKind::NotFound)),
-        }
-    }
-
-    fn open_output(&self, place: Place<'_>) -> io::Result<Open<Output>> {
-        let (file, number) = match place {
-            Place::Path("twin") => (Output::Open, 1),
-            Place::Path("text twin") => (Output::Open, 5),
-            Place::Path("printed") => (Output::Open, 2),
-            Place::Path("full") => (Output::Full, 3),
-            Place::Path("out") | Place::Standard => (Output::Open, 4),
-            Place::Path(_) => return Err(io::Error::from(ErrorKind::NotFound)),
-        };
-        let identity = regular(number);
-        Ok(Open { file, identity })
-    }
-
-    fn empty(&self, _output: &Open<Output>) -> io::Result<()> {
-        Ok(())
-    }
-
-    fn standard_files(&self) -> StandardFiles {
-        StandardFiles {
-            input: None,
-            output: Some(regular(2)),
-            error: None,
-        }
-    }
-
-    fn prints_to_terminal(&self) -> bool {
-        self.is_terminal
-    }
-}
-
-/// These words end with this status, and print so to either sink.
-pub(crate) fn expect_printed(
-    rt: &(impl Abort + AllocGlobal),
-    system: &Few,
-    words: &[&str],
-    status: u8,
-    out: &str,
-    err: &str,
-) {
-    let alloc = rt.alloc();
-    let mut output = ToWrite::new(Vec::new(alloc));
-    let mut errors = ToWrite::new(Vec::new(alloc));
-    let ended = obey(alloc, words, system, &mut output, &mut errors);
-    assert_eq!(rt; ended, status);
-    assert!(rt; output.into_inner().as_slice() == out.as_bytes());
-    assert!(rt; errors.into_inner().as_slice() == err.as_bytes());
-}
 
 /// Between which places these words ask to carry a text.
 fn places_asked<'a>(rt: &impl AllocGlobal, words: &'a [&'a str]) -> Result<PairPlaces<'a>, Fail> {
@@ -195,7 +79,11 @@ fn expect_all(
 ) {
     for (input, output, status, out, err) in all {
         let words = ["dmrgate", command, "text", input, output];
-        expect_printed(rt, &Few { is_terminal }, &words, *status, out, err);
+        let system = StandIn {
+            input: TEXT,
+            is_terminal,
+        };
+        expect_printed(rt, &system, &words, *status, out, err);
     }
 }
 

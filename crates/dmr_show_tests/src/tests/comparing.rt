@@ -1,5 +1,5 @@
-//! The command line of `compare`, over a system of one file.
-use super::command_line::{expect_printed, is_refused};
+//! The command line of `compare`.
+use super::stand_in::{PLAIN, expect_printed, is_refused};
 use dmr_compare::{CompareSettings, Ignored, Shift};
 use dmr_tools::{Comparison, Request, request_of};
 use std::test::Fail;
@@ -103,6 +103,6 @@ fn what_is_printed_of_comparisons(rt: HostRuntime) {
         ),
     ] {
         let words = ["dmrgate", "compare", first, second];
-        expect_printed(&rt, &words, status, out, err);
+        expect_printed(&rt, &PLAIN, &words, status, out, err);
     }
 }

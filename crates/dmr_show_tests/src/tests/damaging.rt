@@ -1,6 +1,5 @@
-//! The command line of `damage`, over a system of a few files.
-use super::carrying::{Few, expect_printed};
-use super::command_line::is_refused;
+//! The command line of `damage`.
+use super::stand_in::{AT_A_TERMINAL, PLAIN, expect_printed, is_refused};
 use dmr_damage::Damage;
 use dmr_tools::{Request, request_of};
 use std::test::Fail;
@@ -91,10 +90,10 @@ fn what_is_printed_of_damage(rt: HostRuntime) {
         ("down", "out", 1, "", "error: down: not an uplink\n"),
     ] {
         let words = ["dmrgate", "damage", input, output];
-        expect_printed(&rt, &Few { is_terminal: false }, &words, status, out, err);
+        expect_printed(&rt, &PLAIN, &words, status, out, err);
     }
     // A recording isn't sent to a terminal.
     let words = ["dmrgate", "damage", "up", "-"];
     let refused = "error: -: standard output is a terminal\n";
-    expect_printed(&rt, &Few { is_terminal: true }, &words, 1, "", refused);
+    expect_printed(&rt, &AT_A_TERMINAL, &words, 1, "", refused);
 }

@@ -1,5 +1,5 @@
-//! The command line of `log`, over a system of one file.
-use super::command_line::{expect_printed, is_refused};
+//! The command line of `log`.
+use super::stand_in::{PLAIN, expect_printed, is_refused};
 use dmr_log_forms::{LogForm, LogSettings, StartTime};
 use dmr_log_page::PageSettings;
 use dmr_show::Filter;
@@ -97,13 +97,27 @@ fn words_of_log_that_are_refused(rt: HostRuntime) {
 fn what_is_printed_of_a_log(rt: HostRuntime) {
     let empty = "frames 0 seconds 0.00 calls 0 packets 0 controls 0 repeated 0\n";
     let refusal = "error: --start is no time, as 2026-01-31T12:00:00Z\n";
-    expect_printed(&rt, &["dmrgate", "log", "up"], 0, empty, "");
+    expect_printed(&rt, &PLAIN, &["dmrgate", "log", "up"], 0, empty, "");
     let nowhere = ["dmrgate", "log", "nowhere"];
-    expect_printed(&rt, &nowhere, 1, "", "error: nowhere: cannot open\n");
+    expect_printed(
+        &rt,
+        &PLAIN,
+        &nowhere,
+        1,
+        "",
+        "error: nowhere: cannot open\n",
+    );
     let time = ["dmrgate", "log", "up", "--start", "noon"];
-    expect_printed(&rt, &time, 2, "", refusal);
+    expect_printed(&rt, &PLAIN, &time, 2, "", refusal);
     let backwards = ["dmrgate", "log", "up", "--from", "9", "--to", "3"];
-    expect_printed(&rt, &backwards, 2, "", "error: --from is beyond --to\n");
+    expect_printed(
+        &rt,
+        &PLAIN,
+        &backwards,
+        2,
+        "",
+        "error: --from is beyond --to\n",
+    );
 }
 
 /// What these words ask the page of a log for, and the name of its recording.
