@@ -94,12 +94,19 @@ DATAGRAM, STATUS = 0, 2
 # that sets it.
 PAGE, F_GETPIPE_SZ, F_SETPIPE_SZ = os.sysconf("SC_PAGESIZE"), 1032, 1031
 
-# How a program is started that may not make a device, and how one in Python for which each folder is empty. What is told of a modem
-# that breaks off.
+# How a program is started that may not make a device, and how one in Python for which each folder is empty, or of which another thread
+# gets the signals, so that none breaks off what it waits for. What is told of a modem that breaks off.
 WITHOUT_RIGHTS = "unshare", "--user"
 SEES_NO_FILES = """
 import os, runpy, sys
 os.listdir = lambda _: []
+del sys.argv[0]
+runpy.run_path(sys.argv[0], run_name="__main__")
+"""
+SIGNALS_ELSEWHERE = """
+import runpy, signal, sys, threading
+threading.Thread(target=threading.Event().wait, daemon=True).start()
+signal.pthread_sigmask(signal.SIG_BLOCK, {signal.SIGINT, signal.SIGTERM})
 del sys.argv[0]
 runpy.run_path(sys.argv[0], run_name="__main__")
 """
@@ -566,8 +573,12 @@ def check_signals(report):
         live.process.send_signal(signal.SIGHUP)
         live.be_silent(2)
         live.expect_order("a HUP that is ignored", "frames 10 refused 5")
-    for name, is_at_once in (("a second signal", False), ("two signals at once", True)):
-        with Gateway(report, modem="-", streams={"stdin": subprocess.PIPE, "stdout": subprocess.PIPE}) as live:
+    elsewhere = sys.executable, "-c", SIGNALS_ELSEWHERE
+    for name, is_at_once, by in (
+        ("a second signal", False, ()), ("two signals at once", True, ()), ("signals that break nothing off", False, elsewhere),
+    ):
+        with Gateway(report, modem="-", streams={"stdin": subprocess.PIPE, "stdout": subprocess.PIPE}, by=by) as live:
+            live.name = name
             report.expect(f"{name}: what nobody reads is full", fill(live))
             if is_at_once:
                 live.process.send_signal(signal.SIGSTOP)

@@ -37,6 +37,7 @@ packed_word : (xs : List Bool) (k : ℕ) → k < 5 → get_or (words_of 5 xs) k 
 unfolding words_of
 packed_word xs k few = get_or-map-range_with_len (word_at xs) 0 5 k k 0 few (omega arith)
 
+-- lists of bits that are packed alike are the same
 pub packed_alike : (n : ℕ) (xs ys : List Bool) → n ≤ 320 → length xs ≡ n → length ys ≡ n → packed n xs ≡ packed n ys → xs ≡ ys
 unfolding packed
 packed_alike n xs ys most first second same =

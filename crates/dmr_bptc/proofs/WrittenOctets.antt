@@ -28,12 +28,15 @@ bit_in w r c = w / 2 ^ (195 - place r c) % 2 == 1
 abbrev are_even : List ℕ → List Bool → Bool
 are_even columns bits = agree_below (λ j. eqb (ones_over j columns bits % 2) 0) (λ j. true) 4
 
+-- whether each row of a word is one of its code
 abbrev pub are_rows : ℕ → Bool
 are_rows w = agree_below (λ r. are_even hamming15_columns (row_of (bit_in w) 15 r)) (λ r. true) 13
 
+-- whether each column of a word is one of its code
 abbrev pub are_columns : ℕ → Bool
 are_columns w = agree_below (λ c. are_even hamming13_columns (column_of (bit_in w) 13 c)) (λ c. true) 15
 
+-- whether a word has the bits of a message in its information cells
 abbrev pub holds : ℕ → ℕ → Bool
 holds m w = agree_below (λ k. m / 2 ^ (95 - k) % 2 == 1) (λ k. bit_in w ((k + 3) / 11) ((k + 3) % 11)) 96
 
@@ -111,6 +114,7 @@ number_in words = ((get_or words 0 0 * 2 ^ 64 + get_or words 1 0) * 2 ^ 64 + get
 abbrev pub entry : ℕ → ℕ → List ℕ
 entry p n = get_or (get_or WRITTEN p []) n []
 
+-- whether the four parts of 196 bits are within their sizes: three have 64 bits, and the last one has four
 abbrev pub are_small : List ℕ → Bool
 are_small words =
     nat_lt (get_or words 0 0) (2 ^ 64)
@@ -189,6 +193,7 @@ message_is p n h l =
     ∙ ap (λ x. (replicate (8 * p) false ++ bits_of 8 n) ++ x) (zeros_of b)
     ∙ append_assoc (replicate (8 * p) false) (bits_of 8 n) (replicate b false)
 
+-- the bits of the number in four parts are those of each part, one behind the other
 pub spelled_is : (words : List ℕ) → are_small words ≡ true → bits_of 196 (number_in words) ≡ spelled words
 spelled_is words e =
     let a : ℕ = get_or words 0 0 in

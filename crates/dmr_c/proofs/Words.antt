@@ -25,6 +25,7 @@ use Rattle.std.specs.Global.{Global}
 use Rattle.dmr_c.specs.Handle.{handle_owns, heap}
 use Rattle.dmr_c.specs.contracts.handle.StationHandle as handle
 
+-- the value of a struct that holds one pointer
 abbrev pub one : Ptr → Val
 one p = vstruct (vcons (ptr_val p) vnil)
 

@@ -2,7 +2,8 @@
 ghost use Rattle.std.specs.Prelude.{◌≡◌, Bool, List, true, false, drop, take, replicate, Some, None, if◌then◌else◌};
 ghost use Rattle.dmr_bits.specs.Bits.{bits_of_octets};
 ghost use Rattle.dmr_bptc.specs.Decoding.{IsDamaged, IsDecoded};
-ghost use Rattle.dmr_bptc.specs.ProductWord.{IsProductWord, IsWritten, information as information_of};
+ghost use Rattle.dmr_bptc.specs.ProductWord.{IsProductWord, IsWritten};
+ghost use Rattle.dmr_bptc.specs.ProductWord as spec;
 ghost use Rattle.dmr_burst.specs.Layout.{information_field};
 
 use dmr_bits::Bits;
@@ -42,7 +43,7 @@ pub extern "C" fn dmr_bptc_decode(received: &[u8; 25], information: &mut [u8; 12
     ensures decoded { IsDecoded (take 196 (bits_of_octets received.now))
         (if result then Some (bits_of_octets information.new) else None) }
     ensures undone { (word : List Bool) → IsProductWord word → IsDamaged word (take 196 (bits_of_octets received.now))
-        → (result ≡ true) × (bits_of_octets information.new ≡ information_of word) }
+        → (result ≡ true) × (bits_of_octets information.new ≡ spec.information word) }
     ensures unwritten { result ≡ false → information.new ≡ information.old }
 {
     match bptc_decode(&first_bits(received)) {

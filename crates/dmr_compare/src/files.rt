@@ -6,7 +6,7 @@ ghost use Rattle.dmr_compare.specs.Files.{AreToldApart, BothContents, IsList};
 ghost use Rattle.dmr_compare.specs.ListComparing.{AreListsCompared, AreListsComparedUpTo};
 ghost use Rattle.dmr_compare.specs.ListRecords.{ListRecord};
 ghost use Rattle.dmr_compare.specs.Status.{different, same, trouble};
-ghost use Rattle.dmr_compare.specs.declared.trouble.Trouble.{Trouble as Reason};
+ghost use Rattle.dmr_compare.specs.declared.trouble.Trouble as declared;
 ghost use Rattle.dmr_lines.specs.Line.{PutsError};
 
 use crate::comparing::compare_recordings;
@@ -139,7 +139,7 @@ pub fn compare<S: Source, T: Source, K: Sink, E: Sink>(
         (S.left first.old) (S.left first.new) (T.left second.old) (T.left second.new) (K.held out.old) (K.held out.new) }
     ensures success { result ≤ 1 → err.new ≡ err.old }
     // Or they were compared in part, for a reason that says which device failed.
-    ensures part { result ≡ trouble → (reason : Reason) × AreComparedInPart settings.now reason
+    ensures part { result ≡ trouble → (reason : declared.Trouble) × AreComparedInPart settings.now reason
         (S.left first.old) (S.left first.new) (T.left second.old) (T.left second.new) (K.held out.old) (K.held out.new)
         × DevicesFailAt reason (S.has_failed first.new) (T.has_failed second.new) (K.has_failed out.new) }
     // It is told, unless what differs can't be printed.

@@ -76,7 +76,7 @@ impl Damager {
     ghost use Rattle.std.specs.Prelude.{◌≡◌, ◌++◌, ◌∷◌, [], List, length, slice_index_or, IfNone, IfSome};
     ghost use Rattle.dmr_record.specs.Uplink.{IsFrame, UplinkSlots};
     ghost use Rattle.dmr_damage.specs.Frames.{WasGiven, rest_of};
-    ghost use Rattle.dmr_damage.specs.declared.settings.Damage.{Damage as DamageRecord};
+    ghost use Rattle.dmr_damage.specs.declared.settings.Damage as declared;
 
     /// By these settings, before the first frame.
     pub(crate) fn new(settings: &DamageSettings) -> Damager
@@ -100,9 +100,9 @@ impl Damager {
 
     /// Takes a frame, and answers the frame that is decided then, where one is.
     pub(crate) fn take(&mut self, frame: &Frame) -> Option<DamagedFrame>
-        ensures waits { IfNone result ((damage : DamageRecord) (frames outs : List UplinkSlots)
+        ensures waits { IfNone result ((damage : declared.Damage) (frames outs : List UplinkSlots)
             → WasGiven damage self.old frames outs → WasGiven damage self.new (frames ++ frame.now ∷ []) outs) }
-        ensures decided { IfSome result (λ pair. (damage : DamageRecord) (frames outs : List UplinkSlots)
+        ensures decided { IfSome result (λ pair. (damage : declared.Damage) (frames outs : List UplinkSlots)
             → WasGiven damage self.old frames outs
             → WasGiven damage self.new (frames ++ frame.now ∷ []) (outs ++ pair.is ∷ [])
             × (pair.was ≡ slice_index_or (frames ++ frame.now ∷ []) (length outs) [])) }

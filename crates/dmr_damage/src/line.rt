@@ -2,7 +2,7 @@
 ghost use Rattle.std.specs.Prelude.{◌≡◌, ◌++◌, ◌∷◌, [], ℕ, List, Option, Some, None, drop, length, slice_index_or};
 ghost use Rattle.dmr_hearing.specs.Fit.{IsFitHeard};
 ghost use Rattle.dmr_hearing.specs.Hearing.{Hears};
-ghost use Rattle.dmr_hearing.specs.declared.heard.Heard.{Heard as HeardRecord};
+ghost use Rattle.dmr_hearing.specs.declared.heard.Heard as declared;
 ghost use Rattle.dmr_damage.specs.Bursts.{IsDamagedSlot};
 ghost use Rattle.dmr_damage.specs.Fitting.{IsFitCarried};
 ghost use Rattle.dmr_damage.specs.LimitedSlots.{AreFieldsBehind, AreFieldsBehindA};
@@ -73,7 +73,7 @@ fn heard_in(slot: &Option<[u8; 33]>, colour: u8) -> Heard
 
 /// What the first of six places is heard as.
 fn first_heard(window: &[Heard; PLACES]) -> Heard
-    ensures first { (other : HeardRecord) → slice_index_or window.now 0 other ≡ result }
+    ensures first { (other : declared.Heard) → slice_index_or window.now 0 other ≡ result }
 {
     window[0]
 }

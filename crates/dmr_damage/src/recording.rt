@@ -12,7 +12,7 @@ ghost use Rattle.dmr_damage.specs.Passing.{ArePassed, IfPassFault, IsBehindHead,
 ghost use Rattle.dmr_damage.specs.Passing.{IsReached, IsTornBehind, IsWholeBehind, silence_in_both};
 ghost use Rattle.dmr_damage.specs.Recordings.{IfOther, IfRecording, IfRecordingUnwritten, IsDamagedWhole, IsFaultOfRecording};
 ghost use Rattle.dmr_damage.specs.Recordings.{IsOfOtherFormat, IsTorn};
-ghost use Rattle.dmr_damage.specs.declared.settings.Damage.{Damage as DamageRecord};
+ghost use Rattle.dmr_damage.specs.declared.settings.Damage as declared;
 
 use crate::counts::Damaged;
 use crate::frames::{Damager, Frame, SILENCE};
@@ -60,11 +60,11 @@ fn pass<K: Sink>(
     requires few { IsFew (2 * counts.old.frames) counts.old }
     requires frames { counts.old.frames < 2000000 }
     requires frame { IsFrame frame.now }
-    ensures passed { OnOk result ((damage : DamageRecord) (frames outs : List UplinkSlots) (held : Option (List ℕ))
+    ensures passed { OnOk result ((damage : declared.Damage) (frames outs : List UplinkSlots) (held : Option (List ℕ))
         → ArePassed damage damager.old counts.old frames outs held (K.held sink.old)
         → (more : List UplinkSlots)
         × ArePassed damage damager.new counts.new (frames ++ frame.now ∷ []) more held (K.held sink.new)) }
-    ensures torn { OnErr result ((damage : DamageRecord) (frames outs : List UplinkSlots) (held : Option (List ℕ))
+    ensures torn { OnErr result ((damage : declared.Damage) (frames outs : List UplinkSlots) (held : Option (List ℕ))
         → ArePassed damage damager.old counts.old frames outs held (K.held sink.old)
         → IsPassedTorn damage damager.new (frames ++ frame.now ∷ []) held (K.held sink.new)) }
     ensures few { OnOk result (IsFew (2 * counts.new.frames) counts.new) }
@@ -104,7 +104,7 @@ fn pass_all<S: Source, K: Sink>(
     requires source { S.has_failed source.old ≡ false }
     requires sink { K.has_failed sink.old ≡ false }
     requires counts { counts.old ≡ none_damaged_yet }
-    ensures all { IfOk result (λ reached. (damage : DamageRecord) (held : Option (List ℕ))
+    ensures all { IfOk result (λ reached. (damage : declared.Damage) (held : Option (List ℕ))
         → ArePassed damage damager.old counts.old [] [] held (K.held sink.old)
         → (frames outs : List UplinkSlots) × AllByRecursion IsFrame frames
         × ArePassed damage damager.new counts.new frames outs held (K.held sink.new)
@@ -112,7 +112,7 @@ fn pass_all<S: Source, K: Sink>(
     ensures cut { IfOk result (λ reached. IfPassFault reached (λ fault. is_of_end fault.fault ≡ true
         → IsAtEnd (S.left source.new))) }
     ensures source { IfOk result (λ reached. IfPassFault reached (λ fault. S.has_failed source.new ≡ is_device_fault fault.fault)) }
-    ensures torn { OnErr result ((damage : DamageRecord) (held : Option (List ℕ))
+    ensures torn { OnErr result ((damage : declared.Damage) (held : Option (List ℕ))
         → ArePassed damage damager.old counts.old [] [] held (K.held sink.old)
         → IsFrontTorn damage damager.new held (K.held sink.new) (S.left source.old) (S.left source.new)) }
     ensures few { OnOk result (IsFew (2 * counts.new.frames) counts.new) }
@@ -146,11 +146,11 @@ fn pass_rest<K: Sink>(
     requires well { K.has_failed sink.old ≡ false }
     requires few { IsFew (2 * counts.old.frames) counts.old }
     requires frames { counts.old.frames ≤ 1048576 }
-    ensures passed { OnOk result ((damage : DamageRecord) (frames outs : List UplinkSlots) (held : Option (List ℕ))
+    ensures passed { OnOk result ((damage : declared.Damage) (frames outs : List UplinkSlots) (held : Option (List ℕ))
         → ArePassed damage damager.old counts.old frames outs held (K.held sink.old)
         → (more : List UplinkSlots) × ArePassed damage damager.new counts.new
         (frames ++ replicate (rest_of damager.new) silence_in_both) more held (K.held sink.new)) }
-    ensures torn { OnErr result ((damage : DamageRecord) (frames outs : List UplinkSlots) (held : Option (List ℕ))
+    ensures torn { OnErr result ((damage : declared.Damage) (frames outs : List UplinkSlots) (held : Option (List ℕ))
         → ArePassed damage damager.old counts.old frames outs held (K.held sink.old)
         → (silent : ℕ) × (silent ≤ rest_of damager.new)
         × IsPassedTorn damage damager.new (frames ++ replicate silent silence_in_both) held (K.held sink.new)) }

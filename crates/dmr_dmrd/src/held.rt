@@ -62,7 +62,8 @@ fn put_burst(
 
 impl SlotHeld {
     ghost use Rattle.dmr_dmrd.specs.Lines.{IsSlotHeld, no_slot, slot_behind};
-    ghost use Rattle.dmr_dmrd.specs.Placing.{asked_behind as asked_by, frame_asked};
+    ghost use Rattle.dmr_dmrd.specs.Placing.{frame_asked};
+    ghost use Rattle.dmr_dmrd.specs.Placing as spec;
     ghost use Rattle.dmr_dmrd.specs.Refusals.{IfPastLimit};
 
     /// In front of a recording.
@@ -100,11 +101,11 @@ impl SlotHeld {
         requires held { IsSlotHeld self.old }
         requires late { self.old.places.late < 2 ^ 63 }
         ensures taken { OnOk result (self.new ≡ slot_behind self.old packet.now time burst
-            (asked_by self.old.places.last start packet.now time)) }
+            (spec.asked_behind self.old.places.last start packet.now time)) }
         ensures held { OnOk result (IsSlotHeld self.new) }
         ensures late { OnOk result (self.new.places.late ≤ self.old.places.late + 1) }
         ensures past { IfErr result (λ e. IfPastLimit e ((frame : ℕ) × (1048576 ≤ frame)
-            × (frame_asked (asked_by self.old.places.last start packet.now time) ≡ Some frame))) }
+            × (frame_asked (spec.asked_behind self.old.places.last start packet.now time) ≡ Some frame))) }
     {
         let asked = asked_behind(&self.places.last, start, packet, time);
         let Some(frame) = asked.frame() else {

@@ -25,6 +25,7 @@ one_each before after names names' place (Some burst) lc packet (one, is, sent) 
     ap (λ (p : Option BurstPacket). map burst_of (option_to_list p)) is
     ∙ ap (λ (p : BurstPacket). p.burst ∷ []) sent.value
 
+-- the packets of both streams carry the bursts of all slots that aren't silent, in their order
 pub each_packet : (turn end : BothStreams) (bursts behind : List (Option RepeatedBurst)) (packets : List BurstPacket)
     → AreStreamed turn bursts behind packets end
     → map burst_of packets ≡ map octets_of (flat_map option_to_list bursts)

@@ -41,6 +41,7 @@ repeated_more turn mid end (s ∷ slots) [] slot burst before next = absurd befo
 repeated_more turn mid end (s ∷ slots) (b ∷ bursts) slot burst (step, first, rest) next =
     (step, first, repeated_more step mid end slots bursts slot burst rest next)
 
+-- no slot was read yet
 pub read_none : (left : Option (List ℕ)) → AreBurstsRead [] [] [] begun left left
 read_none left = record { each = tt; octets = Consumes-nil left; repeated = (refl, refl) }
 

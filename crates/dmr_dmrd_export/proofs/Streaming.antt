@@ -64,6 +64,7 @@ streamed_more (burst ∷ decided) oldest newest rest packets one turn mid end se
 
 -- 3. What is decided goes on.
 
+-- nothing is decided before anything came
 pub none_decided : AreDecided [] [] nothing_exported
 none_decided = record { decided = []; split = refl; few = omega arith; full = inl refl; streamed = (refl, refl) }
 
@@ -116,6 +117,7 @@ decides_more before after oldest newest rest one front seven waits streamed = re
       };
 }
 
+-- where nothing came, nothing more is decided
 pub more_none : (state : ExportState) → AreMoreDecided state [] [] state
 more_none state = record {
   go_on = λ came packets d.
@@ -123,6 +125,7 @@ more_none state = record {
       (subst (λ (l : List BurstPacket). AreDecided came l state) (sym (append-nil packets)) d);
 }
 
+-- what is decided in two steps, one behind the other
 pub more_then : (a b c : ExportState) (xs ys : List (Option RepeatedBurst)) (ps qs : List BurstPacket)
     → AreMoreDecided a xs ps b → AreMoreDecided b ys qs c → AreMoreDecided a (xs ++ ys) (ps ++ qs) c
 more_then a b c xs ys ps qs first second = record {
@@ -144,6 +147,7 @@ decided_long bursts decided waiting split few (inr eight) =
     let all = ap length split in
     omega (arith, all, eight, length-append bursts (replicate 8 None), length-append decided waiting)
 
+-- where eight slots of silence came behind some bursts, all of these are decided
 pub all_decided : (bursts : List (Option RepeatedBurst)) (packets : List BurstPacket) (state : ExportState)
     → AreDecided (bursts ++ replicate 8 None) packets state
     → AreStreamed no_streams bursts (replicate 8 None) packets state.streams

@@ -24,10 +24,12 @@ records_then settings ps qs =
     ap (flat_map packet_record) (map-append (dmrd_packet settings) ps qs)
     ∙ flat_map-append packet_record (map (dmrd_packet settings) ps) (map (dmrd_packet settings) qs)
 
+-- where nothing came, nothing more is written
 pub written_none : (settings : ExportSettings) (state : ExportState) (held : Option (List ℕ))
     → AreMoreWritten settings state [] [] state held held
 written_none settings state held = record { decided = more_none state; fit = tt; written = Appends-nil held }
 
+-- what is written in two steps, one behind the other
 pub written_then : (settings : ExportSettings) (a b c : ExportState) (xs ys : List (Option RepeatedBurst))
     (ps qs : List BurstPacket) (d e f : Option (List ℕ))
     → AreMoreWritten settings a xs ps b d e → AreMoreWritten settings b ys qs c e f
@@ -39,6 +41,7 @@ written_then settings a b c xs ys ps qs d e f first second = record {
   written = subst (Appends d f) (sym (records_then settings ps qs)) (Appends-trans d e f _ _ first.written second.written);
 }
 
+-- what is written in two steps, of which the second one breaks off
 pub torn_then : (settings : ExportSettings) (a b : ExportState) (xs ys : List (Option RepeatedBurst)) (ps : List BurstPacket)
     (d e f : Option (List ℕ)) → AreMoreWritten settings a xs ps b d e → AreMoreTorn settings b ys e f
     → AreMoreTorn settings a (xs ++ ys) d f

@@ -2,7 +2,7 @@
 ghost use Rattle.std.specs.Prelude.{◌≡◌, ◌+◌, ◌<◌, ◌≤◌, ◌∷◌, [], List, length, option_to_list, replicate, None};
 ghost use Rattle.std.specs.Prelude.{true, false, IfOk, OnOk, OnErr, IfSome};
 ghost use Rattle.dmr_dmrd_export.specs.Deciding as spec;
-ghost use Rattle.dmr_dmrd_export.specs.declared.packet.BurstPacket.{BurstPacket as Packet};
+ghost use Rattle.dmr_dmrd_export.specs.declared.packet.BurstPacket as declared;
 
 use crate::burst::{RepeatedBurst, carried_with};
 use crate::datagram::write_burst;
@@ -58,7 +58,7 @@ impl ExportState {
         requires well { K.has_failed sink.old ≡ false }
         requires room { self.old.streams.slots + length self.old.waiting < 2097172 }
         requires names { self.old.streams.names ≤ self.old.streams.slots }
-        ensures written { IfOk result (λ count. (more : List Packet) × (count ≡ length more)
+        ensures written { IfOk result (λ count. (more : List declared.BurstPacket) × (count ≡ length more)
             × spec.AreMoreWritten settings.now self.old (newest ∷ []) more self.new (K.held sink.old) (K.held sink.new)) }
         ensures few { IfOk result (λ count. count ≤ 1) }
         ensures room { self.new.streams.slots + length self.new.waiting ≡ self.old.streams.slots + length self.old.waiting + 1 }
@@ -85,7 +85,7 @@ impl ExportState {
         requires well { K.has_failed sink.old ≡ false }
         requires room { self.old.streams.slots + length self.old.waiting ≤ 2097164 }
         requires names { self.old.streams.names ≤ self.old.streams.slots }
-        ensures written { IfOk result (λ count. (more : List Packet) × (count ≡ length more)
+        ensures written { IfOk result (λ count. (more : List declared.BurstPacket) × (count ≡ length more)
             × spec.AreMoreWritten settings.now self.old (replicate 8 None) more self.new (K.held sink.old) (K.held sink.new)) }
         ensures few { IfOk result (λ count. count ≤ 8) }
         ensures well { OnOk result (K.has_failed sink.new ≡ false) }

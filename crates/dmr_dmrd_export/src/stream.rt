@@ -2,8 +2,8 @@
 ghost use Rattle.std.specs.Prelude.{◌≡◌, ◌+◌, ◌-◌, ◌<◌, ◌≤◌, ◌^◌, true, Some};
 ghost use Rattle.dmr_log.specs.Transmissions.{IsStep, is_burst};
 ghost use Rattle.dmr_log.specs.Checks.{none_checked};
-ghost use Rattle.dmr_log.specs.declared.transmission.Ended.{Ended as End};
-ghost use Rattle.std.specs.Prelude.{Option as Maybe};
+ghost use Rattle.dmr_log.specs.declared.transmission.Ended as declared;
+ghost use Rattle.std.specs.Prelude as prelude;
 ghost use Rattle.dmr_dmrd_export.specs.Streams as spec;
 
 use crate::addresses::Addresses;
@@ -42,7 +42,7 @@ fn headers_of(current: &Option<Transmission>) -> Option<FullLc>
 /// Goes on to the transmission behind a frame that repeats a burst, which is of it.
 fn go_on_with(current: &mut Option<Transmission>, frame: u32, told: &Repeated) -> Transmission
     requires burst { is_burst told.now ≡ true }
-    ensures step { (ended : Maybe End) × IsStep current.old frame told.now none_checked ended current.new }
+    ensures step { (ended : prelude.Option declared.Ended) × IsStep current.old frame told.now none_checked ended current.new }
     ensures current { current.new ≡ Some result }
 {
     let _ended = go_on(current, frame, told, Checks::default());

@@ -1,7 +1,7 @@
 //! Slots on which isn't decided yet.
 ghost use Rattle.std.specs.Prelude.{◌≡◌, ◌<◌, ◌≤◌, ◌∷◌, ◌++◌, [], List, length, IfSome, IfNone};
-ghost use Rattle.std.specs.Prelude.{Option as Maybe};
-ghost use Rattle.dmr_dmrd_export.specs.declared.burst.RepeatedBurst.{RepeatedBurst as Burst};
+ghost use Rattle.std.specs.Prelude as prelude;
+ghost use Rattle.dmr_dmrd_export.specs.declared.burst.RepeatedBurst as declared;
 
 use crate::burst::RepeatedBurst;
 use arrayvec::ArrayVec;
@@ -35,7 +35,7 @@ impl WaitingSlots {
 
     /// The next slot came. Where eight wait, it is the turn of the oldest.
     pub(crate) fn push(&mut self, newest: Option<RepeatedBurst>) -> Option<Option<RepeatedBurst>>
-        ensures due { IfSome result (λ oldest. (rest : List (Maybe Burst)) × (self.old ≡ oldest ∷ rest) × (length rest ≡ 7)
+        ensures due { IfSome result (λ oldest. (rest : List (prelude.Option declared.RepeatedBurst)) × (self.old ≡ oldest ∷ rest) × (length rest ≡ 7)
             × (self.new ≡ rest ++ newest ∷ [])) }
         ensures none { IfNone result ((length self.old < 8) × (self.new ≡ self.old ++ newest ∷ [])) }
         ensures few { length self.new ≤ 8 }

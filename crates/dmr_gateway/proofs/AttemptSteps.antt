@@ -31,6 +31,7 @@ abbrev pub begun_answer : Option Owing → Option Attempt
 begun_answer None = None
 begun_answer (Some o) = option_map (answer_of o.due) o.begun
 
+-- the answer or the try that has begun, by the stage of the packet in hand
 abbrev pub begun_at : Stage → Hand → Option Owing → Option Attempt
 begun_at Ready h owing = begun_answer owing
 begun_at (Begun first) h owing = Some (try_of h first)

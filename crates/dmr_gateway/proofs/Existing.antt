@@ -317,6 +317,7 @@ abbrev pub HasSmallBlock : SlotBurst → Type 0
 HasSmallBlock (burst.Answer due number) = Unit {0}
 HasSmallBlock (burst.Try sending) = HoldsOfBurst (λ block. AreSmall block.octets) sending
 
+-- What a slot sends fits its fields, and its octets are octets.
 pub record IsWholeSending (sending : SlotBurst) : Type 0 where
   pub fit : IsFitBurst sending
   pub small : HasSmallBlock sending

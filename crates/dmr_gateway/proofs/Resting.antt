@@ -70,6 +70,7 @@ first_asked g rests = record {
   state = ap (λ (s : SideState). with_side 1 s g) (sym rests.first.stays);
 }
 
+-- slot 2 of a gateway at rest is asked, sends nothing, and stays as it is
 pub second_asked : (g : Gate) → GateRests g → IsAskedFor 2 None true g None g
 second_asked g rests = record {
   heard = g;

@@ -35,6 +35,7 @@ IsWholeData None = Unit {0}
 IsWholeData (Some data_burst) =
     (data_burst.kind < 16) × (length data_burst.information ≡ 196) × IsWholeLc data_burst.link_control
 
+-- All that was heard is whole: the data burst, the vocoder's bits and the embedded field.
 pub record IsWholeHeard (heard : Heard) : Type 0 where
   pub data_burst : IsWholeData heard.data_burst
   pub vocoder : length heard.vocoder ≡ 216

@@ -5,7 +5,7 @@ ghost use Rattle.std.specs.Io.KnownBytes.{Consumes, IsAtEnd};
 ghost use Rattle.dmr_log.specs.LogRules as spec;
 ghost use Rattle.dmr_log.specs.RecordingLogs.{AreFramesTaken, IsFaultOfSlot, IsLoggedUpToFault, IsRefusedIn};
 ghost use Rattle.dmr_log.specs.RecordingLogs.{IsRefusedInRest, IsRestTold, RecordedFrames, silent_frames};
-ghost use Rattle.dmr_log.specs.declared.log.LogState.{LogState as State};
+ghost use Rattle.dmr_log.specs.declared.log.LogState as declared;
 ghost use Rattle.dmr_record.specs.Devices.{failed_after};
 ghost use Rattle.dmr_record.specs.Faults.{is_device_fault};
 ghost use Rattle.dmr_record.specs.NextSlot.{IfNoSlot, IfSlot};
@@ -160,13 +160,13 @@ pub fn log_recording<S: Source, L: Taker<FrameTold>>(
     requires lines { L.has_failed lines.old ≡ false }
     requires begin { log.old.taken ≡ 0 }
     // All frames were read to the end, and told of.
-    ensures all { IfOk result (λ summary. (frames : RecordedFrames) × (read : State) × (between : L)
+    ensures all { IfOk result (λ summary. (frames : RecordedFrames) × (read : declared.LogState) × (between : L)
         × AreFramesTaken L.Takes log.old frames [] [] read (S.left source.old) (S.left source.new) lines.old between
         × IsRestTold L.Takes read log.new between lines.new
         × (summary.frames ≡ length frames) × (summary.counts ≡ log.new.counts)) }
     ensures end { OnOk result (IsAtEnd (S.left source.new)) }
     // Or those before the slot that shows the fault.
-    ensures fault { IfErr result (λ e. IfFile e (λ fault. (read : State) × (between : L)
+    ensures fault { IfErr result (λ e. IfFile e (λ fault. (read : declared.LogState) × (between : L)
         × IsLoggedUpToFault L.Takes fault log.old read (S.left source.old) (S.left source.new) lines.old between
         × IsRestTold L.Takes read log.new between lines.new)) }
     // Or what was told in front of what was refused.

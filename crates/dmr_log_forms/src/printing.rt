@@ -6,7 +6,7 @@ ghost use Rattle.dmr_lines.specs.Status.{failure, success};
 ghost use Rattle.dmr_log_forms.specs.Faults.{has_sink_failed};
 ghost use Rattle.dmr_log_forms.specs.Part as part;
 ghost use Rattle.dmr_log_forms.specs.Whole as spec;
-ghost use Rattle.dmr_log_forms.specs.declared.fault.LogFault.{LogFault as Fault};
+ghost use Rattle.dmr_log_forms.specs.declared.fault.LogFault as declared;
 ghost use Rattle.dmr_record.specs.Head.{head_octets, magic_of};
 ghost use Rattle.dmr_record.specs.declared.head.FileFormat.TheVariants as format;
 ghost use Rattle.dmr_show.specs.Showing.{IsUntouched, TellsFault};
@@ -278,7 +278,7 @@ pub fn print_log<S: Source, K: Sink, E: Sink>(
     ensures fault { result ≡ failure → K.has_failed out.new ≡ false
         → TellsFault result (K.has_failed out.new) (E.has_failed err.new) (E.held err.old) (E.held err.new) }
     // Then this fault is told, the log is printed up to it, and the source has failed where that is the fault.
-    ensures up_to { result ≡ failure → K.has_failed out.new ≡ false → (fault : Fault)
+    ensures up_to { result ≡ failure → K.has_failed out.new ≡ false → (fault : declared.LogFault)
         × part.IsLogPutUpTo fault settings.now (S.left source.old) (S.left source.new) (K.held out.old) (K.held out.new)
         × part.HasReadFailed fault (S.has_failed source.new)
         × (E.has_failed err.new ≡ false → part.TellsLogFault fault (E.held err.old) (E.held err.new)) }

@@ -5,7 +5,7 @@ ghost use Rattle.dmr_lines.specs.Status.{failure, success};
 ghost use Rattle.dmr_log_forms.specs.Faults.{has_sink_failed};
 ghost use Rattle.dmr_log_forms.specs.Part as forms;
 ghost use Rattle.dmr_log_forms.specs.Whole.{log_of};
-ghost use Rattle.dmr_log_forms.specs.declared.fault.LogFault.{LogFault as Fault};
+ghost use Rattle.dmr_log_forms.specs.declared.fault.LogFault as declared;
 ghost use Rattle.dmr_log_page.specs.Minutes.{entries_of};
 ghost use Rattle.dmr_log_page.specs.Pages as spec;
 ghost use Rattle.dmr_log_page.specs.Part as part;
@@ -150,7 +150,7 @@ pub fn print_page<S: Source, K: Sink, E: Sink>(
     ensures fault { result ≡ failure → K.has_failed out.new ≡ false
         → TellsFault result (K.has_failed out.new) (E.has_failed err.new) (E.held err.old) (E.held err.new) }
     // Then this fault is told, the page is printed up to it, and the source has failed where that is the fault.
-    ensures up_to { result ≡ failure → K.has_failed out.new ≡ false → (fault : Fault)
+    ensures up_to { result ≡ failure → K.has_failed out.new ≡ false → (fault : declared.LogFault)
         × part.IsPagePutUpTo fault settings.now (S.left source.old) (S.left source.new) (K.held out.old) (K.held out.new)
         × forms.HasReadFailed fault (S.has_failed source.new)
         × (E.has_failed err.new ≡ false → forms.TellsLogFault fault (E.held err.old) (E.held err.new)) }

@@ -25,6 +25,7 @@ use Rattle.dmr_repeater.specs.Schedule.{AreOfferedInTurn}
 
 -- 1. Lists that go together, taken apart.
 
+-- A list has a front that goes with one list, and a rest that goes with another.
 pub record Apart {X Y : Type 0} (R : X → Y → Type 0) (xs ys : List X) (zs : List Y) : Type 0 where
   pub front : List Y
   pub rest : List Y
@@ -201,6 +202,7 @@ in_turn f (given ∷ more) p q a b u waits rest pairs end order =
 
 -- 4. What was read in all.
 
+-- What was read for frame after frame is due up to a last frame, and is what was offered.
 pub record ReadInTurn (f bound : ℕ) (offers : List (List Outgoing)) (p q : ReadingProgress) (a b : KnownOctets)
     (u : AreOfferedInTurn f offers p q a b) : Type 0 where
   pub due : GivesDue bound p q a b

@@ -82,6 +82,7 @@ reads_silence n a b read = record {
   read = subst (Consumes a b) (sym (append-nil (frames_octets (replicate n silent_frame)) ∙ uplink_silence n)) read;
 }
 
+-- a station that exchanged frames of silence sends silence
 pub sends_silence : (n : ℕ) (before after : State) (p : ReadingProgress) (a b held_old held_new : KnownOctets)
     → n ≤ 32 → IsPast (before.frames + 32) p
     → AreExchanged before (replicate n []) (replicate n silent_frame) (replicate n (None ∷ None ∷ [])) (replicate n []) after

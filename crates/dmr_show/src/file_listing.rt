@@ -6,7 +6,7 @@ ghost use Rattle.dmr_recording.specs.Endings.{IfFile};
 ghost use Rattle.dmr_show.specs.Forms.{notation_of};
 ghost use Rattle.dmr_show.specs.Held.{held_by};
 ghost use Rattle.dmr_show.specs.Showing.{HaveFailed, IsRestShown, IsRestShownUpToFault, IsShown, format_of, has_strip};
-ghost use Rattle.dmr_show.specs.declared.file_summary.FileSummary.{FileSummary as Summary};
+ghost use Rattle.dmr_show.specs.declared.file_summary.FileSummary as declared;
 ghost use Rattle.dmr_show.specs.declared.file_summary.FileSummary.TheVariants.{OfRecording};
 
 use crate::file_summary::FileSummary;
@@ -91,7 +91,7 @@ fn list_rest<S: Source, K: Sink>(
     requires source { S.has_failed source.old ≡ false }
     requires lines { K.has_failed lines.old.sink.now ≡ false }
     requires room { 65535 ≤ length room.old }
-    ensures whole { OnOk result ((summary : Summary) × IsRestShown Form.Listing lines.old.filter format summary 1 1
+    ensures whole { OnOk result ((summary : declared.FileSummary) × IsRestShown Form.Listing lines.old.filter format summary 1 1
         (S.left source.old) (S.left source.new)
         (held_by (K.held lines.old.sink.now) lines.old.waiting) (held_by (K.held lines.new.sink.now) lines.new.waiting)) }
     ensures shown { IfOk result (λ shown. shown ≡ Shown.Whole) }
@@ -146,7 +146,7 @@ fn strip_rest<S: Source, K: Sink>(
     requires source { S.has_failed source.old ≡ false }
     requires lines { K.has_failed lines.old.sink.now ≡ false }
     ensures whole { IfOk result (λ shown. shown ≡ Shown.Whole
-        → (summary : Summary) × IsRestShown Form.Strip lines.old.filter format summary 0 0
+        → (summary : declared.FileSummary) × IsRestShown Form.Strip lines.old.filter format summary 0 0
         (S.left source.old) (S.left source.new)
         (held_by (K.held lines.old.sink.now) lines.old.waiting) (held_by (K.held lines.new.sink.now) lines.new.waiting)) }
     ensures shown { IfOk result (λ shown. shown ≡ Shown.Whole → has_strip format ≡ true) }

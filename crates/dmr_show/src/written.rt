@@ -1,5 +1,5 @@
 //! What is printed as a line, and in which notation.
-ghost use Rattle.dmr_show.specs.declared.form.Notation.{Notation as InNotation};
+ghost use Rattle.dmr_show.specs.declared.form.Notation as declared;
 ghost use Rattle.dmr_show.specs.declared.form.Notation.TheVariants.{Text, Json};
 
 use crate::file_summary::FileSummary;
@@ -10,7 +10,7 @@ use std::fmt::Display;
 /// Prints as a line.
 pub(crate) trait Written: Display {
     /// What the line is written in.
-    ghost notation: { Self → InNotation };
+    ghost notation: { Self → declared.Notation };
 }
 
 impl Written for BurstLine {

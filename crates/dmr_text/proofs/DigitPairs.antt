@@ -19,6 +19,7 @@ use Rattle.dmr_text.specs.declared.digit_pairs.TheConstants.{VALUES}
 abbrev is_in_table : ℕ → Bool
 is_in_table octet = slice_index_or VALUES octet 0 == digit_value octet
 
+-- the table has the value of each octet as a digit
 pub in_table : (octet : ℕ) → octet < 256 → slice_index_or VALUES octet 0 ≡ digit_value octet
 in_table octet h =
     eqb-true (slice_index_or VALUES octet 0) (digit_value octet) (agree_below_at is_in_table (λ _. true) 256 octet refl h)
@@ -95,6 +96,7 @@ abbrev pub IsShown : List ℕ → (count greatest : ℕ) → Type 0
 IsShown word count greatest =
     (greatest ≡ 0) ⊎ ((k : ℕ) × (k < count) × (digit_value (slice_index_or word k 0) ≡ greatest))
 
+-- pairs of digits, of which none is too great, say these octets
 pub said : (word octets : List ℕ) (n greatest : ℕ) → length word ≡ 2 * n → length octets ≡ n → AreWithin word (2 * n) greatest
     → greatest < 16 → ArePaired word octets n → decode_sized word n ≡ Ok octets
 said word octets n greatest long many within digits pairs =
@@ -133,6 +135,7 @@ one_of_both a b =
       | inr over ↦ inl (max-eq_left over)
     ]
 
+-- the octets that are read, with one pair more
 pub more_pairs : (word octets : List ℕ) (place upper lower : ℕ) → place < length octets
     → upper ≡ digit_value (slice_index_or word (2 * place) 0) → lower ≡ digit_value (slice_index_or word (2 * place + 1) 0)
     → ArePaired word octets place → ArePaired word (slice_set octets place ((upper * 16 % 256 + lower) % 256)) (place + 1)
@@ -144,6 +147,7 @@ more_pairs word octets place upper lower inside first second before k h =
           get_or-set_at octets place k _ 0 here inside ∙ rw (here, first, second) refl
     ]
 
+-- what no digit is above, with one pair more
 pub more_within : (word : List ℕ) (place greatest upper lower : ℕ)
     → upper ≡ digit_value (slice_index_or word (2 * place) 0) → lower ≡ digit_value (slice_index_or word (2 * place + 1) 0)
     → AreWithin word (2 * place) greatest → AreWithin word (2 * (place + 1)) (max (max greatest upper) lower)
@@ -165,6 +169,7 @@ more_within word place greatest upper lower first second before k h =
       ]
     ]
 
+-- which digit has the greatest value, with one pair more
 pub more_shown : (word : List ℕ) (place greatest upper lower : ℕ)
     → upper ≡ digit_value (slice_index_or word (2 * place) 0) → lower ≡ digit_value (slice_index_or word (2 * place + 1) 0)
     → IsShown word (2 * place) greatest → IsShown word (2 * (place + 1)) (max (max greatest upper) lower)
