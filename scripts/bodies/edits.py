@@ -73,7 +73,7 @@ def files_of(crate):
     return sorted((file for folder in FOLDERS for file in (crate / folder).glob("*.edit")), key=lambda it: it.name)
 
 
-def edits_of(crate):
-    """The edits of a crate, which is given by its folder."""
+def edits_of(crate, files=None):
+    """The edits of a crate, which is given by its folder: those in these files, or all."""
     types = types_of(crate)
-    return [Edit(crate, file, types) for file in files_of(crate)]
+    return [Edit(crate, file, types) for file in files or files_of(crate)]

@@ -44,10 +44,10 @@ class Tried:
 
 
 class Trial:
-    """The trial of a crate's edits, over the libraries below."""
+    """The trial of edits of a crate, over the libraries below: of these files, or of all that it has."""
 
-    def __init__(self, kit, crate, below):
-        self.kit, self.crate, self.below = kit, crate, below
+    def __init__(self, kit, crate, below, files=None):
+        self.kit, self.crate, self.below, self.files = kit, crate, below, files
         self.checks, self.verdicts = 0, {}
 
     def check(self, kept, edits, functions=()):
@@ -101,7 +101,7 @@ class Trial:
 
     def run(self, is_each):
         begun = time.monotonic()
-        edits = edits_of(self.crate.folder)
+        edits = edits_of(self.crate.folder, self.files)
         with tempfile.TemporaryDirectory(prefix="dmrgate-bodies-kept-") as kept:
             self.try_together(kept, [it for it in edits if not it.is_alone and not is_each])
             unclear = [it for it in edits if self.verdicts.get(it, (Verdict.UNCLEAR,))[0] is Verdict.UNCLEAR]
@@ -130,13 +130,14 @@ def long_first(names):
     return sorted(names, key=lambda it: -known.get(it, UNKNOWN) - EACH * len(files_of(all_crates()[it].folder)))
 
 
-def tried(kit, names, libraries, is_each=False):
-    """Tries the wrong bodies of these crates, many in one check or each in one of all its crate. As many crates are tried at once
-    as processors and memory allow. Answers each crate when it is done."""
+def tried(kit, names, libraries, is_each=False, files=None):
+    """Tries the wrong bodies of these crates, many in one check or each in one of all its crate: all of them, or these files of
+    each crate. As many crates are tried at once as processors and memory allow. Answers each crate when it is done."""
     lanes = max(1, min(processors(), free_memory() // MEMORY))
     with concurrent.futures.ThreadPoolExecutor(lanes) as pool:
         below = {name: {it: libraries[it] for it in with_all_below(name)[:-1]} for name in names}
-        begun = [pool.submit(Trial(kit, all_crates()[name], below[name]).run, is_each) for name in long_first(names)]
+        trials = [Trial(kit, all_crates()[name], below[name], files and files[name]) for name in long_first(names)]
+        begun = [pool.submit(it.run, is_each) for it in trials]
         try:
             yield from (it.result() for it in concurrent.futures.as_completed(begun))
         finally:

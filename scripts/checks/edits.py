@@ -2,6 +2,7 @@
 bodies is tried over a stand-in for the prover."""
 
 import subprocess
+import sys
 
 from checks.standin import in_trees
 
@@ -31,6 +32,14 @@ fn low() -> u8
 {
     kept
 }
+"""
+
+# Puts a crate on record, whatever becomes of its wrong bodies.
+ON_RECORD = """
+from bodies.record import put_on_record, sums_over
+from building.kit import Kit
+logic = Kit().logic
+put_on_record("left", sums_over(["left"], logic)["left"], logic)
 """
 
 
@@ -120,10 +129,10 @@ def check_not_judged(tree):
     expect_told(tree, "each by itself, over a crate that isn't proved", ran, 1, not_judged)
 
 
-def expect_step(tree, name, status, last, told):
-    """The check of wrong bodies ended so, and told this of how many were tried."""
-    ran = subprocess.run([tree.top / "check", "bodies"], **tree.how(), capture_output=True, text=True)
-    is_told = f"bodies: {told}" in ran.stdout
+def expect_step(tree, name, status, last, told, again=0, words=("bodies",)):
+    """The check of wrong bodies ended so, and told this of how many were tried, and how many of those on record again."""
+    ran = subprocess.run([tree.top / "check", *words], **tree.how(), capture_output=True, text=True)
+    is_told = f"bodies: {told}, {again} of these tried again\n" in ran.stdout
     tree.expect(f"a step {name}", (ran.returncode, ran.stdout.splitlines()[-1:], is_told) == (status, [last], True), ran)
     return ran
 
@@ -162,8 +171,20 @@ def check_step(tree):
     expect_step(tree, "over what was taken off the record", 0, "2 passed, 0 failed", both)
 
 
+def check_again(tree):
+    """Behind the gate one of each crate on record is tried again, so that a record which isn't true is found out."""
+    tree.edit("left", SOURCE)
+    for text, status, last in (("wrong", 0, "4 passed, 0 failed"), ("well", 1, "3 passed, 1 failed")):
+        tree.put("crates/left/wrong-bodies/a.edit", edit("right", text))
+        how = tree.how(PYTHONPATH=str(tree.top / "scripts"))
+        done = subprocess.run([sys.executable, "-c", ON_RECORD], **how, capture_output=True)
+        tree.expect("one on record", done.returncode == 0, done)
+        known = "0 wrong bodies tried in 0 checks, 1 on record"
+        expect_step(tree, f"behind the gate, {text}", status, last, known, 1, ["proofs", "bodies"])
+
+
 def check(report):
     ran = subprocess.run([report.top / "scripts/functions_without_edits"], capture_output=True, text=True)
     print(ran.stdout.strip().splitlines()[-1] if ran.stdout.strip() else ran.stderr)
     report.expect("each public function has an edit of its own", ran.returncode == 0, ran.stdout + ran.stderr)
-    in_trees(report, [check_refused], [check_not_refused], [check_not_judged], [check_step])
+    in_trees(report, [check_refused], [check_not_refused], [check_not_judged], [check_step], [check_again])

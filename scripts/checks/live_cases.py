@@ -94,8 +94,8 @@ DATAGRAM, STATUS = 0, 2
 # that sets it.
 PAGE, F_GETPIPE_SZ, F_SETPIPE_SZ = os.sysconf("SC_PAGESIZE"), 1032, 1031
 
-# How a program is started that may not make a device, and how one in Python for which each folder is empty, or of which another thread
-# gets the signals, so that none breaks off what it waits for. What is told of a modem that breaks off.
+# How a program is started that may not make a device, and how one in Python for which each folder is empty, or of which another
+# thread gets the signals, so that none breaks off what it waits for. What is told of a modem that breaks off.
 WITHOUT_RIGHTS = "unshare", "--user"
 SEES_NO_FILES = """
 import os, runpy, sys

@@ -35,7 +35,8 @@ impl WaitingSlots {
 
     /// The next slot came. Where eight wait, it is the turn of the oldest.
     pub(crate) fn push(&mut self, newest: Option<RepeatedBurst>) -> Option<Option<RepeatedBurst>>
-        ensures due { IfSome result (λ oldest. (rest : List (prelude.Option declared.RepeatedBurst)) × (self.old ≡ oldest ∷ rest) × (length rest ≡ 7)
+        ensures due { IfSome result (λ oldest. (rest : List (prelude.Option declared.RepeatedBurst))
+            × (self.old ≡ oldest ∷ rest) × (length rest ≡ 7)
             × (self.new ≡ rest ++ newest ∷ [])) }
         ensures none { IfNone result ((length self.old < 8) × (self.new ≡ self.old ++ newest ∷ [])) }
         ensures few { length self.new ≤ 8 }
