@@ -1,5 +1,5 @@
 //! Tests of `dmr_show`: what is printed of small files, cut and whole, and sinks that fail; of the lines that it prints
-//! (dmr_listing); of files as text (dmr_text); and of the command lines of the tools (dmr_tools, dmr_tool_options).
+//! (dmr_listing); and of files as text (dmr_text).
 #![tactic(auto)]
 
 #[cfg(test)]

@@ -1,13 +1,5 @@
 //! What is printed of files, and where.
-mod capturing;
-mod carrying;
-mod command_line;
-mod comparing;
-mod damaging;
-mod logging;
-mod making;
 mod objects;
-mod stand_in;
 mod text;
 
 use dmr_record::{FromRead, ToWrite};
