@@ -22,6 +22,7 @@ from checks import recordings as it
 from checks.bridge import BRIDGE, DEVICE, GATEWAY, HOST_PORT, OF_RUN, PATIENCE, PMTUDISC_DO, PMTUDISC_DONT, RADIO, RADIO_PORT
 from checks.bridge import SILENCE, WAITED_FOR, Gateway, Host, add_routes, are_children_gone, call_ip, comes_true, in_slot
 from checks.bridge import is_device_there, mtu_of, numbers_of, outgoing_in, take_orphans
+from checks.hearing import hear
 from checks.pipes import OF_DOWNLINK, OF_UPLINK, Reader, Sample, in_frames
 from checks.program import Report
 
@@ -837,6 +838,7 @@ CASES = {
 
 def main(name, top, *programs):
     """Does a case. The last line that it prints is how many expectations passed and failed."""
+    hear()
     take_orphans()
     call_ip("link set lo up")
     report = Report(pathlib.Path(top))

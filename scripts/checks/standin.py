@@ -1,16 +1,15 @@
 """A small repository with the scripts of this one, and a kit of a few lines that stands in for the real one."""
 
 import concurrent.futures
-import functools
 import os
 import pathlib
 import shutil
-import signal
 import subprocess
 import sys
 import tempfile
 import time
 
+from checks.hearing import hear
 from checks.program import Report
 
 # What a test wants done once, before a crate is built or after, stands in a file of its name in the folder `before` or `after`.
@@ -259,8 +258,6 @@ class Tree:
         """Starts the script, behind what a shell does before."""
         streams = {"stdin": subprocess.DEVNULL, "stdout": subprocess.PIPE, "stderr": subprocess.PIPE, **streams}
         command = ["sh", "-c", f'{before}\nexec "$@"', "sh", sys.executable, self.script, *words]
-        # A shell's command in the background ignores INT, and so would all that it starts.
-        hear = functools.partial(signal.signal, signal.SIGINT, signal.SIG_DFL)
         return subprocess.Popen(command, preexec_fn=hear, **self.how(), **streams)
 
     def run(self, *words, script=None, **environment):

@@ -12,6 +12,7 @@ import tempfile
 
 from checks import recordings as it
 from checks.bridge import comes_true, expect_run_as_over_files
+from checks.hearing import hear
 from checks.live import missing
 from checks.pipes import OF_DOWNLINK, PATIENCE, live, side_by_side
 from checks.program import Room
@@ -322,7 +323,7 @@ def expect_none_left(report, name, end, is_up=True, lines=(0, 1)):
     with two_folders() as (kept, own):
         options = ["--program", report.started_for(["run"]), "--bridge", f"--record {kept}"]
         words = [BRIDGE / "two-namespaces", *options, "sh", "-c", f"echo up && {UNTIL_THE_END}"]
-        how = {"env": {**os.environ, "TMPDIR": str(own)}, "start_new_session": True}
+        how = {"env": {**os.environ, "TMPDIR": str(own)}, "start_new_session": True, "preexec_fn": hear}
         with subprocess.Popen(words, stdout=subprocess.PIPE, stderr=subprocess.DEVNULL, **how) as script:
             if is_up:
                 script.stdout.readline()

@@ -5,8 +5,8 @@ use Rattle.dmr_compare.specs.Status.{trouble}
 use Rattle.dmr_compare.specs.declared.settings.CompareSettings.{CompareSettings}
 use Rattle.dmr_compare.specs.declared.trouble.Trouble.{Trouble}
 use Rattle.dmr_lines.specs.Line.{PutsError}
+use Rattle.dmr_tools.specs.Tasks.{Task, ToCompare, task_of}
 use Rattle.dmr_tools.specs.declared.request.Request.{Request}
-use Rattle.dmr_tools.specs.declared.request.Request.TheVariants.{Compare}
 
 -- Some two files were compared whole, and the status tells whether they are the same.
 abbrev pub IsSomeComparison : CompareSettings → ℕ → Option (List ℕ) → Option (List ℕ) → Type 0
@@ -21,15 +21,22 @@ IsSomeComparisonInPart settings held_old held_new =
     ⊎ ((reason : Trouble) × (first_old first_new second_old second_new : Option (List ℕ))
     × AreComparedInPart settings reason first_old first_new second_old second_new held_old held_new)
 
--- What a request for a comparison prints that comes to its end, with this status. Of others nothing is said here.
-abbrev pub IsComparisonPrinted : Request → ℕ → Option (List ℕ) → Option (List ℕ) → Type 0
-IsComparisonPrinted (Compare comparison) status held_old held_new = IsSomeComparison comparison.settings status held_old held_new
-IsComparisonPrinted request status held_old held_new = Unit {0}
+-- What a comparison prints that comes to its end, with this status. Of other tasks nothing is said here.
+abbrev pub IsTaskCompared : Task → ℕ → Option (List ℕ) → Option (List ℕ) → Type 0
+IsTaskCompared (ToCompare comparison) status held_old held_new = IsSomeComparison comparison.settings status held_old held_new
+IsTaskCompared task status held_old held_new = Unit {0}
 
 -- What one prints that doesn't, where it can be printed.
+abbrev pub IsTaskComparedInPart : Task → Option (List ℕ) → Option (List ℕ) → Type 0
+IsTaskComparedInPart (ToCompare comparison) held_old held_new = IsSomeComparisonInPart comparison.settings held_old held_new
+IsTaskComparedInPart task held_old held_new = Unit {0}
+
+-- The same of requests.
+abbrev pub IsComparisonPrinted : Request → ℕ → Option (List ℕ) → Option (List ℕ) → Type 0
+IsComparisonPrinted request status held_old held_new = IsTaskCompared (task_of request) status held_old held_new
+
 abbrev pub IsComparisonPrintedInPart : Request → Option (List ℕ) → Option (List ℕ) → Type 0
-IsComparisonPrintedInPart (Compare comparison) held_old held_new = IsSomeComparisonInPart comparison.settings held_old held_new
-IsComparisonPrintedInPart request held_old held_new = Unit {0}
+IsComparisonPrintedInPart request held_old held_new = IsTaskComparedInPart (task_of request) held_old held_new
 
 -- A comparison ends in trouble: behind what is printed, a line of error goes to the other sink.
 pub record TellsTrouble (status : ℕ) (out_failed err_failed : Bool) (held_old held_new : Option (List ℕ)) : Type 0 where

@@ -10,3 +10,4 @@ pub mod LogRequest
 pub mod Made
 pub mod Making
 pub mod Request
+pub mod Tasks

@@ -7,10 +7,10 @@ use Rattle.dmr_log_forms.specs.declared.fault.LogFault.{LogFault}
 use Rattle.dmr_log_page.specs.Pages.{IsPagePut}
 use Rattle.dmr_log_page.specs.Part.{IsPagePutUpTo}
 use Rattle.dmr_show.specs.Showing.{IsShownInPart, IsShownWhole}
+use Rattle.dmr_tools.specs.Tasks.{Task, ToList, task_of}
 use Rattle.dmr_tools.specs.declared.listing.Listing.{Listing}
 use Rattle.dmr_tools.specs.declared.listing.Listing.TheVariants as listing
 use Rattle.dmr_tools.specs.declared.request.Request.{Request}
-use Rattle.dmr_tools.specs.declared.request.Request.TheVariants.{Show, Log, LogPage}
 
 -- From what a file had left to what it has left then, it is listed whole, or its log or its page printed.
 abbrev pub IsListingPut : Listing → Option (List ℕ) → Option (List ℕ) → Option (List ℕ) → Option (List ℕ) → Type 0
@@ -39,17 +39,19 @@ IsSomeListingPutInPart listing held_old held_new =
     (held_new ≡ held_old)
     ⊎ ((left_old left_new : Option (List ℕ)) × IsListingPutInPart listing left_old left_new held_old held_new)
 
--- What a request for a listing or a log prints that succeeds. Of others nothing is said here.
-abbrev pub IsListingPrinted : Request → Option (List ℕ) → Option (List ℕ) → Type 0
-IsListingPrinted (Show name form filter) held_old held_new = IsSomeListingPut (listing.Lines form filter) held_old held_new
-IsListingPrinted (Log name settings) held_old held_new = IsSomeListingPut (listing.Log settings) held_old held_new
-IsListingPrinted (LogPage name settings) held_old held_new = IsSomeListingPut (listing.Page settings) held_old held_new
-IsListingPrinted request held_old held_new = Unit {0}
+-- What a task of listing prints that succeeds. Of other tasks nothing is said here.
+abbrev pub IsTaskListed : Task → Option (List ℕ) → Option (List ℕ) → Type 0
+IsTaskListed (ToList listing) held_old held_new = IsSomeListingPut listing held_old held_new
+IsTaskListed task held_old held_new = Unit {0}
 
 -- What one prints that doesn't, where it can be printed.
+abbrev pub IsTaskListedInPart : Task → Option (List ℕ) → Option (List ℕ) → Type 0
+IsTaskListedInPart (ToList listing) held_old held_new = IsSomeListingPutInPart listing held_old held_new
+IsTaskListedInPart task held_old held_new = Unit {0}
+
+-- The same of requests for a listing or a log.
+abbrev pub IsListingPrinted : Request → Option (List ℕ) → Option (List ℕ) → Type 0
+IsListingPrinted request held_old held_new = IsTaskListed (task_of request) held_old held_new
+
 abbrev pub IsListingPrintedInPart : Request → Option (List ℕ) → Option (List ℕ) → Type 0
-IsListingPrintedInPart (Show name form filter) held_old held_new =
-    IsSomeListingPutInPart (listing.Lines form filter) held_old held_new
-IsListingPrintedInPart (Log name settings) held_old held_new = IsSomeListingPutInPart (listing.Log settings) held_old held_new
-IsListingPrintedInPart (LogPage name settings) held_old held_new = IsSomeListingPutInPart (listing.Page settings) held_old held_new
-IsListingPrintedInPart request held_old held_new = Unit {0}
+IsListingPrintedInPart request held_old held_new = IsTaskListedInPart (task_of request) held_old held_new

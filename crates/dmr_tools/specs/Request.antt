@@ -3,9 +3,7 @@ use Rattle.std.specs.Prelude.{◌≡◌, ◌⊎◌, ℕ, Bool, true, false, [], 
 use Rattle.clap.specs.Words.{Text, found_of, rows_of, subcommand_name_of, subcommand_rows_of}
 use Rattle.clap.specs.declared.parser.matches.ArgMatches.{ArgMatches}
 use Rattle.clap.specs.declared.parser.matches.Found.{Found}
-use Rattle.dmr_compare.specs.Status.{trouble}
 use Rattle.dmr_files.specs.Place.{IsNamed, is_standard}
-use Rattle.dmr_lines.specs.Status.{failure}
 use Rattle.dmr_options.specs.Found.{IsFlagOf, IsNumberOf, text_of}
 use Rattle.dmr_show.specs.declared.filter.Filter.{Filter}
 use Rattle.dmr_show.specs.declared.form.Form.{Form}
@@ -160,38 +158,6 @@ IsAskedOfTools (Some command) (Elsewhere name) =
     × (command.0 ≡ codes "export" → NamesExport command.1 → ⊥)
     × (name.now ≡ command.0)
 
--- A file is to be listed, or what is repeated of it.
-abbrev pub IsShow : Request → Type 0
-IsShow (Show name form filter) = Unit {0}
-IsShow (Log name settings) = Unit {0}
-IsShow (LogPage name settings) = Unit {0}
-IsShow request = ⊥
-
--- One file is to be made of another: from another format, or in one, or with wrong bits, or of a script.
-abbrev pub IsCarrying : Request → Type 0
-IsCarrying (Make places) = Unit {0}
-IsCarrying (Damage damage seed places) = Unit {0}
-IsCarrying (Import format places) = Unit {0}
-IsCarrying (Export format places) = Unit {0}
-IsCarrying request = ⊥
-
--- Two files are to be compared.
-abbrev pub IsComparison : Request → Type 0
-IsComparison (Compare comparison) = Unit {0}
-IsComparison request = ⊥
-
--- Something is to be done here: no command of another program, and nothing that is refused.
-abbrev pub IsTool : Request → Type 0
-IsTool (Show name form filter) = Unit {0}
-IsTool (Log name settings) = Unit {0}
-IsTool (LogPage name settings) = Unit {0}
-IsTool (Make places) = Unit {0}
-IsTool (Damage damage seed places) = Unit {0}
-IsTool (Compare comparison) = Unit {0}
-IsTool (Import format places) = Unit {0}
-IsTool (Export format places) = Unit {0}
-IsTool request = ⊥
-
 -- What is asked for is to be written to standard output, so that no line is printed there.
 abbrev pub is_to_output : Request → Bool
 is_to_output (Make places) = is_any_to_output places
@@ -199,8 +165,3 @@ is_to_output (Damage damage seed places) = is_standard places.output
 is_to_output (Import format places) = is_standard places.output
 is_to_output (Export format places) = is_standard places.output
 is_to_output request = false
-
--- the exit status where what is printed can't be printed
-abbrev pub unwritten_status : Request → ℕ
-unwritten_status (Compare comparison) = trouble
-unwritten_status request = failure

@@ -8,7 +8,8 @@ ghost use Rattle.dmr_tools.specs.Comparing as comparing;
 ghost use Rattle.dmr_tools.specs.Comparing.{TellsTrouble};
 ghost use Rattle.dmr_tools.specs.Listed as listed;
 ghost use Rattle.dmr_tools.specs.Made.{IsMadePrinted};
-ghost use Rattle.dmr_tools.specs.Request.{IsCarrying, IsComparison, IsTool, IsShow, is_to_output, unwritten_status};
+ghost use Rattle.dmr_tools.specs.Request.{is_to_output};
+ghost use Rattle.dmr_tools.specs.Tasks.{IsCarrying, IsComparison, IsShow, IsTool, unwritten_status};
 
 use crate::carrying::{Direction, carry_file};
 use crate::comparing::compare_files;
