@@ -1,5 +1,5 @@
-"""What is tried hears the signals that end it. A shell's command in the background ignores INT, `nohup` has a command ignore HUP, and
-so does all that they start."""
+"""What is tried hears the signals that end it. A shell's command in the background ignores INT, `nohup` has a command ignore HUP,
+and so does all that they start."""
 
 import signal
 
