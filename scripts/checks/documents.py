@@ -415,7 +415,7 @@ def check_callers(report):
 
 def is_prose(line):
     """A line of a document that is neither a row of a table, a command nor what a link means: those can't be broken."""
-    return not line.startswith(("|", "    ", "["))
+    return not line.startswith(("|", "    ")) and not re.match(r"\[[^]]*\]: ", line)
 
 
 def check_width(report):
