@@ -106,13 +106,14 @@ def check_link(report, file, target):
 
 
 def check_files_told(report):
-    """CONTRIBUTING.md names no file that isn't there, by its name or by the end of its path."""
-    told = {it for it in WORD.findall((report.top / "CONTRIBUTING.md").read_text()) if "NAME" not in it and FILE.search(it)}
+    """What those read who change something names no file that isn't there, by its name or by the end of its path."""
+    text = "".join((report.top / it).read_text() for it in ("CONTRIBUTING.md", "docs/recipes.md"))
+    told = {it for it in WORD.findall(text) if "NAME" not in it and FILE.search(it)}
     files = [it for folder in TOLD_FOLDERS for it in report.top.glob(f"{folder}/**/*") if "out" not in it.parts]
     paths = {f"/{it.relative_to(report.top)}" for it in [*files, *report.top.iterdir()]}
     missing = sorted(name for name in told if not any(path.endswith("/" + name.strip("./")) for path in paths))
-    report.expect("CONTRIBUTING.md names files", len(told) > 100, len(told))
-    report.expect("the files that CONTRIBUTING.md names are there", not missing, missing)
+    report.expect("the recipes name files", len(told) > 100, len(told))
+    report.expect("the files that the recipes and CONTRIBUTING.md name are there", not missing, missing)
 
 
 def check_links(report):
