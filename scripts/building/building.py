@@ -234,9 +234,10 @@ class Building:
         self.running[name] = Work(self.kit, self.built[name], below, jobs, self.held)
 
     def holds_up(self, name):
-        """Whether the other processors would be done with all else before a crate and the longest chain above it."""
+        """Whether the longest chain that is left begins with a crate, and other processors would be done with all else before."""
         rest = sum(self.costs[it] for it in [*self.left, *self.running])
-        return self.chains[name] * (self.lanes - 1) > rest
+        is_longest = self.chains[name] == max(self.chains[it] for it in self.left)
+        return is_longest and self.chains[name] * (self.lanes - 1) > rest
 
     def begin_more(self):
         """Begins as many crates as processors and memory allow, those with the longest chain above them first."""
