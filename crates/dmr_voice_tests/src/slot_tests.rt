@@ -149,28 +149,48 @@ impl Repeater {
     }
 }
 
-/// The downlink of a recording in letters, slot 1 and slot 2. What is sent in slot 2 is of colour code 2.
-fn downlink(alloc: Global, first: &[u8], second: &[u8]) -> Result<(Vec<u8>, Vec<u8>), AllocError> {
+/// What goes out in a recording, in letters.
+#[derive(Drop)]
+struct Letters {
+    first: Vec<u8>,
+    second: Vec<u8>,
+}
+
+impl Letters {
+    /// Adds what goes out in a frame, when these letters were sent in the frame before it.
+    fn add(&mut self, repeater: &mut Repeater, first: u8, second: u8) -> Result<(), AllocError> {
+        let (first, second) = repeater.frame(first, second);
+        self.first.push(first)?;
+        self.second.push(second)?;
+        Ok(())
+    }
+
+    /// Adds what goes out in so many frames, when nothing was sent.
+    fn add_silence(&mut self, repeater: &mut Repeater, frames: u8) -> Result<(), AllocError> {
+        for _past in 0..frames {
+            self.add(repeater, b'.', b'.')?;
+        }
+        Ok(())
+    }
+}
+
+/// The downlink of a recording. What is sent in slot 2 is of colour code 2.
+fn downlink(alloc: Global, first: &[u8], second: &[u8]) -> Result<Letters, AllocError> {
     let mut repeater = Repeater::new(alloc)?;
-    let mut out = (Vec::new(alloc), Vec::new(alloc));
-    let (one, two) = repeater.frame(b'.', b'.');
-    out.0.push(one)?;
-    out.1.push(two)?;
+    let mut out = Letters {
+        first: Vec::new(alloc),
+        second: Vec::new(alloc),
+    };
+    out.add_silence(&mut repeater, 1)?;
     for (a, b) in first.iter().zip(second) {
-        let (one, two) = repeater.frame(*a, *b);
-        out.0.push(one)?;
-        out.1.push(two)?;
+        out.add(&mut repeater, *a, *b)?;
     }
-    for _past in 0..5u8 {
-        let (one, two) = repeater.frame(b'.', b'.');
-        out.0.push(one)?;
-        out.1.push(two)?;
-    }
+    out.add_silence(&mut repeater, 5)?;
     Ok(out)
 }
 
 /// The same where slot 2 is silent.
-fn downlink_of_one(alloc: Global, first: &[u8]) -> Result<(Vec<u8>, Vec<u8>), AllocError> {
+fn downlink_of_one(alloc: Global, first: &[u8]) -> Result<Letters, AllocError> {
     let silence = vec![in alloc; b'.'; first.len()]?;
     downlink(alloc, first, &silence)
 }
@@ -178,8 +198,14 @@ fn downlink_of_one(alloc: Global, first: &[u8]) -> Result<(Vec<u8>, Vec<u8>), Al
 #[test]
 fn call_and_hang(rt: HostRuntime) -> Result<(), Fail> {
     let out = downlink_of_one(rt.alloc(), b"HABCDEF.............")?;
-    assert_eq!(rt; out.0.as_slice(), b"......HABCDEFTTTII........".as_slice());
-    assert_eq!(rt; out.1.as_slice(), b"......IIIIIIIIIIII........".as_slice());
+    assert_eq!(rt;
+        out.first.as_slice(),
+        b"......HABCDEFTTTII........".as_slice()
+    );
+    assert_eq!(rt;
+        out.second.as_slice(),
+        b"......IIIIIIIIIIII........".as_slice()
+    );
     Ok(())
 }
 
@@ -221,7 +247,7 @@ fn lost_call(rt: HostRuntime) -> Result<(), Fail> {
     // An A in the place of an F.
     let out = downlink_of_one(rt.alloc(), b"HABCDEF.....ABCDEF........")?;
     assert_eq!(rt;
-        out.0.as_slice(),
+        out.first.as_slice(),
         b"......HABCDEFTTTIIABCDEFTTTII...".as_slice()
     );
     Ok(())
@@ -230,22 +256,25 @@ fn lost_call(rt: HostRuntime) -> Result<(), Fail> {
 #[test]
 fn filled_places(rt: HostRuntime) -> Result<(), Fail> {
     let out = downlink_of_one(rt.alloc(), b"HABCDEF.....F.......")?;
-    assert_eq!(rt; out.0.as_slice(), b"......HABCDEFabcdeFTTTII..".as_slice());
+    assert_eq!(rt;
+        out.first.as_slice(),
+        b"......HABCDEFabcdeFTTTII..".as_slice()
+    );
     Ok(())
 }
 
 #[test]
 fn privacy_header(rt: HostRuntime) -> Result<(), Fail> {
     let out = downlink_of_one(rt.alloc(), b"HP......")?;
-    assert_eq!(rt; out.0.as_slice(), b"......HPTTTII.".as_slice());
-    assert_eq!(rt; out.1.as_slice(), b"......IIIIIII.".as_slice());
+    assert_eq!(rt; out.first.as_slice(), b"......HPTTTII.".as_slice());
+    assert_eq!(rt; out.second.as_slice(), b"......IIIIIII.".as_slice());
     Ok(())
 }
 
 #[test]
 fn two_headers(rt: HostRuntime) -> Result<(), Fail> {
     let out = downlink_of_one(rt.alloc(), b"H.HA")?;
-    assert_eq!(rt; out.0.as_slice(), b"......HTHA".as_slice());
+    assert_eq!(rt; out.first.as_slice(), b"......HTHA".as_slice());
     Ok(())
 }
 
@@ -255,8 +284,14 @@ fn other_colour(rt: HostRuntime) -> Result<(), Fail> {
     let slots: [&[u8; 20]; 2] = [b"K...................", b"HABCDEF............."];
     for other in slots {
         let out = downlink(rt.alloc(), call, other)?;
-        assert_eq!(rt; out.0.as_slice(), b"......HABCDEFTTTII........".as_slice());
-        assert_eq!(rt; out.1.as_slice(), b"......IIIIIIIIIIII........".as_slice());
+        assert_eq!(rt;
+            out.first.as_slice(),
+            b"......HABCDEFTTTII........".as_slice()
+        );
+        assert_eq!(rt;
+            out.second.as_slice(),
+            b"......IIIIIIIIIIII........".as_slice()
+        );
     }
     Ok(())
 }
@@ -279,7 +314,7 @@ fn hang_of_a_call(rt: HostRuntime) -> Result<(), Fail> {
 fn hang_after_another_burst(rt: HostRuntime) -> Result<(), Fail> {
     // A control block ends the call's places, and its hang goes on.
     let out = downlink(rt.alloc(), b"HABCDEFK....", b"............")?;
-    assert_eq!(rt; out.0.as_slice(), b"......HABCDEFKTTII".as_slice());
+    assert_eq!(rt; out.first.as_slice(), b"......HABCDEFKTTII".as_slice());
     Ok(())
 }
 
