@@ -3,6 +3,7 @@ ghost use Rattle.std.specs.Prelude.{◌≡◌, IfNone, IfSome};
 ghost use Rattle.dmr_options.specs.Commands.{command_name};
 ghost use Rattle.dmr_options.specs.declared.commands.Listed.{Listed};
 
+use crate::described::{Described, with_options};
 use crate::texts::VERSION;
 use clap::Command;
 use std::alloc::{AllocError, Global};
@@ -90,6 +91,16 @@ impl Listed {
 /// A command with its line of help and no options, which is all that a program knows of another program's.
 pub fn bare_command<'a>(alloc: Global, command: Listed) -> Command<'a> {
     Command::new(alloc, command.name()).about(command.about())
+}
+
+/// A command with its line of help, the options that are described so, and what help says behind them.
+pub fn whole_command<'a>(
+    alloc: Global,
+    command: Listed,
+    described: &[Described],
+    more: &'a str,
+) -> Result<Command<'a>, AllocError> {
+    with_options(alloc, command.name(), command.about(), described, more)
 }
 
 /// The whole command line of a program, with these commands in the order in which help has them.

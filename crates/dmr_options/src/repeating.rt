@@ -1,119 +1,88 @@
 //! The command line of the program that repeats: `run` and `slot` with their options, and every other command by its name.
 
-use crate::arguments::{colour, file, number, word};
-use crate::commands::{COMMANDS, Listed, bare_command, command};
+use crate::commands::{COMMANDS, Listed, bare_command, command, whole_command};
+use crate::described::{COLOUR, Described, FILE, FLAG, NUMBER, Numbers, Takes, WORD};
 use crate::texts::{ABOUT_RUNS, ABOUT_SLOTS};
-use clap::{Arg, ArgAction, Command, value_parser};
+use clap::Command;
 use std::alloc::{AllocError, Global};
 
-/// The gateway's address.
-fn address<'a>(alloc: Global) -> Arg<'a> {
-    let help = "The gateway's address on the air (LLID), 1 to 16777215";
-    number(alloc, "llid", help)
-        .value_parser(value_parser!(u32).range(1..16_777_216))
-        .required(true)
-}
+/// What the lengths of hangs have in common.
+const HANG: Described = Described {
+    takes: Takes::Number(Numbers::U16(0, u16::MAX)),
+    ..NUMBER
+};
 
-/// How many frames a hang has, and how many it has where that is left out.
-fn hang<'a>(alloc: Global, name: &'a str, help: &'a str, frames: &'a str) -> Arg<'a> {
-    number(alloc, name, help)
-        .value_parser(value_parser!(u16))
-        .default_value(frames)
-}
-
-/// How many datagrams may wait.
-fn queue<'a>(alloc: Global) -> Arg<'a> {
-    number(alloc, "queue", "Datagrams waiting in a slot, 1 to 64")
-        .value_parser(value_parser!(u8).range(1..65))
-        .default_value("9")
-}
-
-/// Whether more is told of how a run ends.
-fn verbose<'a>(alloc: Global) -> Arg<'a> {
-    Arg::new(alloc, "verbose")
-        .long("verbose")
-        .help("Tells where a fault is, or why nothing is repeated")
-        .action(ArgAction::SetTrue)
-}
-
-/// The options of `run` that name files.
-fn files<'a>(alloc: Global) -> Result<Vec<Arg<'a>>, AllocError> {
-    Ok(vec![in alloc;
-        file(
-            alloc,
-            "uplink",
-            "The uplink recording, to read; - is standard input",
-        )
-        .required(true),
-        file(
-            alloc,
-            "outgoing",
-            "The datagrams to send, to read; none without it",
-        ),
-        file(
-            alloc,
-            "downlink",
-            "The downlink, to write; - is standard output",
-        )
-        .required(true),
-        file(
-            alloc,
-            "received",
-            "The datagrams received, to write; not kept without it",
-        ),
-    ]?)
-}
-
-/// The options of `run` that are settings, or tell more.
-fn settings<'a>(alloc: Global) -> Result<Vec<Arg<'a>>, AllocError> {
-    let colour = colour(alloc)?;
-    Ok(vec![in alloc;
-        address(alloc),
-        colour,
-        hang(
-            alloc,
-            "call-hang",
-            "Frames that a call is held behind its end",
-            "3",
-        ),
-        hang(
-            alloc,
-            "channel-hang",
-            "Frames that the channel stays on the air",
-            "5",
-        ),
-        queue(alloc),
-        verbose(alloc),
-    ]?)
-}
+/// The options of `run`: its files, and then its settings.
+static RUN: [Described; 10] = [
+    Described {
+        name: "uplink",
+        help: "The uplink recording, to read; - is standard input",
+        is_required: true,
+        ..FILE
+    },
+    Described {
+        name: "outgoing",
+        help: "The datagrams to send, to read; none without it",
+        ..FILE
+    },
+    Described {
+        name: "downlink",
+        help: "The downlink, to write; - is standard output",
+        is_required: true,
+        ..FILE
+    },
+    Described {
+        name: "received",
+        help: "The datagrams received, to write; not kept without it",
+        ..FILE
+    },
+    Described {
+        name: "llid",
+        help: "The gateway's address on the air (LLID), 1 to 16777215",
+        takes: Takes::Number(Numbers::U32(1, 16_777_215)),
+        is_required: true,
+        ..NUMBER
+    },
+    COLOUR,
+    Described {
+        name: "call-hang",
+        help: "Frames that a call is held behind its end",
+        default: Some("3"),
+        ..HANG
+    },
+    Described {
+        name: "channel-hang",
+        help: "Frames that the channel stays on the air",
+        default: Some("5"),
+        ..HANG
+    },
+    Described {
+        name: "queue",
+        help: "Datagrams waiting in a slot, 1 to 64",
+        takes: Takes::Number(Numbers::U8(1, 64)),
+        default: Some("9"),
+        ..NUMBER
+    },
+    Described {
+        name: "verbose",
+        help: "Tells where a fault is, or why nothing is repeated",
+        ..FLAG
+    },
+];
 
 /// The burst of `slot`.
-fn burst<'a>(alloc: Global) -> Arg<'a> {
-    word(alloc, "burst", "HEX", "A burst of 66 hexadecimal digits")
-}
-
-/// `run`, with its files and its settings.
-fn run_command<'a>(alloc: Global) -> Result<Command<'a>, AllocError> {
-    let files = files(alloc)?;
-    let settings = settings(alloc)?;
-    bare_command(alloc, Listed::Run)
-        .after_help(ABOUT_RUNS)
-        .args(files)?
-        .args(settings)
-}
-
-/// `slot`, with its burst.
-fn slot_command<'a>(alloc: Global) -> Result<Command<'a>, AllocError> {
-    bare_command(alloc, Listed::Slot)
-        .after_help(ABOUT_SLOTS)
-        .arg(burst(alloc))
-}
+static SLOT: [Described; 1] = [Described {
+    name: "burst",
+    value: "HEX",
+    help: "A burst of 66 hexadecimal digits",
+    ..WORD
+}];
 
 /// A command of the program that repeats with its options, or another one by its name alone.
 fn listed_command<'a>(alloc: Global, listed: Listed) -> Result<Command<'a>, AllocError> {
     match listed {
-        Listed::Run => run_command(alloc),
-        Listed::Slot => slot_command(alloc),
+        Listed::Run => whole_command(alloc, listed, &RUN, ABOUT_RUNS),
+        Listed::Slot => whole_command(alloc, listed, &SLOT, ABOUT_SLOTS),
         Listed::Show
         | Listed::Log
         | Listed::Make

@@ -126,11 +126,24 @@ fn run_buffered<U: Read + Drop, O: Read + Drop, D: Write + Drop, R: Write + Drop
         &mut downlink,
         &mut received,
     );
-    let downlink_end = with_octets(write_out(downlink), Stream::Downlink);
-    let received_end = with_octets(write_out(received), Stream::Received);
+    let downlink = write_out(downlink);
+    let received = write_out(received);
+    end_with(end, downlink, received)
+}
+
+/// How a run ended whose outputs were then written out: its own fault goes first.
+pub(crate) fn end_with<D: Drop, R: Drop>(
+    end: Result<Summary, RunFault>,
+    downlink: Result<D, DeviceFault>,
+    received: Result<R, DeviceFault>,
+) -> Result<Summary, RunFault>
+    ensures few { IfOk end (λ summary. summary.frames ≤ 2 ^ 20 + 6) → IfOk result (λ summary. summary.frames ≤ 2 ^ 20 + 6) }
+    ensures kind { IfErr end (λ e. is_of_its_stream e ≡ true) → IfErr result (λ e. is_of_its_stream e ≡ true) }
+    ensures listed { (sendings : List Sending) → EndsOver sendings (end_of end) → EndsOver sendings (end_of result) }
+{
     let summary = end?;
-    downlink_end?;
-    received_end?;
+    with_octets(downlink, Stream::Downlink)?;
+    with_octets(received, Stream::Received)?;
     Ok(summary)
 }
 
@@ -146,7 +159,7 @@ pub(crate) fn with_memory<T>(made: Result<T, AllocError>) -> Result<T, RunFault>
 }
 
 /// What a run ends with where a file can't be written out.
-pub(crate) fn with_octets<W: Drop>(
+fn with_octets<W: Drop>(
     written: Result<W, DeviceFault>,
     stream: Stream,
 ) -> Result<(), RunFault>

@@ -12,11 +12,11 @@ use crate::devices::{OutgoingList, ReceivedFile};
 use crate::more::{More, Passed, Watched};
 use crate::opening::{Opened, file_if_any, open_files, sent_to_terminal};
 use crate::run_end::RunEnd;
-use crate::running::{run_over, with_memory, with_octets};
+use crate::running::{end_with, run_over, with_memory};
 use dmr_command::Places;
 use dmr_files::{System, buffered_sink, buffered_source, kept_back};
 use dmr_record::{DeviceFault, FileFormat, FromBuffered, Sink, Source, ToWrite};
-use dmr_repeater::{RunFault, Stream, Summary};
+use dmr_repeater::{RunFault, Summary};
 use dmr_settings::Config;
 use dmr_watch::{Ear, KeptReader, WatchedSource, WatchedWriter};
 use std::alloc::Global;
@@ -169,22 +169,6 @@ fn let_go<R: Read + Drop>(input: WatchedInput<R>) -> (Passed, Ear) {
         error: reader.error(),
     };
     (passed, ear)
-}
-
-/// How a run ended whose outputs were then written out: its own fault goes first.
-fn end_with(
-    end: Result<Summary, RunFault>,
-    downlink: Result<(), DeviceFault>,
-    received: Result<(), DeviceFault>,
-) -> Result<Summary, RunFault>
-    ensures few { IfOk end (λ summary. summary.frames ≤ 2 ^ 20 + 6) → IfOk result (λ summary. summary.frames ≤ 2 ^ 20 + 6) }
-    ensures kind { IfErr end (λ e. is_of_its_stream e ≡ true) → IfErr result (λ e. is_of_its_stream e ≡ true) }
-    ensures listed { (sendings : List Sending) → EndsOver sendings (end_of end) → EndsOver sendings (end_of result) }
-{
-    let summary = end?;
-    with_octets(downlink, Stream::Downlink)?;
-    with_octets(received, Stream::Received)?;
-    Ok(summary)
 }
 
 /// Runs as `run_buffered` does, and watches that. At an `Err` there is no memory for what that takes, and nothing was touched.

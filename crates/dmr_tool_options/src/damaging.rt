@@ -1,53 +1,44 @@
-//! `damage` with its options.
+//! The options of `damage`.
 
-use crate::texts::ABOUT_DAMAGE;
-use clap::{Arg, Command, value_parser};
-use dmr_options::{Listed, bare_command, colour, number, word};
-use std::alloc::{AllocError, Global};
-
-/// What the damage is drawn by.
-fn seed<'a>(alloc: Global) -> Arg<'a> {
-    number(alloc, "seed", "Another number, other damage")
-        .value_parser(value_parser!(u64))
-        .default_value("0")
-}
+use dmr_options::{COLOUR, Described, NUMBER, Numbers, Takes, WORD};
 
 /// How many of ten thousand are damaged, which is asked for where nothing is kept within the limits of a colour code.
-fn rate<'a>(alloc: Global, name: &'a str, help: &'a str) -> Result<Arg<'a>, AllocError> {
-    number(alloc, name, help)
-        .value_parser(value_parser!(u16).range(0..10_001))
-        .conflicts_with("colour")
-}
+const RATE: Described = Described {
+    takes: Takes::Number(Numbers::U16(0, 10_000)),
+    conflicts: &["colour"],
+    ..NUMBER
+};
 
 /// The files of `damage`, and what is damaged.
-fn damage<'a>(alloc: Global) -> Result<Vec<Arg<'a>>, AllocError> {
-    let colour = colour(alloc)?;
-    let errors = rate(alloc, "errors", "Turns each bit with N in 10000")?;
-    let loss = rate(alloc, "loss", "Leaves each burst out with N in 10000")?;
-    Ok(vec![in alloc;
-        word(
-            alloc,
-            "input",
-            "IN",
-            "The uplink recording; - is standard input",
-        ),
-        word(
-            alloc,
-            "output",
-            "OUT",
-            "The damaged one, to write; - is standard output",
-        ),
-        seed(alloc),
-        colour,
-        errors,
-        loss,
-    ]?)
-}
-
-/// `damage`, with its files and its options.
-pub(crate) fn damage_command<'a>(alloc: Global) -> Result<Command<'a>, AllocError> {
-    let damage = damage(alloc)?;
-    bare_command(alloc, Listed::Damage)
-        .after_help(ABOUT_DAMAGE)
-        .args(damage)
-}
+pub(crate) static DAMAGE: [Described; 6] = [
+    Described {
+        name: "input",
+        value: "IN",
+        help: "The uplink recording; - is standard input",
+        ..WORD
+    },
+    Described {
+        name: "output",
+        value: "OUT",
+        help: "The damaged one, to write; - is standard output",
+        ..WORD
+    },
+    Described {
+        name: "seed",
+        help: "Another number, other damage",
+        takes: Takes::Number(Numbers::U64),
+        default: Some("0"),
+        ..NUMBER
+    },
+    COLOUR,
+    Described {
+        name: "errors",
+        help: "Turns each bit with N in 10000",
+        ..RATE
+    },
+    Described {
+        name: "loss",
+        help: "Leaves each burst out with N in 10000",
+        ..RATE
+    },
+];

@@ -1,78 +1,77 @@
-//! `import dmrd` and `export dmrd` with their options.
+//! The options of `import dmrd` and `export dmrd`.
 
-use crate::carrying::{files, flag, start};
-use crate::texts::{ABOUT_EXPORTED_PACKETS, ABOUT_IMPORTED_PACKETS};
-use clap::{Arg, Command, value_parser};
-use dmr_options::number;
-use std::alloc::{AllocError, Global};
+use crate::carrying::START;
+use dmr_options::{Described, FLAG, NUMBER, Numbers, Takes, WORD};
 
-/// The port to which the packets go.
-fn port<'a>(alloc: Global) -> Arg<'a> {
-    number(alloc, "port", "The packets go to this port of UDP")
-        .value_name("PORT")
-        .value_parser(value_parser!(u16))
-        .default_value("62031")
-}
+/// What both ports have in common.
+const PORT: Described = Described {
+    value: "PORT",
+    takes: Takes::Number(Numbers::U16(0, u16::MAX)),
+    ..NUMBER
+};
 
-/// The port from which they come.
-fn from_port<'a>(alloc: Global) -> Result<Arg<'a>, AllocError> {
-    number(alloc, "from-port", "They come from this port instead")
-        .value_name("PORT")
-        .value_parser(value_parser!(u16))
-        .conflicts_with("port")
-}
+/// What both numbers of a repeater have in common.
+const REPEATER: Described = Described {
+    name: "repeater",
+    takes: Takes::Number(Numbers::U32(0, u32::MAX)),
+    ..NUMBER
+};
 
-/// The repeater whose packets are taken.
-fn repeater<'a>(alloc: Global) -> Arg<'a> {
-    let help = "Those of this repeater; else those of the first one";
-    number(alloc, "repeater", help).value_parser(value_parser!(u32))
-}
+/// The files of `import dmrd`, and which packets are taken.
+pub(crate) const IMPORT_DMRD: [Described; 6] = [
+    Described {
+        name: "input",
+        value: "CAPTURE",
+        help: "The capture, pcap or pcapng; - is standard input",
+        ..WORD
+    },
+    Described {
+        name: "output",
+        value: "OUT",
+        help: "The uplink recording to make of it; - is standard output",
+        ..WORD
+    },
+    Described {
+        name: "port",
+        help: "The packets go to this port of UDP",
+        default: Some("62031"),
+        ..PORT
+    },
+    Described {
+        name: "from-port",
+        help: "They come from this port instead",
+        conflicts: &["port"],
+        ..PORT
+    },
+    Described {
+        help: "Those of this repeater; else those of the first one",
+        ..REPEATER
+    },
+    Described {
+        name: "as-uplink",
+        help: "Makes the syncs of a base station those of mobiles",
+        ..FLAG
+    },
+];
 
-/// `import dmrd`, with its files and its options.
-pub(crate) fn import_dmrd_command<'a>(alloc: Global) -> Result<Command<'a>, AllocError> {
-    let files = files(
-        alloc,
-        "CAPTURE",
-        "The capture, pcap or pcapng; - is standard input",
-        "The uplink recording to make of it; - is standard output",
-    )?;
-    let from_port = from_port(alloc)?;
-    let options = vec![in alloc;
-        port(alloc),
-        from_port,
-        repeater(alloc),
-        flag(
-            alloc,
-            "as-uplink",
-            "Makes the syncs of a base station those of mobiles",
-        ),
-    ]?;
-    Command::new(alloc, "dmrd")
-        .about("Makes a recording of the packets of hotspots in a capture")
-        .after_help(ABOUT_IMPORTED_PACKETS)
-        .args(files)?
-        .args(options)
-}
-
-/// The repeater that the packets name as their own.
-fn own_number<'a>(alloc: Global) -> Arg<'a> {
-    number(alloc, "repeater", "The number of the repeater in them")
-        .value_parser(value_parser!(u32))
-        .default_value("1")
-}
-
-/// `export dmrd`, with its files and its options.
-pub(crate) fn export_dmrd_command<'a>(alloc: Global) -> Result<Command<'a>, AllocError> {
-    let files = files(
-        alloc,
-        "DOWNLINK",
-        "The downlink recording; - is standard input",
-        "The capture, to write; - is standard output",
-    )?;
-    let options = vec![in alloc; own_number(alloc), start(alloc)]?;
-    Command::new(alloc, "dmrd")
-        .about("Writes the repeated bursts of a downlink as a capture")
-        .after_help(ABOUT_EXPORTED_PACKETS)
-        .args(files)?
-        .args(options)
-}
+/// The files of `export dmrd`, and what the packets say.
+pub(crate) const EXPORT_DMRD: [Described; 4] = [
+    Described {
+        name: "input",
+        value: "DOWNLINK",
+        help: "The downlink recording; - is standard input",
+        ..WORD
+    },
+    Described {
+        name: "output",
+        value: "OUT",
+        help: "The capture, to write; - is standard output",
+        ..WORD
+    },
+    Described {
+        help: "The number of the repeater in them",
+        default: Some("1"),
+        ..REPEATER
+    },
+    START,
+];

@@ -1,26 +1,27 @@
 //! The command line of the tools.
 
-use crate::carrying::{export_command, import_command};
-use crate::comparing::compare_command;
-use crate::damaging::damage_command;
-use crate::logging::log_command;
-use crate::making::make_command;
-use crate::showing::show_command;
+use crate::carrying::{EXPORTS, IMPORTS, with_formats};
+use crate::comparing::COMPARE;
+use crate::damaging::DAMAGE;
+use crate::logging::LOG;
+use crate::making::MAKE;
+use crate::showing::SHOW;
+use crate::texts::{ABOUT_COMPARISONS, ABOUT_DAMAGE, ABOUT_LISTINGS, ABOUT_LOGS, ABOUT_SCRIPTS};
 use clap::Command;
-use dmr_options::{COMMANDS, Listed, bare_command, command};
+use dmr_options::{COMMANDS, Listed, bare_command, command, whole_command};
 use std::alloc::{AllocError, Global};
 
 /// A command of the tools with its options, or another one by its name alone.
 fn listed_command<'a>(alloc: Global, listed: Listed) -> Result<Command<'a>, AllocError> {
     match listed {
         Listed::Run | Listed::Slot => Ok(bare_command(alloc, listed)),
-        Listed::Show => show_command(alloc),
-        Listed::Log => log_command(alloc),
-        Listed::Make => make_command(alloc),
-        Listed::Damage => damage_command(alloc),
-        Listed::Compare => compare_command(alloc),
-        Listed::Import => import_command(alloc),
-        Listed::Export => export_command(alloc),
+        Listed::Show => whole_command(alloc, listed, &SHOW, ABOUT_LISTINGS),
+        Listed::Log => whole_command(alloc, listed, &LOG, ABOUT_LOGS),
+        Listed::Make => whole_command(alloc, listed, &MAKE, ABOUT_SCRIPTS),
+        Listed::Damage => whole_command(alloc, listed, &DAMAGE, ABOUT_DAMAGE),
+        Listed::Compare => whole_command(alloc, listed, &COMPARE, ABOUT_COMPARISONS),
+        Listed::Import => with_formats(alloc, listed, &IMPORTS),
+        Listed::Export => with_formats(alloc, listed, &EXPORTS),
     }
 }
 
