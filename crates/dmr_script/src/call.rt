@@ -3,7 +3,7 @@ use crate::shape::CallShape;
 use dmr_link::FullLc;
 
 /// A call. What a script doesn't say of it is as a mobile station sends it.
-#[derive(Debug, Drop, PartialEq, Eq)]
+#[derive(Drop, PartialEq, Eq)]
 pub struct Call {
     /// The link control of its headers and terminators, and of superframes that carry the call's own.
     pub link_control: FullLc,
@@ -19,7 +19,7 @@ pub struct Call {
 }
 
 /// What a superframe carries in the embedded fields of its places B to E.
-#[derive(Clone, Copy, Debug, PartialEq, Eq)]
+#[derive(Clone, Copy, PartialEq, Eq)]
 pub enum Carried {
     /// The link control of the call.
     Own,

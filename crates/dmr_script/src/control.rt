@@ -3,7 +3,7 @@ use dmr_bits::Bits;
 use dmr_link::FullLc;
 
 /// A data burst by itself, with what it carries. ETSI TS 102 361-1, clause 9.3.6, has the data types.
-#[derive(Clone, Copy, Debug, PartialEq, Eq)]
+#[derive(Clone, Copy, PartialEq, Eq)]
 pub enum LoneBurst {
     /// A terminator with this link control.
     Terminator(FullLc),

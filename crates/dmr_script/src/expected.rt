@@ -46,28 +46,39 @@ pub enum Expected {
     End,
 }
 
+impl Expected {
+    /// How it is told, but for its word or its numbers.
+    fn text(self) -> &'static str {
+        match self {
+            Expected::Word(_) => "a word",
+            Expected::Number { .. } => "a number",
+            Expected::Address => "an address from 0 to 16777215",
+            Expected::Digits(_) => "hexadecimal digits",
+            Expected::Octets => "hexadecimal digits in pairs, or '-'",
+            Expected::Data => "hexadecimal digits in pairs, '-' or a text in quotes",
+            Expected::ShortData => "at most 1372 octets of data",
+            Expected::Alias => "a text of at most 27 letters in quotes",
+            Expected::Endpoint => "an address and a port, as 12.0.0.1:5016",
+            Expected::LinkControl => "a link control",
+            Expected::Carried => "'own', 'none', 'alias' or a link control",
+            Expected::Body => "'UDP' or 'octets'",
+            Expected::Rate => "'1/2', '3/4' or '1'",
+            Expected::Statement => "a statement",
+            Expected::Transmission => "a transmission",
+            Expected::Shape => "':' or the end of the line",
+            Expected::End => "the end of the line",
+        }
+    }
+}
+
 impl fmt::Display for Expected {
     fn fmt<W: fmt::Write>(&self, f: &mut fmt::Formatter<W>) -> fmt::Result {
+        let text = self.text();
         match *self {
             Expected::Word(word) => write!(f, "'{word}'"),
-            Expected::Number { least, greatest } => {
-                write!(f, "a number from {least} to {greatest}")
-            }
-            Expected::Address => write!(f, "an address from 0 to 16777215"),
-            Expected::Digits(count) => write!(f, "{count} hexadecimal digits"),
-            Expected::Octets => write!(f, "hexadecimal digits in pairs, or '-'"),
-            Expected::Data => write!(f, "hexadecimal digits in pairs, '-' or a text in quotes"),
-            Expected::ShortData => write!(f, "at most 1372 octets of data"),
-            Expected::Alias => write!(f, "a text of at most 27 letters in quotes"),
-            Expected::Endpoint => write!(f, "an address and a port, as 12.0.0.1:5016"),
-            Expected::LinkControl => write!(f, "a link control"),
-            Expected::Carried => write!(f, "'own', 'none', 'alias' or a link control"),
-            Expected::Body => write!(f, "'UDP' or 'octets'"),
-            Expected::Rate => write!(f, "'1/2', '3/4' or '1'"),
-            Expected::Statement => write!(f, "a statement"),
-            Expected::Transmission => write!(f, "a transmission"),
-            Expected::Shape => write!(f, "':' or the end of the line"),
-            Expected::End => write!(f, "the end of the line"),
+            Expected::Number { least, greatest } => write!(f, "{text} from {least} to {greatest}"),
+            Expected::Digits(count) => write!(f, "{count} {text}"),
+            _ => f.write_str(text),
         }
     }
 }

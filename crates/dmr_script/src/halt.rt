@@ -3,7 +3,7 @@ use crate::fault::Refusal;
 use std::alloc::{AllocError, AllocFailed};
 
 /// Why a line isn't read to its end.
-#[derive(Clone, Copy, Debug, Drop, PartialEq, Eq)]
+#[derive(Clone, Copy, Drop)]
 pub(crate) enum Halt {
     /// It is refused.
     Refused(Refusal),

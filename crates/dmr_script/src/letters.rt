@@ -16,7 +16,7 @@ use std::alloc::Global;
 const LETTER_LIMIT: usize = 1_048_576;
 
 /// A letter of a shape. Those of a strip mean the same.
-#[derive(Clone, Copy, Debug, Drop, PartialEq, Eq)]
+#[derive(Clone, Copy, Drop, PartialEq, Eq)]
 pub(crate) enum Letter {
     /// `H`, a voice LC header.
     Header,

@@ -3,7 +3,7 @@ use crate::shape::PacketShape;
 use dmr_data::{Rate, Status};
 
 /// A full try of a packet.
-#[derive(Debug, Drop, PartialEq, Eq)]
+#[derive(Drop, PartialEq, Eq)]
 pub struct PacketTry {
     /// Whether it is confirmed.
     pub confirmed: bool,
@@ -28,7 +28,7 @@ pub struct PacketTry {
 }
 
 /// What a packet carries.
-#[derive(Debug, Drop, PartialEq, Eq)]
+#[derive(Drop, PartialEq, Eq)]
 pub enum Body {
     /// A UDP datagram from 12.S to 12.T, or to 225.T where the destination is a talk group. Under SAP 3 it goes in its compressed
     /// form, and else as it is.
@@ -38,7 +38,7 @@ pub enum Body {
 }
 
 /// What a UDP datagram says behind its addresses.
-#[derive(Debug, Drop, PartialEq, Eq)]
+#[derive(Drop, PartialEq, Eq)]
 pub struct UdpMessage {
     /// The port that sends it.
     pub source_port: u16,
@@ -51,7 +51,7 @@ pub struct UdpMessage {
 }
 
 /// The last confirmed packet of the slot, tried again.
-#[derive(Debug, Drop, PartialEq, Eq)]
+#[derive(Drop, PartialEq, Eq)]
 pub enum Again {
     /// All of it. Without a shape it is its header and all of its blocks. A shape isn't held against the packet yet, since other
     /// lines say how many blocks that has.
@@ -61,7 +61,7 @@ pub enum Again {
 }
 
 /// A try of some blocks of a packet.
-#[derive(Debug, Drop, PartialEq, Eq)]
+#[derive(Drop, PartialEq, Eq)]
 pub struct PartialTry {
     /// The serial numbers of the blocks, in their order, below 127. There are from 1 to 127. They aren't held against the packet
     /// yet.
@@ -71,7 +71,7 @@ pub struct PartialTry {
 }
 
 /// Short data: a header of format 13 with S 0 and F 1, which wants no answer, and its blocks.
-#[derive(Debug, Drop, PartialEq, Eq)]
+#[derive(Drop, PartialEq, Eq)]
 pub struct ShortDataTry {
     /// The LLID that sends it, an address of 24 bits.
     pub source: u32,
@@ -88,7 +88,7 @@ pub struct ShortDataTry {
 }
 
 /// A status.
-#[derive(Debug, Drop, PartialEq, Eq)]
+#[derive(Drop, PartialEq, Eq)]
 pub struct StatusSent {
     /// Its header, which wants no answer.
     pub header: Status,
@@ -97,7 +97,7 @@ pub struct StatusSent {
 }
 
 /// An answer to a confirmed packet.
-#[derive(Debug, Drop, PartialEq, Eq)]
+#[derive(Drop, PartialEq, Eq)]
 pub struct Answer {
     /// The LLID that answers, an address of 24 bits.
     pub source: u32,
@@ -114,7 +114,7 @@ pub struct Answer {
 }
 
 /// What an answer says.
-#[derive(Debug, Drop, PartialEq, Eq)]
+#[derive(Drop, PartialEq, Eq)]
 pub enum AnswerKind {
     /// The packet came.
     Acknowledged,
@@ -125,7 +125,7 @@ pub enum AnswerKind {
 }
 
 /// The blocks that are wanted once more.
-#[derive(Debug, Drop, PartialEq, Eq)]
+#[derive(Drop, PartialEq, Eq)]
 pub struct Wanted {
     /// The serial numbers of those that are wanted, each below the number of blocks. There is at least one.
     pub serials: Vec<u8>,

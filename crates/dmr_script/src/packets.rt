@@ -2,8 +2,8 @@
 ghost use Rattle.std.specs.Prelude.{◌≡◌, ◌+◌, ◌*◌, ◌<◌, ◌≤◌, ◌^◌, length, IfOk, IfSome, IfNone, OnOk};
 ghost use Rattle.std.specs.Prelude.{All, false};
 ghost use Rattle.dmr_data.specs.Block.{payload};
-ghost use Rattle.dmr_script.specs.Fits.{FitsAgain, FitsAnswer, FitsBody, FitsKind, FitsMessage, FitsPacket, FitsShortData};
-ghost use Rattle.dmr_script.specs.Fits.{FitsStatus, FitsStatusHeader, FitsWanted, HoldsBody, body_octets, answer_flag_blocks};
+ghost use Rattle.dmr_script.specs.Fits.{FitsBody, FitsKind, FitsMessage, FitsStatusHeader, FitsTransmission, FitsWanted};
+ghost use Rattle.dmr_script.specs.Fits.{HoldsBody, body_octets, answer_flag_blocks};
 ghost use Rattle.dmr_script.specs.Fits.{compressed_port_octets};
 
 use crate::expected::Expected;
@@ -16,6 +16,7 @@ use crate::packet::{
     Wanted,
 };
 use crate::packet_shapes::{MOST_BLOCKS, any_shape, known_shape};
+use crate::statement::Transmission;
 use crate::token::{Cursor, Token};
 use dmr_data::{Rate, Status};
 use std::alloc::Global;
@@ -203,8 +204,8 @@ pub(crate) fn packet_try(
     alloc: Global,
     cursor: &mut Cursor,
     confirmed: bool,
-) -> Result<PacketTry, Halt>
-    ensures fits { IfOk result FitsPacket }
+) -> Result<Transmission, Halt>
+    ensures fits { IfOk result FitsTransmission }
 {
     let way = way_of(cursor)?;
     let sap = access_point(cursor, IP_PACKET)?;
@@ -218,7 +219,7 @@ pub(crate) fn packet_try(
         return Err(Halt::Refused(Refusal::LongPacket));
     };
     let shape = known_shape(alloc, cursor, blocks)?;
-    Ok(PacketTry {
+    Ok(Transmission::Packet(PacketTry {
         confirmed,
         source: way.source,
         group: way.group,
@@ -229,14 +230,15 @@ pub(crate) fn packet_try(
         wanted: confirmed && !unanswered,
         body,
         shape,
-    })
+    }))
 }
 
 /// `full`: a try of all of the last packet.
-pub(crate) fn full_try(alloc: Global, cursor: &mut Cursor) -> Result<Again, Halt>
-    ensures fits { IfOk result FitsAgain }
+pub(crate) fn full_try(alloc: Global, cursor: &mut Cursor) -> Result<Transmission, Halt>
+    ensures fits { IfOk result FitsTransmission }
 {
-    Ok(Again::Full(any_shape(alloc, cursor)?))
+    let shape = any_shape(alloc, cursor)?;
+    Ok(Transmission::Again(Again::Full(shape)))
 }
 
 /// Adds the serial number of a block.
@@ -256,8 +258,8 @@ fn add_serial(serials: &mut Vec<u8>, cursor: &mut Cursor) -> Result<(), Halt>
 }
 
 /// `partial N N ..`: a try of these blocks of the last packet.
-pub(crate) fn partial_try(alloc: Global, cursor: &mut Cursor) -> Result<Again, Halt>
-    ensures fits { IfOk result FitsAgain }
+pub(crate) fn partial_try(alloc: Global, cursor: &mut Cursor) -> Result<Transmission, Halt>
+    ensures fits { IfOk result FitsTransmission }
 {
     let mut serials = Vec::new(alloc);
     add_serial(&mut serials, cursor)?;
@@ -265,12 +267,13 @@ pub(crate) fn partial_try(alloc: Global, cursor: &mut Cursor) -> Result<Again, H
         add_serial(&mut serials, cursor)?;
     }
     let shape = known_shape(alloc, cursor, serials.len())?;
-    Ok(Again::Partial(PartialTry { serials, shape }))
+    let part = PartialTry { serials, shape };
+    Ok(Transmission::Again(Again::Partial(part)))
 }
 
 /// Short data behind its first word: `data S -> [group] T, format N, octets HEX`.
-pub(crate) fn short_data_try(alloc: Global, cursor: &mut Cursor) -> Result<ShortDataTry, Halt>
-    ensures fits { IfOk result FitsShortData }
+pub(crate) fn short_data_try(alloc: Global, cursor: &mut Cursor) -> Result<Transmission, Halt>
+    ensures fits { IfOk result FitsTransmission }
 {
     cursor.expect(Keyword::Data)?;
     let way = way_of(cursor)?;
@@ -282,14 +285,14 @@ pub(crate) fn short_data_try(alloc: Global, cursor: &mut Cursor) -> Result<Short
         return Err(Halt::Refused(Refusal::LongShortData));
     };
     let shape = known_shape(alloc, cursor, blocks)?;
-    Ok(ShortDataTry {
+    Ok(Transmission::ShortData(ShortDataTry {
         source: way.source,
         group: way.group,
         destination: way.destination,
         format,
         octets,
         shape,
-    })
+    }))
 }
 
 /// The header of a status behind its first word: `S -> [group] T, port N -> N, status N`.
@@ -315,12 +318,12 @@ fn status_header(cursor: &mut Cursor) -> Result<Status, Refusal>
 }
 
 /// A status behind its first word.
-pub(crate) fn status_sent(alloc: Global, cursor: &mut Cursor) -> Result<StatusSent, Halt>
-    ensures fits { IfOk result FitsStatus }
+pub(crate) fn status_sent(alloc: Global, cursor: &mut Cursor) -> Result<Transmission, Halt>
+    ensures fits { IfOk result FitsTransmission }
 {
     let header = status_header(cursor)?;
     let shape = known_shape(alloc, cursor, 0)?;
-    Ok(StatusSent { header, shape })
+    Ok(Transmission::Status(StatusSent { header, shape }))
 }
 
 /// The front of an answer: `S -> T, N(S) N`.
@@ -354,22 +357,22 @@ pub(crate) fn plain_answer(
     alloc: Global,
     cursor: &mut Cursor,
     kind: AnswerKind,
-) -> Result<Answer, Halt>
+) -> Result<Transmission, Halt>
     requires kind { FitsKind kind }
     requires none { answer_flag_blocks kind ≡ 0 }
-    ensures fits { IfOk result FitsAnswer }
+    ensures fits { IfOk result FitsTransmission }
 {
     let front = front_of(cursor)?;
     let sap = access_point(cursor, IP_PACKET)?;
     let shape = known_shape(alloc, cursor, 0)?;
-    Ok(Answer {
+    Ok(Transmission::Answer(Answer {
         source: front.source,
         destination: front.destination,
         number: front.number,
         sap,
         kind,
         shape,
-    })
+    }))
 }
 
 /// The blocks that are wanted behind their word: `N N .. of N`.
@@ -389,8 +392,8 @@ fn wanted_blocks(alloc: Global, cursor: &mut Cursor) -> Result<Wanted, Halt>
 }
 
 /// Selective repeat behind its first word.
-pub(crate) fn selective_repeat(alloc: Global, cursor: &mut Cursor) -> Result<Answer, Halt>
-    ensures fits { IfOk result FitsAnswer }
+pub(crate) fn selective_repeat(alloc: Global, cursor: &mut Cursor) -> Result<Transmission, Halt>
+    ensures fits { IfOk result FitsTransmission }
 {
     cursor.expect(Keyword::Repeat)?;
     let front = front_of(cursor)?;
@@ -399,12 +402,12 @@ pub(crate) fn selective_repeat(alloc: Global, cursor: &mut Cursor) -> Result<Ans
     let sap = access_point(cursor, IP_PACKET)?;
     let flags = if wanted.blocks > FLAGS { 2 } else { 1 };
     let shape = known_shape(alloc, cursor, flags)?;
-    Ok(Answer {
+    Ok(Transmission::Answer(Answer {
         source: front.source,
         destination: front.destination,
         number: front.number,
         sap,
         kind: AnswerKind::SelectiveRepeat(wanted),
         shape,
-    })
+    }))
 }

@@ -3,7 +3,7 @@ use crate::fault::RefusedLine;
 use crate::statement::NumberedStatement;
 
 /// What was read of a script: the statements up to its end, or those in front of the first line that is refused.
-#[derive(Debug, Drop, PartialEq, Eq)]
+#[derive(Drop, PartialEq, Eq)]
 pub struct Script {
     /// The statements, by their lines.
     pub statements: Vec<NumberedStatement>,

@@ -3,7 +3,7 @@ use crate::packet::UdpMessage;
 use dmr_data::Rate;
 
 /// A datagram for the outgoing list, in the slot that is named.
-#[derive(Debug, Drop, PartialEq, Eq)]
+#[derive(Drop, PartialEq, Eq)]
 pub struct Send {
     /// The downlink frame in which it is offered.
     pub frame: u32,
@@ -16,7 +16,7 @@ pub struct Send {
 }
 
 /// What a record of the outgoing list holds.
-#[derive(Debug, Drop, PartialEq, Eq)]
+#[derive(Drop, PartialEq, Eq)]
 pub enum Datagram {
     /// A UDP datagram over IPv4.
     Udp(AddressedMessage),
@@ -25,7 +25,7 @@ pub enum Datagram {
 }
 
 /// A UDP datagram over IPv4 between any addresses.
-#[derive(Debug, Drop, PartialEq, Eq)]
+#[derive(Drop, PartialEq, Eq)]
 pub struct AddressedMessage {
     /// The address that sends it.
     pub source: [u8; 4],

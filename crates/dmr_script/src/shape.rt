@@ -8,7 +8,7 @@ use std::fmt;
 ///
 /// A call of another colour code has shapes of the same kind. It begins and ends with a burst, and behind each of its voice syncs
 /// one of the five places that follow is there.
-#[derive(Debug, Drop, PartialEq, Eq)]
+#[derive(Drop, PartialEq, Eq)]
 pub struct CallShape {
     /// What stands in front of the first place.
     pub start: CallStart,
@@ -21,7 +21,7 @@ pub struct CallShape {
 }
 
 /// What stands in front of the first A of a call.
-#[derive(Debug, Drop, PartialEq, Eq)]
+#[derive(Drop, PartialEq, Eq)]
 pub enum CallStart {
     /// A voice LC header, further headers, and silences.
     Headers(Headers),
@@ -31,7 +31,7 @@ pub enum CallStart {
 }
 
 /// The headers of a call. The first one is a voice LC header.
-#[derive(Debug, Drop, PartialEq, Eq)]
+#[derive(Drop, PartialEq, Eq)]
 pub struct Headers {
     /// The headers behind the first.
     pub more: Vec<HeaderKind>,
@@ -40,7 +40,7 @@ pub struct Headers {
 }
 
 /// What a header of a call is.
-#[derive(Clone, Copy, Debug, Drop, PartialEq, Eq)]
+#[derive(Clone, Copy, Drop, PartialEq, Eq)]
 pub enum HeaderKind {
     /// A voice LC header.
     Voice,
@@ -49,7 +49,7 @@ pub enum HeaderKind {
 }
 
 /// Which bursts of a packet are sent: preambles, its header always, and blocks.
-#[derive(Debug, Drop, PartialEq, Eq)]
+#[derive(Drop, PartialEq, Eq)]
 pub struct PacketShape {
     /// How many preambles stand in front of the header. Each counts what follows, so with the blocks they are at most 255.
     pub preambles: u8,

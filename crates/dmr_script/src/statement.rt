@@ -6,7 +6,7 @@ use crate::send::Send;
 use dmr_csbk::Csbk;
 
 /// What a line of a script says. This project's own.
-#[derive(Debug, Drop, PartialEq, Eq)]
+#[derive(Drop, PartialEq, Eq)]
 pub enum Statement {
     /// `colour N`: the own colour code, from 0 to 15.
     Colour(u8),
@@ -25,7 +25,7 @@ pub enum Statement {
 }
 
 /// A statement, and the line that says it.
-#[derive(Debug, Drop, PartialEq, Eq)]
+#[derive(Drop, PartialEq, Eq)]
 pub struct NumberedStatement {
     /// The number of the line, from 1.
     pub line: u64,
@@ -34,7 +34,7 @@ pub struct NumberedStatement {
 }
 
 /// A slot of a frame.
-#[derive(Clone, Copy, Debug, Drop, PartialEq, Eq)]
+#[derive(Clone, Copy, Drop, PartialEq, Eq)]
 pub enum Slot {
     /// Slot 1.
     One,
@@ -43,7 +43,7 @@ pub enum Slot {
 }
 
 /// Which colour code a transmission has.
-#[derive(Clone, Copy, Debug, Drop, PartialEq, Eq)]
+#[derive(Clone, Copy, Drop, PartialEq, Eq)]
 pub enum Sender {
     /// The own one.
     Own,
@@ -52,7 +52,7 @@ pub enum Sender {
 }
 
 /// A transmission, and the colour code that it is sent with.
-#[derive(Debug, Drop, PartialEq, Eq)]
+#[derive(Drop, PartialEq, Eq)]
 pub struct Transmit {
     /// Whose it is.
     pub sender: Sender,
@@ -61,7 +61,7 @@ pub struct Transmit {
 }
 
 /// What is sent.
-#[derive(Debug, Drop, PartialEq, Eq)]
+#[derive(Drop, PartialEq, Eq)]
 pub enum Transmission {
     /// A call, from its headers to its terminators, or a part of one.
     Call(Call),

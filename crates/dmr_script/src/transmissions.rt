@@ -86,18 +86,18 @@ fn begun_packet(
     ensures fits { IfOk result (λ transmission. IfSome transmission FitsTransmission) }
 {
     let transmission = match word {
-        b"unconfirmed" => Transmission::Packet(packet_try(alloc, cursor, false)?),
-        b"confirmed" => Transmission::Packet(packet_try(alloc, cursor, true)?),
-        b"full" => Transmission::Again(full_try(alloc, cursor)?),
-        b"partial" => Transmission::Again(partial_try(alloc, cursor)?),
-        b"short" => Transmission::ShortData(short_data_try(alloc, cursor)?),
-        b"status" => Transmission::Status(status_sent(alloc, cursor)?),
-        b"ACK" => { Transmission::Answer(plain_answer(alloc, cursor, AnswerKind::Acknowledged)?) }
-        b"failed" => Transmission::Answer(plain_answer(alloc, cursor, AnswerKind::Failed)?),
-        b"selective" => Transmission::Answer(selective_repeat(alloc, cursor)?),
+        b"unconfirmed" => packet_try(alloc, cursor, false),
+        b"confirmed" => packet_try(alloc, cursor, true),
+        b"full" => full_try(alloc, cursor),
+        b"partial" => partial_try(alloc, cursor),
+        b"short" => short_data_try(alloc, cursor),
+        b"status" => status_sent(alloc, cursor),
+        b"ACK" => plain_answer(alloc, cursor, AnswerKind::Acknowledged),
+        b"failed" => plain_answer(alloc, cursor, AnswerKind::Failed),
+        b"selective" => selective_repeat(alloc, cursor),
         _ => return Ok(None),
     };
-    Ok(Some(transmission))
+    Ok(Some(transmission?))
 }
 
 /// The transmission that begins with this word, to the end of the line.
