@@ -159,10 +159,7 @@ pub(crate) fn with_memory<T>(made: Result<T, AllocError>) -> Result<T, RunFault>
 }
 
 /// What a run ends with where a file can't be written out.
-fn with_octets<W: Drop>(
-    written: Result<W, DeviceFault>,
-    stream: Stream,
-) -> Result<(), RunFault>
+fn with_octets<W: Drop>(written: Result<W, DeviceFault>, stream: Stream) -> Result<(), RunFault>
     ensures fault { IfErr result (λ e. e ≡ RunFault.File stream RecordFault.Write) }
 {
     match written {
