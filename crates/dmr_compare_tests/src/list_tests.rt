@@ -1,11 +1,12 @@
 //! What is printed of two lists. The lines are worked out from docs/protocol.md, and so are the counts.
 use crate::recordings::UPLINK;
 use crate::tests::{
-    ALL, NAMES, NEVER, Wanted, expect, expect_octets, expect_read_failure, expect_write_failure,
+    ALL, NEVER, Wanted, expect, expect_alike_by_octets, expect_octets, expect_read_failure,
+    expect_write_failure, octets_of,
 };
-use dmr_compare::{CompareSettings, Ignored, Shift, compare};
-use dmr_record::{FromRead, ToWrite};
-use dmr_test_devices::OneByOne;
+use dmr_compare::{CompareSettings, Ignored, Shift};
+use hex::FromHexError;
+use std::alloc::{AllocError, Global};
 use std::process::Abort;
 use std::test::Fail;
 
@@ -14,12 +15,9 @@ const OUTGOING: &str = "444D524F01000000";
 
 const RECEIVED: &str = "444D524901000000";
 
-/// The record of the sample `datagram_sent`, and the line that a listing has of it.
+/// The record of the sample `datagram_sent`.
 const DATAGRAM: &str = "02000000050100001C\
     4500001C123400004011509B0C0000010C0000021398139A0008C0A9";
-
-const DATAGRAM_LINE: &str = "     \
-    0.30       5 1  unconfirmed, rate 1/2, 28 octets: UDP 12.0.0.1:5016 -> 12.0.0.2:5018, 0 octets of data";
 
 /// An outgoing record of two octets, and its line.
 const SENT: &str = "020000000501000002AB01";
@@ -44,37 +42,31 @@ fn expect_difference(
     first: (&str, &str),
     second: (&str, &str),
 ) -> Result<(), Fail> {
-    let alloc = rt.alloc();
-    let one = format!(in alloc; "{head}{}", first.0)?;
-    let other = format!(in alloc; "{head}{}", second.0)?;
-    let lines = format!(in alloc; "A  {}\nB  {}\n{ONE_DIFFERS}", first.1, second.1)?;
+    let lines = format!(in rt.alloc(); "A  {}\nB  {}\n{ONE_DIFFERS}", first.1, second.1)?;
     let wanted = Wanted {
         status: 1,
         out: lines.as_str(),
         err: "",
     };
-    expect(rt, ALL, one.as_str(), other.as_str(), &wanted)
+    expect(rt, ALL, &[head, first.0], &[head, second.0], &wanted)
 }
 
 #[test]
 fn lists_alike(rt: HostRuntime) -> Result<(), Fail> {
-    let alloc = rt.alloc();
-    let wanted = Wanted {
-        status: 0,
-        out: ONE_ALIKE,
-        err: "",
-    };
-    let outgoing = format!(in alloc; "{OUTGOING}{DATAGRAM}")?;
-    expect(&rt, ALL, outgoing.as_str(), outgoing.as_str(), &wanted)?;
-    let received = format!(in alloc; "{RECEIVED}{STATUS}")?;
-    expect(&rt, ALL, received.as_str(), received.as_str(), &wanted)?;
-    let empty = Wanted {
-        status: 0,
-        out: NOTHING,
-        err: "",
-    };
-    expect(&rt, ALL, OUTGOING, OUTGOING, &empty)?;
-    expect(&rt, ALL, RECEIVED, RECEIVED, &empty)
+    for (head, record, out) in [
+        (OUTGOING, DATAGRAM, ONE_ALIKE),
+        (RECEIVED, STATUS, ONE_ALIKE),
+        (OUTGOING, "", NOTHING),
+        (RECEIVED, "", NOTHING),
+    ] {
+        let wanted = Wanted {
+            status: 0,
+            out,
+            err: "",
+        };
+        expect(&rt, ALL, &[head, record], &[head, record], &wanted)?;
+    }
+    Ok(())
 }
 
 #[test]
@@ -170,82 +162,120 @@ fn received_records(rt: HostRuntime) -> Result<(), Fail> {
     Ok(())
 }
 
-#[test]
-fn octets_that_no_line_shows(rt: HostRuntime) -> Result<(), Fail> {
-    let alloc = rt.alloc();
-    // The line of an outgoing record shows 1,400 octets at most, and the last one differs.
-    let mut first = hex::decode(alloc, OUTGOING.as_bytes())?;
-    for octet in [2, 0, 0, 0, 5, 1, 0, 255, 255] {
-        first.push(octet)?;
-    }
-    for _ in 0..65_534 {
-        first.push(0)?;
-    }
-    let mut second = first.clone()?;
-    first.push(1)?;
-    second.push(2)?;
+/// An outgoing list of one record with as many octets as there can be, which are 0 but for the last one.
+fn list_of_a_long_record(rt: &impl AllocGlobal, last: u8) -> Result<Vec<u8>, FromHexError> {
+    let mut list = octets_of(rt, &[OUTGOING, "02000000050100FFFF"])?;
+    let zeros = vec![in rt.alloc(); 0u8; 65_534]?;
+    list.extend_from_slice(zeros.as_slice())?;
+    list.extend_from_slice(&[last])?;
+    Ok(list)
+}
+
+/// What is printed of two such lists. The line of an outgoing record shows 1,400 octets at most.
+fn lines_of_long_records(alloc: Global) -> Result<String, AllocError> {
     let shown = format!(in alloc;
         "     0.30       5 1  unconfirmed, rate 1/2, 65535 octets: {:02800}",
         0
     )?;
-    let lines = format!(in alloc; "A  {shown}\nB  {shown}  [differ: 1 octets]\n{ONE_DIFFERS}")?;
+    format!(in alloc; "A  {shown}\nB  {shown}  [differ: 1 octets]\n{ONE_DIFFERS}")
+}
+
+#[test]
+fn octets_that_no_line_shows(rt: HostRuntime) -> Result<(), Fail> {
+    let first = list_of_a_long_record(&rt, 1)?;
+    let second = list_of_a_long_record(&rt, 2)?;
+    let lines = lines_of_long_records(rt.alloc())?;
     let wanted = Wanted {
         status: 1,
         out: lines.as_str(),
         err: "",
     };
-    expect_octets(&rt, ALL, first.as_slice(), second.as_slice(), &wanted)
+    expect_octets(&rt, ALL, first.as_slice(), second.as_slice(), &wanted);
+    Ok(())
 }
 
 #[test]
 fn one_list_is_longer(rt: HostRuntime) -> Result<(), Fail> {
-    let alloc = rt.alloc();
-    let one = format!(in alloc; "{OUTGOING}{SENT}")?;
-    let two = format!(in alloc; "{OUTGOING}{SENT}{DATAGRAM}")?;
-    let longer = Wanted {
-        status: 1,
-        out: "records 2 same 1 different 0 only-in-A 0 only-in-B 1\n",
-        err: "",
-    };
-    expect(&rt, ALL, one.as_str(), two.as_str(), &longer)?;
-    let shorter = Wanted {
-        status: 1,
-        out: "records 2 same 1 different 0 only-in-A 1 only-in-B 0\n",
-        err: "",
-    };
-    expect(&rt, ALL, two.as_str(), one.as_str(), &shorter)?;
-    // Record by record: where one is left out, all behind it are compared with the next one.
-    let left_out = format!(in alloc; "{OUTGOING}{DATAGRAM}")?;
-    let lines = format!(in alloc;
-        "A  {SENT_LINE}\nB  {DATAGRAM_DIFFERS}\nrecords 2 same 0 different 1 only-in-A 1 only-in-B 0\n"
+    for (first, second, out) in [
+        (
+            "",
+            DATAGRAM,
+            "records 2 same 1 different 0 only-in-A 0 only-in-B 1\n",
+        ),
+        (
+            DATAGRAM,
+            "",
+            "records 2 same 1 different 0 only-in-A 1 only-in-B 0\n",
+        ),
+    ] {
+        let wanted = Wanted {
+            status: 1,
+            out,
+            err: "",
+        };
+        let first = [OUTGOING, SENT, first];
+        let second = [OUTGOING, SENT, second];
+        expect(&rt, ALL, &first, &second, &wanted)?;
+    }
+    Ok(())
+}
+
+/// The lines of the record of two octets and of the datagram, which differ.
+const SENT_AND_DATAGRAM: &str = "\
+A       0.30       5 1  unconfirmed, rate 1/2, 2 octets: AB01
+B       0.30       5 1  unconfirmed, rate 1/2, 28 octets: UDP 12.0.0.1:5016 -> 12.0.0.2:5018, 0 octets of data  \
+    [differ: 28 octets]
+";
+
+/// Record by record: where one is left out, all behind it are compared with the next one.
+#[test]
+fn a_record_is_left_out(rt: HostRuntime) -> Result<(), Fail> {
+    let lines = format!(in rt.alloc();
+        "{SENT_AND_DATAGRAM}records 2 same 0 different 1 only-in-A 1 only-in-B 0\n"
     )?;
     let wanted = Wanted {
         status: 1,
         out: lines.as_str(),
         err: "",
     };
-    expect(&rt, ALL, two.as_str(), left_out.as_str(), &wanted)
+    let two = [OUTGOING, SENT, DATAGRAM];
+    expect(&rt, ALL, &two, &[OUTGOING, DATAGRAM], &wanted)
 }
 
-#[test]
-fn settings_of_lists(rt: HostRuntime) -> Result<(), Fail> {
-    let alloc = rt.alloc();
-    let received = format!(in alloc; "{RECEIVED}{STATUS}")?;
+/// A list of no record or one is compared with itself with this shift, which is refused.
+fn expect_no_shift(
+    rt: &(impl Abort + AllocGlobal),
+    shift: Shift,
+    head: &str,
+    record: &str,
+) -> Result<(), Fail> {
+    let shifted = CompareSettings {
+        shift: Some(shift),
+        ..ALL
+    };
     let refused = Wanted {
         status: 2,
         out: "",
         err: "error: one.dmrd: a list has no shift\n",
     };
+    expect(rt, shifted, &[head, record], &[head, record], &refused)
+}
+
+#[test]
+fn no_shift_of_lists(rt: HostRuntime) -> Result<(), Fail> {
     for shift in [Shift::Later(0), Shift::Earlier(0), Shift::Later(3)] {
-        let shifted = CompareSettings {
-            shift: Some(shift),
-            ..ALL
-        };
-        expect(&rt, shifted, received.as_str(), received.as_str(), &refused)?;
-        expect(&rt, shifted, OUTGOING, OUTGOING, &refused)?;
+        expect_no_shift(&rt, shift, RECEIVED, STATUS)?;
+        expect_no_shift(&rt, shift, OUTGOING, "")?;
     }
-    // Nothing is ignored of lists, and differences may be counted alone.
-    let other = format!(in alloc; "{RECEIVED}03000000060102000003000401020006")?;
+    Ok(())
+}
+
+/// Another status than that of the sample.
+const OTHER_STATUS: &str = "03000000060102000003000401020006";
+
+/// Nothing is ignored of lists, and differences may be counted alone.
+#[test]
+fn settings_of_lists(rt: HostRuntime) -> Result<(), Fail> {
     let quiet = CompareSettings {
         shift: None,
         ignored: Ignored {
@@ -259,71 +289,88 @@ fn settings_of_lists(rt: HostRuntime) -> Result<(), Fail> {
         out: ONE_DIFFERS,
         err: "",
     };
-    expect(&rt, quiet, received.as_str(), other.as_str(), &wanted)
+    let first = [RECEIVED, STATUS];
+    let second = [RECEIVED, OTHER_STATUS];
+    expect(&rt, quiet, &first, &second, &wanted)
 }
 
 #[test]
 fn kinds_of_lists(rt: HostRuntime) -> Result<(), Fail> {
-    let wanted = Wanted {
-        status: 2,
-        out: "",
-        err: "error: two?.dmrd: another kind of file than one.dmrd\n",
-    };
-    expect(&rt, ALL, OUTGOING, RECEIVED, &wanted)?;
-    expect(&rt, ALL, RECEIVED, OUTGOING, &wanted)?;
-    expect(&rt, ALL, UPLINK, RECEIVED, &wanted)?;
-    let shifted = CompareSettings {
-        shift: Some(Shift::Later(1)),
-        ..ALL
-    };
-    expect(&rt, shifted, OUTGOING, UPLINK, &wanted)
+    for (shift, first, second) in [
+        (None, OUTGOING, RECEIVED),
+        (None, RECEIVED, OUTGOING),
+        (None, UPLINK, RECEIVED),
+        (Some(Shift::Later(1)), OUTGOING, UPLINK),
+    ] {
+        let wanted = Wanted {
+            status: 2,
+            out: "",
+            err: "error: two?.dmrd: another kind of file than one.dmrd\n",
+        };
+        let settings = CompareSettings { shift, ..ALL };
+        expect(&rt, settings, &[first], &[second], &wanted)?;
+    }
+    Ok(())
 }
 
+/// The second list ends inside its second record, which begins behind 8 octets and 37.
 #[test]
-fn faults_of_lists(rt: HostRuntime) -> Result<(), Fail> {
-    let alloc = rt.alloc();
-    let lines = format!(in alloc; "A  {SENT_LINE}\nB  {DATAGRAM_DIFFERS}\n")?;
-    let whole = format!(in alloc; "{OUTGOING}{SENT}{SENT}")?;
-    // The second list ends inside its second record, which begins behind 8 octets and 37.
-    let cut = format!(in alloc; "{OUTGOING}{DATAGRAM}02000000")?;
+fn a_cut_list(rt: HostRuntime) -> Result<(), Fail> {
+    let whole = [OUTGOING, SENT, SENT];
+    let cut = [OUTGOING, DATAGRAM, "02000000"];
     let wanted = Wanted {
         status: 2,
-        out: lines.as_str(),
+        out: SENT_AND_DATAGRAM,
         err: "error: two?.dmrd: cut record at octet 45\n",
     };
-    expect(&rt, ALL, whole.as_str(), cut.as_str(), &wanted)?;
-    // The first has a record of an earlier frame there, behind 8 octets and 11.
-    let early = format!(in alloc; "{OUTGOING}{SENT}020000000401000000")?;
-    let behind = format!(in alloc; "{OUTGOING}{DATAGRAM}{DATAGRAM}")?;
+    expect(&rt, ALL, &whole, &cut, &wanted)
+}
+
+/// The first has a record of an earlier frame there, behind 8 octets and 11.
+#[test]
+fn a_list_with_an_earlier_frame(rt: HostRuntime) -> Result<(), Fail> {
+    let early = [OUTGOING, SENT, "020000000401000000"];
+    let behind = [OUTGOING, DATAGRAM, DATAGRAM];
     let wanted = Wanted {
         status: 2,
-        out: lines.as_str(),
+        out: SENT_AND_DATAGRAM,
         err: "error: one.dmrd: frame order at octet 19\n",
     };
-    expect(&rt, ALL, early.as_str(), behind.as_str(), &wanted)?;
-    // A status behind a status of the same slot, behind 8 octets and 16, which nothing is compared with.
-    let twice = format!(in alloc; "{RECEIVED}{STATUS}{STATUS}")?;
-    let once = format!(in alloc; "{RECEIVED}{STATUS}")?;
+    expect(&rt, ALL, &early, &behind, &wanted)
+}
+
+/// A status behind a status of the same slot, behind 8 octets and 16, which nothing is compared with.
+#[test]
+fn a_status_behind_a_status(rt: HostRuntime) -> Result<(), Fail> {
+    let once = [RECEIVED, STATUS];
+    let twice = [RECEIVED, STATUS, STATUS];
     let wanted = Wanted {
         status: 2,
         out: "",
         err: "error: two?.dmrd: frame order at octet 24\n",
     };
-    expect(&rt, ALL, once.as_str(), twice.as_str(), &wanted)
+    expect(&rt, ALL, &once, &twice, &wanted)
 }
 
 #[test]
-fn failing_devices_of_lists(rt: HostRuntime) -> Result<(), Fail> {
-    let alloc = rt.alloc();
-    let first = format!(in alloc; "{RECEIVED}{STATUS}")?;
-    let first = hex::decode(alloc, first.as_bytes())?;
+fn failing_sources_of_lists(rt: HostRuntime) -> Result<(), Fail> {
+    let list = octets_of(&rt, &[RECEIVED, STATUS])?;
     // The head is one call, and a record three: its tag, its fields and its octets.
-    for (calls, octet) in [(0, 0), (1, 8), (3, 8), (4, 24)] {
-        let told = format!(in alloc; "error: two?.dmrd: read failed at octet {octet}\n")?;
-        expect_read_failure(&rt, first.as_slice(), NEVER, calls, told.as_str());
+    for (calls, told) in [
+        (0, "error: two?.dmrd: read failed at octet 0\n"),
+        (1, "error: two?.dmrd: read failed at octet 8\n"),
+        (3, "error: two?.dmrd: read failed at octet 8\n"),
+        (4, "error: two?.dmrd: read failed at octet 24\n"),
+    ] {
+        expect_read_failure(&rt, list.as_slice(), NEVER, calls, told);
     }
-    let second = format!(in alloc; "{RECEIVED}03000000060102000003000401020006")?;
-    let second = hex::decode(alloc, second.as_bytes())?;
+    Ok(())
+}
+
+#[test]
+fn failing_sinks_of_lists(rt: HostRuntime) -> Result<(), Fail> {
+    let first = octets_of(&rt, &[RECEIVED, STATUS])?;
+    let second = octets_of(&rt, &[RECEIVED, OTHER_STATUS])?;
     // The first line is one write, the second two, and the counts are one.
     for (fails, lines) in [(0, 0), (1, 1), (2, 1), (3, 2)] {
         expect_write_failure(&rt, first.as_slice(), second.as_slice(), fails, lines);
@@ -333,23 +380,7 @@ fn failing_devices_of_lists(rt: HostRuntime) -> Result<(), Fail> {
 
 #[test]
 fn a_list_octet_by_octet(rt: HostRuntime) -> Result<(), Fail> {
-    let alloc = rt.alloc();
-    let octets = format!(in alloc; "{OUTGOING}{DATAGRAM}")?;
-    let octets = hex::decode(alloc, octets.as_bytes())?;
-    let mut one = OneByOne::new(octets.as_slice());
-    let mut other = FromRead::new(octets.as_slice());
-    let mut output = ToWrite::new(Vec::new(alloc));
-    let mut errors = ToWrite::new(Vec::new(alloc));
-    let status = compare(
-        alloc,
-        &ALL,
-        &NAMES,
-        &mut one,
-        &mut other,
-        &mut output,
-        &mut errors,
-    );
-    assert_eq!(&rt; status, 0);
-    assert!(&rt; output.into_inner().as_slice() == ONE_ALIKE.as_bytes());
+    let octets = octets_of(&rt, &[OUTGOING, DATAGRAM])?;
+    expect_alike_by_octets(&rt, octets.as_slice(), ONE_ALIKE);
     Ok(())
 }

@@ -1,9 +1,11 @@
 //! What is printed of logs as pages.
 use crate::recordings::{PACKETS, SCENE};
+use crate::tests::{are_pieces, are_same, is_text};
 use dmr_log_forms::StartTime;
 use dmr_log_page::{PageSettings, print_page};
 use dmr_record::{FromRead, ToWrite};
 use dmr_test_devices::FailsAt;
+use std::alloc::{AllocError, Global};
 use std::process::Abort;
 use std::test::Fail;
 
@@ -14,56 +16,59 @@ const PLAIN: PageSettings = PageSettings {
     start: None,
 };
 
-/// A file: the head of an uplink, so many silent frames, and what stands behind the head of a file in digits.
-fn later(rt: &impl AllocGlobal, frames: usize, file: &str) -> Result<Vec<u8>, Fail> {
-    let alloc = rt.alloc();
-    let octets = hex::decode(alloc, file.as_bytes())?;
+/// An uplink: its head, so many silent frames, and these octets.
+fn behind_silence(alloc: Global, frames: usize, octets: &[u8]) -> Result<Vec<u8>, AllocError> {
     let mut made = Vec::new(alloc);
     made.extend_from_slice(b"DMRU\x01\0\0\0")?;
     for _frame in 0..frames {
         made.extend_from_slice(b"\0\0")?;
     }
-    made.extend_from_slice(octets.get(8..).unwrap_or_default())?;
+    made.extend_from_slice(octets)?;
     Ok(made)
 }
 
-/// The page of a file of this name, behind its style, which ends with this status and this on the second sink.
+/// A file: the head of an uplink, so many silent frames, and what stands behind the head of a file in digits.
+fn later(rt: &impl AllocGlobal, frames: usize, file: &str) -> Result<Vec<u8>, Fail> {
+    let octets = hex::decode(rt.alloc(), file.as_bytes())?;
+    let made = behind_silence(rt.alloc(), frames, octets.get(8..).unwrap_or_default())?;
+    Ok(made)
+}
+
+/// The page of a file of this name, which ends with this status and this on the second sink.
 fn page_that_ends(
     rt: &(impl Abort + AllocGlobal),
     name: &str,
     file: &[u8],
-    settings: PageSettings,
+    settings: &PageSettings,
     status: u8,
     err: &str,
-) -> Result<String, Fail> {
+) -> Vec<u8> {
     let alloc = rt.alloc();
     let mut source = FromRead::new(file);
     let mut output = ToWrite::new(Vec::new(alloc));
     let mut errors = ToWrite::new(Vec::new(alloc));
-    let ended = print_page(
-        alloc,
-        name,
-        &settings,
-        &mut source,
-        &mut output,
-        &mut errors,
-    );
-    let told = errors.into_inner();
-    assert_eq!(rt; str::from_utf8(told.as_slice())?, err);
-    assert_eq!(rt; ended, status);
-    let printed = output.into_inner();
-    let page = str::from_utf8(printed.as_slice())?;
-    let (_, shown) = page.split_once("</style>").unwrap_or_default();
-    Ok(String::from_str(alloc, shown)?)
+    let ended = print_page(alloc, name, settings, &mut source, &mut output, &mut errors);
+    is_text(rt, "errors", errors.into_inner().as_slice(), err);
+    are_same(rt, "status", &ended, &status);
+    output.into_inner()
 }
 
-/// The page of a whole file, behind its style.
+/// The page of a whole file behind so many silent frames.
 fn page(
     rt: &(impl Abort + AllocGlobal),
-    file: &[u8],
-    settings: PageSettings,
-) -> Result<String, Fail> {
-    page_that_ends(rt, "up.dmru", file, settings, 0, "")
+    frames: usize,
+    file: &str,
+    settings: &PageSettings,
+) -> Result<Vec<u8>, Fail> {
+    let octets = later(rt, frames, file)?;
+    Ok(page_that_ends(rt, "up.dmru", octets.as_slice(), settings, 0, ""))
+}
+
+/// What stands in a page behind its style.
+fn behind_style(page: &[u8]) -> &str {
+    let page = str::from_utf8(page).unwrap_or("</style>no text");
+    let (_, shown) = page.split_once("</style>").unwrap_or_default();
+    shown
 }
 
 /// The legend.
@@ -136,42 +141,61 @@ const COUNTS: &str = "2 calls, 1 packet, 0 rows of control blocks; 23 bursts rep
 
 #[test]
 fn a_whole_page(rt: HostRuntime) -> Result<(), Fail> {
-    let alloc = rt.alloc();
-    let picture = format!(in alloc;
-        "<h2>minute 0</h2><svg viewBox=\"0 0 1040 106\">\n<g transform=\"translate(0,0)\">\n{TICKS}{SLOTS}</g>\n</svg>\n"
-    )?;
-    let wanted = format!(in alloc;
-        "\n<h1>up.dmru</h1><p>uplink recording; colour code 1</p>\n{LEGEND}{picture}\
-        {TABLE}{STATUS}{CALL}{LATE_CALL}</table>\n<p>40 frames, 2.40 s; {COUNTS}</p>\n"
-    )?;
-    let printed = page(&rt, later(&rt, 0, SCENE)?.as_slice(), PLAIN)?;
-    assert_eq!(rt; printed.as_str(), wanted.as_str());
+    let printed = page(&rt, 0, SCENE, &PLAIN)?;
+    let wanted = [
+        "\n<h1>up.dmru</h1><p>uplink recording; colour code 1</p>\n",
+        LEGEND,
+        "<h2>minute 0</h2><svg viewBox=\"0 0 1040 106\">\n<g transform=\"translate(0,0)\">\n",
+        TICKS,
+        SLOTS,
+        "</g>\n</svg>\n",
+        TABLE,
+        STATUS,
+        CALL,
+        LATE_CALL,
+        "</table>\n<p>40 frames, 2.40 s; ",
+        COUNTS,
+        "</p>\n",
+    ];
+    are_pieces(&rt, behind_style(printed.as_slice()).as_bytes(), &wanted);
     Ok(())
 }
 
 #[test]
 fn silence(rt: HostRuntime) -> Result<(), Fail> {
-    let alloc = rt.alloc();
-    let wanted = format!(in alloc;
-        "\n<h1>up.dmru</h1><p>uplink recording; colour code 1</p>\n{LEGEND}\
-        <p>3001 frames, 180.06 s; 0 calls, 0 packets, 0 rows of control blocks; 0 bursts repeated</p>\n"
-    )?;
-    let printed = page(&rt, later(&rt, 3001, "")?.as_slice(), PLAIN)?;
-    assert_eq!(rt; printed.as_str(), wanted.as_str());
+    let printed = page(&rt, 3001, "", &PLAIN)?;
+    let wanted = [
+        "\n<h1>up.dmru</h1><p>uplink recording; colour code 1</p>\n",
+        LEGEND,
+        "<p>3001 frames, 180.06 s; 0 calls, 0 packets, 0 rows of control blocks; 0 bursts repeated</p>\n",
+    ];
+    are_pieces(&rt, behind_style(printed.as_slice()).as_bytes(), &wanted);
     Ok(())
 }
 
+/// The page of an empty uplink of this name begins so, behind its style.
+fn expect_name(rt: &(impl Abort + AllocGlobal), name: &str, shown: &str) {
+    let printed = page_that_ends(rt, name, b"DMRU\x01\0\0\0", &PLAIN, 0, "");
+    let page = behind_style(printed.as_slice());
+    are_same(rt, name, &page.get(..shown.len()), &Some(shown));
+}
+
 #[test]
-fn names_of_files(rt: HostRuntime) -> Result<(), Fail> {
+fn names_of_files(rt: HostRuntime) {
     for (name, shown) in [
         ("a&b <c>\t.dmru", "\n<h1>a&amp;b &lt;c&gt;?.dmru</h1>"),
         ("here/there/up.dmru", "\n<h1>up.dmru</h1>"),
         ("-", "\n<h1>standard input</h1>"),
     ] {
-        let printed = page_that_ends(&rt, name, later(&rt, 0, "")?.as_slice(), PLAIN, 0, "")?;
-        assert!(rt; printed.as_str().starts_with(shown), "{name}");
+        expect_name(&rt, name, shown);
     }
-    Ok(())
+}
+
+/// That each of these texts stands in a part of a page.
+fn expect_texts(rt: &impl Abort, part: &str, texts: &[&str]) {
+    for text in texts {
+        assert!(rt; part.contains(*text), "{text} in {part}");
+    }
 }
 
 /// The parts of a page: what stands in front of its first minute, and each minute.
@@ -179,10 +203,7 @@ fn expect_minutes(rt: &impl Abort, page: &str, wanted: &[&[&str]]) {
     let mut minutes = page.split("<h2>minute ");
     let _head = minutes.next();
     for texts in wanted {
-        let minute = minutes.next().unwrap_or_default();
-        for text in *texts {
-            assert!(rt; minute.contains(*text), "{text} in {minute}");
-        }
+        expect_texts(rt, minutes.next().unwrap_or_default(), texts);
     }
     assert!(rt; minutes.next().is_none(), "one minute more");
 }
@@ -190,10 +211,10 @@ fn expect_minutes(rt: &impl Abort, page: &str, wanted: &[&[&str]]) {
 #[test]
 fn a_call_that_ends_with_a_minute(rt: HostRuntime) -> Result<(), Fail> {
     // The last frame of the first call is the last one of the minute.
-    let printed = page(&rt, later(&rt, 984, SCENE)?.as_slice(), PLAIN)?;
+    let printed = page(&rt, 984, SCENE, &PLAIN)?;
     expect_minutes(
         &rt,
-        printed.as_str(),
+        behind_style(printed.as_slice()),
         &[
             &[
                 "0</h2><svg viewBox=\"0 0 1040 106\">\n<g transform=\"translate(0,0)\">\n",
@@ -218,10 +239,10 @@ fn a_call_that_ends_with_a_minute(rt: HostRuntime) -> Result<(), Fail> {
 #[test]
 fn a_call_that_goes_on(rt: HostRuntime) -> Result<(), Fail> {
     // The second call begins three frames in front of the minute, where less than 26 is free.
-    let printed = page(&rt, later(&rt, 975, SCENE)?.as_slice(), PLAIN)?;
+    let printed = page(&rt, 975, SCENE, &PLAIN)?;
     expect_minutes(
         &rt,
-        printed.as_str(),
+        behind_style(printed.as_slice()),
         &[
             &[
                 "width=\"5.8\" height=\"16\" fill=\"#2f6fb2\"/>\n\
@@ -240,10 +261,10 @@ fn a_call_that_goes_on(rt: HostRuntime) -> Result<(), Fail> {
 
 #[test]
 fn packets_and_control_blocks(rt: HostRuntime) -> Result<(), Fail> {
-    let printed = page(&rt, later(&rt, 0, PACKETS)?.as_slice(), PLAIN)?;
+    let printed = page(&rt, 0, PACKETS, &PLAIN)?;
     expect_minutes(
         &rt,
-        printed.as_str(),
+        behind_style(printed.as_slice()),
         &[&[
             // A preamble in front of its packet is of it. One of its two blocks is lost.
             "<rect x=\"83.2\" y=\"36\" width=\"7.7\" height=\"16\" fill=\"#2e8b57\"/>\n\
@@ -265,18 +286,14 @@ fn times_of_day(rt: HostRuntime) -> Result<(), Fail> {
         start: StartTime::read("2026-01-31T23:59:59Z"),
         ..PLAIN
     };
-    let printed = page(&rt, later(&rt, 0, SCENE)?.as_slice(), settings)?;
+    let printed = page(&rt, 0, SCENE, &settings)?;
     let head = "<p>uplink recording, 2026-01-31 23:59:59 UTC; colour code 1; gateway 1</p>\n";
-    assert!(rt; printed.as_str().contains(head), "{printed}");
-    assert!(rt;
-        printed
-            .as_str()
-            .contains("; 23 bursts repeated; 1 record received</p>\n"),
-        "{printed}"
-    );
+    let end = "; 23 bursts repeated; 1 record received</p>\n";
+    let shown = behind_style(printed.as_slice());
+    expect_texts(&rt, shown, &[head, end]);
     expect_minutes(
         &rt,
-        printed.as_str(),
+        shown,
         &[&[
             "0, 2026-01-31 23:59:59 UTC</h2>",
             "text-anchor=\"middle\">00:00:04</text>\n",
@@ -289,56 +306,71 @@ fn times_of_day(rt: HostRuntime) -> Result<(), Fail> {
 }
 
 #[test]
-fn faults(rt: HostRuntime) -> Result<(), Fail> {
+fn a_page_up_to_a_fault(rt: HostRuntime) -> Result<(), Fail> {
     let whole = later(&rt, 0, SCENE)?;
     // Of frame 5 slot 1 is there, and of slot 2 nothing.
     let cut = whole.as_slice().get(..151).unwrap_or_default();
     let fault = "error: up.dmru: half frame at octet 151, frame 5, slot 2\n";
-    let printed = page_that_ends(&rt, "up.dmru", cut, PLAIN, 1, fault)?;
-    assert!(rt;
-        printed.as_str().contains("<td>end</tr>\n</table>\n"),
-        "{printed}"
-    );
-    assert!(rt; !printed.as_str().contains("5 frames"), "{printed}");
-    let other = b"DMRD\x01\0\0\0";
-    let printed = page_that_ends(
-        &rt,
-        "up.dmru",
-        other,
-        PLAIN,
-        1,
-        "error: up.dmru: not an uplink\n",
-    )?;
-    assert_eq!(rt; printed.as_str(), "");
+    let printed = page_that_ends(&rt, "up.dmru", cut, &PLAIN, 1, fault);
+    let shown = behind_style(printed.as_slice());
+    expect_texts(&rt, shown, &["<td>end</tr>\n</table>\n"]);
+    assert!(rt; !shown.contains("5 frames"));
+    Ok(())
+}
+
+/// A file has no page with these settings, and this is told.
+fn expect_no_page(
+    rt: &(impl Abort + AllocGlobal),
+    file: &[u8],
+    settings: &PageSettings,
+    told: &str,
+) {
+    let printed = page_that_ends(rt, "up.dmru", file, settings, 1, told);
+    are_same(rt, "page", &behind_style(printed.as_slice()), &"");
+}
+
+#[test]
+fn no_page_of_a_downlink(rt: HostRuntime) {
+    let told = "error: up.dmru: not an uplink\n";
+    expect_no_page(&rt, b"DMRD\x01\0\0\0", &PLAIN, told);
+}
+
+#[test]
+fn no_page_with_a_setting_out_of_its_range(rt: HostRuntime) -> Result<(), Fail> {
     let settings = PageSettings {
         colour: 16,
         ..PLAIN
     };
     let told = "error: up.dmru: a setting is out of its range\n";
-    let printed = page_that_ends(&rt, "up.dmru", whole.as_slice(), settings, 1, told)?;
-    assert_eq!(rt; printed.as_str(), "");
+    let file = later(&rt, 0, SCENE)?;
+    expect_no_page(&rt, file.as_slice(), &settings, told);
     Ok(())
+}
+
+/// The page of a file, whose sink fails at this call, ends with this status, and nothing is told.
+fn expect_failure(rt: &(impl Abort + AllocGlobal), file: &[u8], call: u64, status: u8) {
+    let alloc = rt.alloc();
+    let mut source = FromRead::new(file);
+    let mut output = FailsAt::new(ToWrite::new(Vec::new(alloc)), call);
+    let mut errors = ToWrite::new(Vec::new(alloc));
+    let ended = print_page(
+        alloc,
+        "up.dmru",
+        &PLAIN,
+        &mut source,
+        &mut output,
+        &mut errors,
+    );
+    assert_eq!(rt; ended, status, "{call}");
+    is_text(rt, "errors", errors.into_inner().as_slice(), "");
 }
 
 #[test]
 fn a_sink_that_fails(rt: HostRuntime) -> Result<(), Fail> {
-    let alloc = rt.alloc();
     let file = later(&rt, 0, SCENE)?;
     // A head, the picture, three rows, the end of the table, and what was counted: seven pieces.
-    for (calls, status) in [(0, 1), (1, 1), (2, 1), (4, 1), (5, 1), (6, 1), (7, 0)] {
-        let mut source = FromRead::new(file.as_slice());
-        let mut output = FailsAt::new(ToWrite::new(Vec::new(alloc)), calls);
-        let mut errors = ToWrite::new(Vec::new(alloc));
-        let ended = print_page(
-            alloc,
-            "up.dmru",
-            &PLAIN,
-            &mut source,
-            &mut output,
-            &mut errors,
-        );
-        assert_eq!(rt; ended, status, "{calls}");
-        assert_eq!(rt; errors.into_inner().as_slice(), b"".as_slice(), "{calls}");
+    for (call, status) in [(0, 1), (1, 1), (2, 1), (4, 1), (5, 1), (6, 1), (7, 0)] {
+        expect_failure(&rt, file.as_slice(), call, status);
     }
     Ok(())
 }

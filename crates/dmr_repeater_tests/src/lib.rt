@@ -1,5 +1,5 @@
 //! Tests of `dmr_repeater`: worked runs from file to file, whose expected files come from outside; and of `dmr_station`: worked
-//! frames, and many frames of hostile bursts.
+//! frames.
 #![tactic(auto)]
 
 #[cfg(test)]

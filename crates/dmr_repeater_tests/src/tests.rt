@@ -1,6 +1,7 @@
 //! Runs over memory: recordings from outside, files at fault, and devices that fail.
 //!
-//! No test takes `?`: an early end beside octets that are then dropped makes its proof several times as long.
+//! No test takes `?`, and what is compared is lent to a function that compares: an early end beside octets that are then dropped
+//! makes a proof several times as long.
 ghost use Rattle.std.specs.Prelude.{◌≡◌, false};
 
 mod faults;
@@ -15,6 +16,7 @@ use dmr_repeater::{RunFault, Summary, run};
 use dmr_test_devices::OneByOne;
 use dmr_test_values::{EMPTY_DATAGRAM, IDLE_BURST, ONE_CSBK, REPEATED_CSBK};
 use std::alloc::Global;
+use std::fmt::Debug;
 use std::process::Abort;
 
 /// The head of an uplink file, and of each of the other three.
@@ -62,6 +64,11 @@ fn summary(frames: u32, repeated: u32) -> Summary {
         refused: 0,
         unoffered: 0,
     }
+}
+
+/// That both are the same, of what is told where they aren't.
+pub fn are_same<T: PartialEq + Debug>(rt: &impl Abort, what: &str, got: &T, expected: &T) {
+    assert_eq!(rt; got, expected, "{what}");
 }
 
 /// Appends octets.
@@ -141,11 +148,38 @@ fn run_pieces(rt: &impl Abort, alloc: Global, uplink: &[&[u8]], outgoing: &[&[u8
     run_over(rt, alloc, &uplink, &outgoing)
 }
 
+/// A run answers these numbers.
+fn expect_numbers(rt: &impl Abort, ran: &Ran, want: Summary) {
+    are_same(rt, "answer", &ran.answer, &Ok(want));
+}
+
+/// A run has written this downlink, which is given in pieces.
+fn expect_downlink(rt: &impl Abort, alloc: Global, ran: &Ran, pieces: &[&[u8]]) {
+    let downlink = joined(rt, alloc, pieces);
+    are_same(rt, "downlink", &ran.downlink, &downlink);
+}
+
+/// A run has written so many octets of downlink.
+fn expect_downlink_of(rt: &impl Abort, ran: &Ran, count: usize) {
+    are_same(rt, "octets of downlink", &ran.downlink.len(), &count);
+}
+
+/// A run has received what the file of these pieces has.
+fn expect_received(rt: &impl Abort, alloc: Global, ran: &Ran, pieces: &[&[u8]]) {
+    let received = joined(rt, alloc, pieces);
+    are_same(rt, "received", &ran.received, &received);
+}
+
+/// A run has received nothing.
+fn expect_nothing_received(rt: &impl Abort, ran: &Ran) {
+    are_same(rt, "received", &ran.received.as_slice(), &&RECEIVED[..]);
+}
+
 /// A run answers these numbers, writes this downlink, and receives nothing.
 fn expect_sent(rt: &impl Abort, alloc: Global, ran: &Ran, want: Summary, downlink: &[&[u8]]) {
-    assert!(rt; ran.answer == Ok(want));
-    assert!(rt; ran.downlink == joined(rt, alloc, downlink));
-    assert!(rt; ran.received.as_slice() == &RECEIVED[..]);
+    expect_numbers(rt, ran, want);
+    expect_downlink(rt, alloc, ran, downlink);
+    expect_nothing_received(rt, ran);
 }
 
 // Three wrong bits in the slot type, three in the sync, and all of the first row and R(3) of the information.
@@ -193,9 +227,9 @@ fn idle_for_the_channel_hang(rt: HostRuntime) {
         &[&UPLINK, &[0, 1], &ONE_CSBK, &[0; 14]],
         &[&OUTGOING],
     );
-    assert!(rt; ran.answer == Ok(summary(14, 1)));
+    expect_numbers(&rt, &ran, summary(14, 1));
     // Six silent frames, one with the block in slot 2, five of idle, and two silent ones.
-    assert_eq!(rt; ran.downlink.len(), 8 + 12 + 12 * 37 + 4);
+    expect_downlink_of(&rt, &ran, 8 + 12 + 12 * 37 + 4);
 }
 
 // Two of frame 5, the last of the run, in which the first of them begins; and one far past it.
@@ -214,9 +248,17 @@ fn unoffered_records(rt: HostRuntime) {
         unoffered: 1,
         ..summary(6, 0)
     };
-    assert!(rt; ran.answer == Ok(want));
-    assert_eq!(rt; ran.downlink.len(), 8 + 10 + 2 * 37);
-    assert!(rt; ran.received.as_slice() == &RECEIVED[..]);
+    expect_numbers(&rt, &ran, want);
+    expect_downlink_of(&rt, &ran, 8 + 10 + 2 * 37);
+    expect_nothing_received(&rt, &ran);
+}
+
+/// Two runs have come to an end alike, and a good one.
+fn end_alike(rt: &impl Abort, ran: &Ran, other: &Ran) {
+    assert!(rt; ran.answer.is_ok());
+    are_same(rt, "answer", &ran.answer, &other.answer);
+    are_same(rt, "downlink", &ran.downlink, &other.downlink);
+    are_same(rt, "received", &ran.received, &other.received);
 }
 
 #[test]
@@ -227,6 +269,5 @@ fn one_octet_a_call(rt: HostRuntime) {
     let mut uplink = OneByOne::new(&uplink);
     let mut outgoing = OneByOne::new(&outgoing);
     let ran = run_from(rt.alloc(), settings(&rt, 1), &mut uplink, &mut outgoing);
-    assert!(rt; ran.answer.is_ok() && ran.answer == whole.answer);
-    assert!(rt; ran.downlink == whole.downlink && ran.received == whole.received);
+    end_alike(&rt, &ran, &whole);
 }

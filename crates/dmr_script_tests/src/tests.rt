@@ -8,10 +8,15 @@ mod singles;
 
 use dmr_record::FromRead;
 use dmr_script::{
-    NumberedStatement, RefusedLine, Script, Sender, Statement, Transmission, Transmit, read_script,
+    NumberedStatement, Script, Sender, Statement, Transmission, Transmit, read_script,
 };
 use std::alloc::{AllocError, Global};
 use std::process::Abort;
+
+/// That both are the same, of what is told where they aren't.
+fn are_same<T: PartialEq>(rt: &impl Abort, what: &str, got: &T, expected: &T) {
+    assert!(rt; got == expected, "{what}");
+}
 
 /// What is read of a text.
 fn script_of(alloc: Global, text: &str) -> Result<Script, AllocError> {
@@ -19,26 +24,26 @@ fn script_of(alloc: Global, text: &str) -> Result<Script, AllocError> {
     read_script(alloc, &mut source)
 }
 
-/// The last statement where this line stands behind `slot 1`, or which line is refused.
-fn read_behind_slot(
-    alloc: Global,
-    line: &str,
-) -> Result<Result<Option<NumberedStatement>, RefusedLine>, AllocError> {
+/// What is read of this line behind `slot 1`.
+fn read_behind_slot(alloc: Global, line: &str) -> Result<Script, AllocError> {
     let text = format!(in alloc; "slot 1\n{line}\n")?;
-    let mut script = script_of(alloc, text.as_str())?;
-    match script.refused {
-        Some(refused) => Ok(Err(refused)),
-        None => Ok(Ok(script.statements.pop())),
-    }
+    script_of(alloc, text.as_str())
+}
+
+/// That a script has this statement last, and that nothing is refused.
+fn ends_with(rt: &impl Abort, line: &str, script: &Script, expected: &NumberedStatement) {
+    are_same(rt, line, &script.refused, &None);
+    are_same(rt, line, &script.statements.last(), &Some(expected));
 }
 
 /// The statement of the second line behind `slot 1`, and that nothing is refused.
 fn says(rt: &impl Abort, alloc: Global, line: &str, expected: Statement) -> Result<(), AllocError> {
-    let expected = Ok(Some(NumberedStatement {
+    let expected = NumberedStatement {
         line: 2,
         statement: expected,
-    }));
-    assert_eq!(rt; read_behind_slot(alloc, line)?, expected, "{line}");
+    };
+    let script = read_behind_slot(alloc, line)?;
+    ends_with(rt, line, &script, &expected);
     Ok(())
 }
 
@@ -69,5 +74,13 @@ fn is_refused(
         None => format!(in alloc; "nothing")?,
     };
     assert_eq!(rt; printed.as_str(), expected, "{text}");
+    Ok(())
+}
+
+/// That each of these texts is refused for what stands beside it.
+fn are_refused(rt: &impl Abort, alloc: Global, rows: &[(&str, &str)]) -> Result<(), AllocError> {
+    for (text, expected) in rows {
+        is_refused(rt, alloc, text, expected)?;
+    }
     Ok(())
 }

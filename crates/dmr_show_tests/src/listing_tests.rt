@@ -1,4 +1,5 @@
 //! The lines of bursts, and the places of superframes.
+use crate::tests::{are_printed, are_same, is_printed};
 use dmr_burst::{Emb, Side, lcss};
 use dmr_csbk::Csbk;
 use dmr_link::FullLc;
@@ -10,8 +11,9 @@ use dmr_reading::Reading;
 use dmr_record::{DeviceFault, FromRead, Received, ReceivedKind, RecordFault, read_outgoing};
 use dmr_recording::{FaultLine, Place, Recording, Stop};
 use hex::FromHex;
-use std::alloc::AllocError;
+use std::alloc::{AllocError, Global};
 use std::fmt::Write;
+use std::process::Abort;
 use std::test::Fail;
 
 /// A voice burst with embedded signalling.
@@ -55,33 +57,40 @@ fn places_of_a_superframe(rt: HostRuntime) {
     }
 }
 
-/// The bursts of the sample `call`, a frame each, and the lines of a listing of it.
-const CALL: [(&str, &str); 7] = [
+/// The bursts of the sample `call`, each in a frame of its own, and its line in a listing.
+const CALL: [(u32, &str, &str); 7] = [
     (
+        0,
         "0010015E028812380E304440046D5D7F77FD757E322C0328019007A005410D0055",
         "     0.00       0 1  MS   1  voice header  group call 2 -> 1",
     ),
     (
+        1,
         "4420823CFDE6F1C26B30F90EC7D7F7D5DD57DFDD01E4887534A20F0B0D04C36ED8",
         "     0.06       1 1  MS   -  voice A",
     ),
     (
+        2,
         "0E71E0FD77B07670EB940BD5335130000000091F973DAAD8619B91FFC911F57CCE",
         "     0.12       2 1  -    1  voice B       LCSS 1",
     ),
     (
+        3,
         "D458BBBF2CE03753C9BDFA0FF0117000900007469DC9575674066676CFB0B4EB89",
         "     0.18       3 1  -    1  voice C       LCSS 3",
     ),
     (
+        4,
         "02C44269DA1CF6BA66D3F8B6D4B170300060A74100A9EA0E755A5C2E8210242A08",
         "     0.24       4 1  -    1  voice D       LCSS 3",
     ),
     (
+        5,
         "E7078F7F89385EB09423555182515030F060C0768B96E8A4FEF23A0C9FC5AFD760",
         "     0.30       5 1  -    1  voice E       LCSS 2, group call 2 -> 1",
     ),
     (
+        6,
         "8437816BDD0A7309CB4A1252E4D1100000000E2A70E6720FCAA4DA1E98406C189C",
         "     0.36       6 1  -    1  voice F       LCSS 0",
     ),
@@ -91,47 +100,40 @@ const CALL: [(&str, &str); 7] = [
 fn lines_of_a_call(rt: HostRuntime) -> Result<(), Fail> {
     let mut view = SlotView::new();
     let mut bursts = BurstCounts::default();
-    for (frame, (burst, line)) in (0..7).zip(CALL) {
+    for (frame, burst, line) in CALL {
         let burst = <[u8; 33] as FromHex>::from_hex(burst)?;
         let shown = view.line(Place { frame, slot: 1 }, None, &burst);
         bursts = bursts.with(&shown);
-        assert_eq!(rt; format!(in rt.alloc(); "{shown}")?.as_str(), line);
+        is_printed(&rt, &shown, line)?;
     }
     let summary = RecordingSummary { frames: 20, bursts };
     let want = "frames 20 seconds 1.20 slot-1 7 slot-2 0 unreadable 0";
-    assert_eq!(rt; format!(in rt.alloc(); "{summary}")?.as_str(), want);
-    Ok(())
+    is_printed(&rt, &summary, want)
 }
 
 #[test]
 fn faults_and_where_they_are(rt: HostRuntime) -> Result<(), Fail> {
-    for (fault, octet, place, text) in [
-        (RecordFault::CutRecord, 0, None, "cut record at octet 0"),
-        (
-            RecordFault::CutRecord,
-            8,
-            Some(0),
-            "cut record at octet 8, frame 0, slot 1",
-        ),
-        (
-            RecordFault::HalfFrame,
-            42,
-            Some(1),
-            "half frame at octet 42, frame 0, slot 2",
-        ),
-    ] {
-        let place = match place {
-            Some(number) => Some(Place::of_slot(number)),
-            None => None,
-        };
-        let line = FaultLine {
-            fault,
-            octet,
-            place,
-        };
-        assert_eq!(rt; format!(in rt.alloc(); "{line}")?.as_str(), text);
-    }
-    Ok(())
+    let at = |fault, octet, place| FaultLine {
+        fault,
+        octet,
+        place,
+    };
+    let slot_1 = Some(Place::of_slot(0));
+    let slot_2 = Some(Place::of_slot(1));
+    are_printed(
+        &rt,
+        &[
+            (at(RecordFault::CutRecord, 0, None), "cut record at octet 0"),
+            (
+                at(RecordFault::CutRecord, 8, slot_1),
+                "cut record at octet 8, frame 0, slot 1",
+            ),
+            (
+                at(RecordFault::HalfFrame, 42, slot_2),
+                "half frame at octet 42, frame 0, slot 2",
+            ),
+        ],
+    )
 }
 
 /// A burst, its CACH where it has one, where it stands, and its line.
@@ -197,7 +199,7 @@ fn lines_of_bursts(rt: HostRuntime) -> Result<(), Fail> {
     for (frame, slot, cach, burst, line) in BURSTS {
         let burst = <[u8; 33] as FromHex>::from_hex(burst)?;
         let shown = SlotView::new().line(Place { frame, slot }, cach, &burst);
-        assert_eq!(rt; format!(in rt.alloc(); "{shown}")?.as_str(), line);
+        is_printed(&rt, &shown, line)?;
     }
     Ok(())
 }
@@ -225,29 +227,32 @@ fn control_block(code: u8, fid: u8) -> Contents {
 }
 
 #[test]
-fn details(rt: HostRuntime) -> Result<(), Fail> {
-    for (flco, text) in [
-        (
-            3,
-            "unit call 2 -> 1, emergency, privacy, broadcast, OVCM, priority 3",
-        ),
-        (4, "talker alias header, CF000001000002"),
-        (7, "talker alias block 3, CF000001000002"),
-        (8, "GPS info, CF000001000002"),
-        (9, "LC opcode 9, CF000001000002"),
-    ] {
-        let shown = link_control(flco);
-        assert_eq!(rt; format!(in rt.alloc(); "{shown}")?.as_str(), text);
-    }
-    for (code, fid, text) in [
-        (61, 0, "preamble, data to follow 3, 2 -> 7"),
-        (56, 0, "BS activation by 2 of 7"),
-        (56, 16, "opcode 56, fid 16, 8003000007000002"),
-    ] {
-        let shown = control_block(code, fid);
-        assert_eq!(rt; format!(in rt.alloc(); "{shown}")?.as_str(), text);
-    }
-    Ok(())
+fn details_of_link_controls(rt: HostRuntime) -> Result<(), Fail> {
+    are_printed(
+        &rt,
+        &[
+            (
+                link_control(3),
+                "unit call 2 -> 1, emergency, privacy, broadcast, OVCM, priority 3",
+            ),
+            (link_control(4), "talker alias header, CF000001000002"),
+            (link_control(7), "talker alias block 3, CF000001000002"),
+            (link_control(8), "GPS info, CF000001000002"),
+            (link_control(9), "LC opcode 9, CF000001000002"),
+        ],
+    )
+}
+
+#[test]
+fn details_of_control_blocks(rt: HostRuntime) -> Result<(), Fail> {
+    are_printed(
+        &rt,
+        &[
+            (control_block(61, 0), "preamble, data to follow 3, 2 -> 7"),
+            (control_block(56, 0), "BS activation by 2 of 7"),
+            (control_block(56, 16), "opcode 56, fid 16, 8003000007000002"),
+        ],
+    )
 }
 
 /// A record of an outgoing list.
@@ -255,7 +260,7 @@ const OUTGOING: &[u8] = b"\x02\x00\x00\x00\x05\x01\x00\x00\x1C\
     \x45\x00\x00\x1C\x12\x34\x00\x00\x40\x11\x50\x9B\x0C\x00\x00\x01\x0C\x00\x00\x02\x13\x98\x13\x9A\x00\x08\xC0\xA9";
 
 #[test]
-fn lines_of_lists(rt: HostRuntime) -> Result<(), Fail> {
+fn the_line_of_an_outgoing_record(rt: HostRuntime) -> Result<(), Fail> {
     let mut source = FromRead::new(OUTGOING);
     let Ok(Some(record)) = read_outgoing(&mut source, 0, 0) else {
         return Err(Fail::from("no record"));
@@ -264,7 +269,11 @@ fn lines_of_lists(rt: HostRuntime) -> Result<(), Fail> {
     let want =
         "     0.30       5 1  unconfirmed, rate 1/2, 28 octets: UDP 12.0.0.1:5016 -> 12.0.0.2:5018, \
         0 octets of data";
-    assert_eq!(rt; format!(in rt.alloc(); "{line}")?.as_str(), want);
+    is_printed(&rt, &line, want)
+}
+
+#[test]
+fn the_line_of_a_received_record(rt: HostRuntime) -> Result<(), Fail> {
     let record = Received {
         frame: 6,
         slot: 1,
@@ -277,8 +286,7 @@ fn lines_of_lists(rt: HostRuntime) -> Result<(), Fail> {
         octets: &[1, 2, 0, 5],
     };
     let want = "     0.36       6 1  status from 3, 4 octets: port 1 -> 2, status 5";
-    assert_eq!(rt; format!(in rt.alloc(); "{line}")?.as_str(), want);
-    Ok(())
+    is_printed(&rt, &line, want)
 }
 
 /// Lines of bursts in the order in which they come, as text, with their places, and the faults of whoever takes them.
@@ -316,17 +324,39 @@ impl Taker<ListedBurst> for TakenLines {
     }
 }
 
-/// The burst of the sample `one_csbk`.
-const CSBK: &str = "0062008201900100042004E004CD5D7F77FD757AC81800280250028000C0120022";
+/// What a recording of an uplink, from behind its head, is listed as, where there is room for so many lines.
+fn expect_listing(
+    rt: &impl Abort,
+    alloc: Global,
+    octets: &[u8],
+    room: usize,
+    want: Result<RecordingSummary, Stop>,
+    text: &str,
+) {
+    let mut source = FromRead::new(octets);
+    let mut taken = TakenLines {
+        text: String::new(alloc),
+        places: Vec::new(alloc),
+        room,
+        is_failed: false,
+    };
+    let answer = list_recording(&mut source, Recording::Uplink, &mut taken);
+    assert!(rt; answer == want, "of {} octets", octets.len());
+    are_same(rt, "lines", &taken.text.as_str(), &text);
+}
+
+/// The frame of the sample `one_csbk`, and the line of its burst.
+const FRAME: &[u8] = b"010062008201900100042004E004CD5D7F77FD757AC81800280250028000C012002200";
+
+const LINE: &str = "     0.00       0 1  MS   1  CSBK          opcode 0, fid 0, 0000000000000000\n";
 
 #[test]
 fn listings_of_recordings(rt: HostRuntime) -> Result<(), Fail> {
-    let burst = <[u8; 33] as FromHex>::from_hex(CSBK)?;
-    let mut octets = Vec::new(rt.alloc());
-    octets.push(1)?;
-    octets.extend_from_slice(&burst)?;
-    octets.push(0)?;
-    let line = "     0.00       0 1  MS   1  CSBK          opcode 0, fid 0, 0000000000000000\n";
+    let file = hex::decode(rt.alloc(), FRAME)?;
+    let empty = RecordingSummary {
+        frames: 0,
+        bursts: BurstCounts::default(),
+    };
     let whole = RecordingSummary {
         frames: 1,
         bursts: BurstCounts {
@@ -346,54 +376,38 @@ fn listings_of_recordings(rt: HostRuntime) -> Result<(), Fail> {
         place: Some(Place { frame: 0, slot: 2 }),
     };
     for (count, room, want, text) in [
-        (
-            0,
-            9,
-            Ok(RecordingSummary {
-                frames: 0,
-                bursts: BurstCounts::default(),
-            }),
-            "",
-        ),
+        (0, 9, Ok(empty), ""),
         (12, 9, Err(Stop::File(cut)), ""),
-        (34, 9, Err(Stop::File(half)), line),
-        (35, 9, Ok(whole), line),
+        (34, 9, Err(Stop::File(half)), LINE),
+        (35, 9, Ok(whole), LINE),
         (35, 0, Err(Stop::Output), ""),
     ] {
-        let mut source = FromRead::new(octets.get(..count).unwrap_or(&[]));
-        let mut taken = TakenLines {
-            text: String::new(rt.alloc()),
-            places: Vec::new(rt.alloc()),
-            room,
-            is_failed: false,
-        };
-        let answer = list_recording(&mut source, Recording::Uplink, &mut taken);
-        assert!(rt; answer == want, "of {count} octets");
-        assert_eq!(rt; taken.text.as_str(), text);
+        let octets = file.get(..count).unwrap_or(&[]);
+        expect_listing(&rt, rt.alloc(), octets, room, want, text);
     }
     Ok(())
 }
 
+/// The letters of strips.
+const LETTERS: [(Mark, &str); 13] = [
+    (Mark::Silence, "."),
+    (Mark::PrivacyHeader, "P"),
+    (Mark::VoiceHeader, "H"),
+    (Mark::Voice(Some(VoicePlace::A)), "A"),
+    (Mark::Voice(Some(VoicePlace::F)), "F"),
+    (Mark::Voice(None), "v"),
+    (Mark::Terminator, "T"),
+    (Mark::ControlBlock, "c"),
+    (Mark::MultiBlock, "m"),
+    (Mark::DataHeader, "D"),
+    (Mark::DataBlock, "b"),
+    (Mark::Idle, "i"),
+    (Mark::Unreadable, "?"),
+];
+
 #[test]
 fn letters(rt: HostRuntime) -> Result<(), Fail> {
-    for (mark, letter) in [
-        (Mark::Silence, "."),
-        (Mark::PrivacyHeader, "P"),
-        (Mark::VoiceHeader, "H"),
-        (Mark::Voice(Some(VoicePlace::A)), "A"),
-        (Mark::Voice(Some(VoicePlace::F)), "F"),
-        (Mark::Voice(None), "v"),
-        (Mark::Terminator, "T"),
-        (Mark::ControlBlock, "c"),
-        (Mark::MultiBlock, "m"),
-        (Mark::DataHeader, "D"),
-        (Mark::DataBlock, "b"),
-        (Mark::Idle, "i"),
-        (Mark::Unreadable, "?"),
-    ] {
-        assert_eq!(rt; format!(in rt.alloc(); "{mark}")?.as_str(), letter);
-    }
-    Ok(())
+    are_printed(&rt, &LETTERS)
 }
 
 /// The lines of strips in the order in which they come, and the faults of whoever takes them.
@@ -444,14 +458,34 @@ impl Taker<Strip> for TakenStrips {
     }
 }
 
-/// A frame with the burst in slot 2, and half of one.
+/// What these frames of a recording of an uplink, from behind its head, have for strips, where there is room for so many.
+fn expect_strips(
+    rt: &impl Abort,
+    alloc: Global,
+    octets: &[u8],
+    frames: Frames,
+    room: usize,
+    want: Stop,
+    text: &str,
+) {
+    let mut source = FromRead::new(octets);
+    let mut taken = TakenStrips {
+        text: String::new(alloc),
+        room,
+        is_failed: false,
+    };
+    let answer = strip_recording(&mut source, Recording::Uplink, frames, &mut taken);
+    assert!(rt; answer == Err(want));
+    are_same(rt, "strips", &taken.text.as_str(), &text);
+}
+
+/// A frame with that burst in slot 2, and half of one.
+const FRAME_AND_HALF: &[u8] =
+    b"00010062008201900100042004E004CD5D7F77FD757AC81800280250028000C012002200";
+
 #[test]
 fn strips_of_recordings(rt: HostRuntime) -> Result<(), Fail> {
-    let burst = <[u8; 33] as FromHex>::from_hex(CSBK)?;
-    let mut octets = Vec::new(rt.alloc());
-    octets.extend_from_slice(&[0, 1])?;
-    octets.extend_from_slice(&burst)?;
-    octets.push(0)?;
+    let octets = hex::decode(rt.alloc(), FRAME_AND_HALF)?;
     let half = FaultLine {
         fault: RecordFault::HalfFrame,
         octet: 44,
@@ -463,16 +497,8 @@ fn strips_of_recordings(rt: HostRuntime) -> Result<(), Fail> {
         (2, 9, Stop::File(half), ""),
         (0, 0, Stop::Output, ""),
     ] {
-        let mut source = FromRead::new(octets.as_slice());
-        let mut taken = TakenStrips {
-            text: String::new(rt.alloc()),
-            room,
-            is_failed: false,
-        };
         let frames = Frames { first, last: 9 };
-        let answer = strip_recording(&mut source, Recording::Uplink, frames, &mut taken);
-        assert!(rt; answer == Err(want));
-        assert_eq!(rt; taken.text.as_str(), text);
+        expect_strips(&rt, rt.alloc(), octets.as_slice(), frames, room, want, text);
     }
     Ok(())
 }

@@ -4,8 +4,37 @@ mod text;
 
 use dmr_record::{FromRead, ToWrite};
 use dmr_show::{Filter, Form, show};
+use std::alloc::Global;
+use std::fmt::{Debug, Display};
 use std::process::Abort;
 use std::test::Fail;
+
+/// That both are the same, of what is told where they aren't.
+pub(crate) fn are_same<T: PartialEq + Debug>(rt: &impl Abort, what: &str, got: &T, expected: &T) {
+    assert_eq!(rt; got, expected, "{what}");
+}
+
+/// That a value is printed so.
+pub(crate) fn is_printed<T: Display>(
+    rt: &(impl Abort + AllocGlobal),
+    value: &T,
+    expected: &str,
+) -> Result<(), Fail> {
+    let printed = format!(in rt.alloc(); "{value}")?;
+    are_same(rt, "printed", &printed.as_str(), &expected);
+    Ok(())
+}
+
+/// That each of these values is printed as the text beside it.
+pub(crate) fn are_printed<T: Display>(
+    rt: &(impl Abort + AllocGlobal),
+    rows: &[(T, &str)],
+) -> Result<(), Fail> {
+    for (value, expected) in rows {
+        is_printed(rt, value, expected)?;
+    }
+    Ok(())
+}
 
 /// All lines.
 const ALL: Filter = Filter {
@@ -20,6 +49,21 @@ const ONE_CSBK: &str = "444D52550100000001\
 
 /// What a listing of it begins with.
 const HEAD: &str = "uplink recording, version 1\n";
+
+/// What is listed of its head alone, and of its first half frame.
+const NO_FRAME: &str = "uplink recording, version 1\n\
+    frames 0 seconds 0.00 slot-1 0 slot-2 0 unreadable 0\n";
+
+const HALF_FRAME: &str = "uplink recording, version 1\n     \
+    0.00       0 1  MS   1  CSBK          opcode 0, fid 0, 0000000000000000\n";
+
+/// Its listing, and that without the line of its burst.
+const ONE_FRAME: &str = "uplink recording, version 1\n     \
+    0.00       0 1  MS   1  CSBK          opcode 0, fid 0, 0000000000000000\n\
+    frames 1 seconds 0.06 slot-1 1 slot-2 0 unreadable 0\n";
+
+const NO_LINE: &str = "uplink recording, version 1\n\
+    frames 1 seconds 0.06 slot-1 1 slot-2 0 unreadable 0\n";
 
 /// A file, as far as it is there, is listed so.
 fn expect(
@@ -45,43 +89,73 @@ fn expect_in(
     out: &str,
     err: &str,
 ) -> Result<(), Fail> {
-    let alloc = rt.alloc();
-    let octets = hex::decode(alloc, file.as_bytes())?;
+    let file = hex::decode(rt.alloc(), file.as_bytes())?;
+    let octets = file.get(..count).unwrap_or(file.as_slice());
     for is_live in [false, true] {
-        let mut source = FromRead::new(octets.get(..count).unwrap_or(octets.as_slice()));
-        let mut output = ToWrite::new(Vec::new(alloc));
-        let mut errors = ToWrite::new(Vec::new(alloc));
-        let ended = show(
-            alloc,
-            "cut.dmru",
-            form,
-            filter,
-            is_live,
-            &mut source,
-            &mut output,
-            &mut errors,
-        );
-        assert!(rt; output.into_inner().as_slice() == out.as_bytes());
-        assert!(rt; errors.into_inner().as_slice() == err.as_bytes());
-        assert_eq!(rt; ended, status);
+        expect_shown(rt, form, octets, filter, is_live, status, out, err);
     }
     Ok(())
 }
 
-/// The line of its burst.
-const LINE: &str = "     0.00       0 1  MS   1  CSBK          opcode 0, fid 0, 0000000000000000\n";
+/// These octets are shown so in a form.
+fn expect_shown(
+    rt: &(impl Abort + AllocGlobal),
+    form: Form,
+    octets: &[u8],
+    filter: Filter,
+    is_live: bool,
+    status: u8,
+    out: &str,
+    err: &str,
+) {
+    let shown = what_is_shown(rt.alloc(), "cut.dmru", form, octets, filter, is_live);
+    assert!(rt; shown.out.as_slice() == out.as_bytes());
+    assert!(rt; shown.err.as_slice() == err.as_bytes());
+    are_same(rt, "status", &shown.status, &status);
+}
+
+/// What comes of a file that is shown: its status, and what is printed and told.
+#[derive(Drop)]
+struct Shown {
+    status: u8,
+    out: Vec<u8>,
+    err: Vec<u8>,
+}
+
+/// What comes of these octets in a form.
+fn what_is_shown(
+    alloc: Global,
+    name: &str,
+    form: Form,
+    octets: &[u8],
+    filter: Filter,
+    is_live: bool,
+) -> Shown {
+    let mut source = FromRead::new(octets);
+    let mut output = ToWrite::new(Vec::new(alloc));
+    let mut errors = ToWrite::new(Vec::new(alloc));
+    let status = show(
+        alloc,
+        name,
+        form,
+        filter,
+        is_live,
+        &mut source,
+        &mut output,
+        &mut errors,
+    );
+    Shown {
+        status,
+        out: output.into_inner(),
+        err: errors.into_inner(),
+    }
+}
 
 #[test]
 fn a_recording_cut_and_whole(rt: HostRuntime) -> Result<(), Fail> {
-    let alloc = rt.alloc();
-    let empty = format!(in alloc; "{HEAD}frames 0 seconds 0.00 slot-1 0 slot-2 0 unreadable 0\n")?;
-    let half = format!(in alloc; "{HEAD}{LINE}")?;
-    let whole = format!(in alloc;
-        "{HEAD}{LINE}frames 1 seconds 0.06 slot-1 1 slot-2 0 unreadable 0\n"
-    )?;
     for (count, status, out, err) in [
         (4, 1, "", "error: cut.dmru: cut record at octet 0\n"),
-        (8, 0, empty.as_str(), ""),
+        (8, 0, NO_FRAME, ""),
         (
             20,
             1,
@@ -91,10 +165,10 @@ fn a_recording_cut_and_whole(rt: HostRuntime) -> Result<(), Fail> {
         (
             42,
             1,
-            half.as_str(),
+            HALF_FRAME,
             "error: cut.dmru: half frame at octet 42, frame 0, slot 2\n",
         ),
-        (43, 0, whole.as_str(), ""),
+        (43, 0, ONE_FRAME, ""),
     ] {
         expect(&rt, ONE_CSBK, count, ALL, status, out, err)?;
     }
@@ -102,14 +176,18 @@ fn a_recording_cut_and_whole(rt: HostRuntime) -> Result<(), Fail> {
 }
 
 #[test]
-fn lists(rt: HostRuntime) -> Result<(), Fail> {
+fn an_outgoing_list(rt: HostRuntime) -> Result<(), Fail> {
     let outgoing = "444D524F010000000200000005010000\
         1C4500001C123400004011509B0C0000010C0000021398139A0008C0A9";
     let listed = "outgoing list, version 1
      0.30       5 1  unconfirmed, rate 1/2, 28 octets: UDP 12.0.0.1:5016 -> 12.0.0.2:5018, 0 octets of data
 records 1
 ";
-    expect(&rt, outgoing, 99, ALL, 0, listed, "")?;
+    expect(&rt, outgoing, 99, ALL, 0, listed, "")
+}
+
+#[test]
+fn a_received_list(rt: HostRuntime) -> Result<(), Fail> {
     let received = "444D524901000000030000000601020000030004\
         01020005";
     let listed = "received list, version 1
@@ -122,19 +200,14 @@ records 1
 /// A filter leaves lines out, and nothing of the last line.
 #[test]
 fn filters(rt: HostRuntime) -> Result<(), Fail> {
-    let alloc = rt.alloc();
-    let end = "frames 1 seconds 0.06 slot-1 1 slot-2 0 unreadable 0\n";
-    let shown = format!(in alloc; "{HEAD}{LINE}{end}")?;
-    let hidden = format!(in alloc; "{HEAD}{end}")?;
-    for (slot, from, to, is_shown) in [
-        (Some(1), Some(0), Some(0), true),
-        (Some(2), None, None, false),
-        (None, Some(1), None, false),
-        (None, None, Some(0), true),
+    for (slot, from, to, out) in [
+        (Some(1), Some(0), Some(0), ONE_FRAME),
+        (Some(2), None, None, NO_LINE),
+        (None, Some(1), None, NO_LINE),
+        (None, None, Some(0), ONE_FRAME),
     ] {
-        let out = if is_shown { &shown } else { &hidden };
         let filter = Filter { slot, from, to };
-        expect(&rt, ONE_CSBK, 43, filter, 0, out.as_str(), "")?;
+        expect(&rt, ONE_CSBK, 43, filter, 0, out, "")?;
     }
     Ok(())
 }
@@ -144,25 +217,18 @@ fn filters(rt: HostRuntime) -> Result<(), Fail> {
 fn the_longest_line(rt: HostRuntime) -> Result<(), Fail> {
     let alloc = rt.alloc();
     let mut file = hex::decode(alloc, b"444D52490100000003000000060101000003FFFF")?;
-    file.extend_from_slice(vec![in alloc; 0u8; 65_535]?.as_slice())?;
-    let mut source = FromRead::new(file.as_slice());
-    let mut output = ToWrite::new(Vec::new(alloc));
-    let mut errors = ToWrite::new(Vec::new(alloc));
-    let name = "long.dmri";
-    let form = Form::Listing;
-    let ended = show(
+    let zeros = vec![in alloc; 0u8; 65_535]?;
+    file.extend_from_slice(zeros.as_slice())?;
+    let shown = what_is_shown(
         alloc,
-        name,
-        form,
+        "long.dmri",
+        Form::Listing,
+        file.as_slice(),
         ALL,
         false,
-        &mut source,
-        &mut output,
-        &mut errors,
     );
-    assert_eq!(rt; ended, 0);
-    let out = output.into_inner();
-    assert!(rt; out.ends_with(b"000000\nrecords 1\n"));
+    are_same(&rt, "status", &shown.status, &0);
+    assert!(rt; shown.out.ends_with(b"000000\nrecords 1\n"));
     Ok(())
 }
 
@@ -175,50 +241,46 @@ fn sinks_that_fail(rt: HostRuntime) -> Result<(), Fail> {
     let mut room = [0u8; 4];
     let mut full = ToWrite::new(&mut room[..]);
     let mut errors = ToWrite::new(Vec::new(alloc));
-    let form = Form::Listing;
     let ended = show(
         alloc,
         "it",
-        form,
+        Form::Listing,
         ALL,
         false,
         &mut source,
         &mut full,
         &mut errors,
     );
-    assert_eq!(rt; ended, 1);
+    are_same(&rt, "status", &ended, &1);
     assert!(rt; errors.into_inner().is_empty());
     Ok(())
 }
 
-/// Strips: of what stands before a fault too, and of no list.
+/// Strips: of what stands before a fault too.
 #[test]
 fn strips(rt: HostRuntime) -> Result<(), Fail> {
     let whole = "      0 1  c\n      0 2  .\n";
     let half = "      0 1  c\n";
-    let slot_2 = Filter {
-        slot: Some(2),
-        ..ALL
-    };
-    let later = Filter {
-        from: Some(1),
-        ..ALL
-    };
-    for (count, filter, status, out, err) in [
-        (43, ALL, 0, whole, ""),
-        (43, slot_2, 0, "      0 2  .\n", ""),
-        (43, later, 0, "", ""),
-        (8, ALL, 0, "", ""),
-        (
-            42,
-            ALL,
-            1,
-            half,
-            "error: cut.dmru: half frame at octet 42, frame 0, slot 2\n",
-        ),
+    let fault = "error: cut.dmru: half frame at octet 42, frame 0, slot 2\n";
+    for (count, slot, from, status, out, err) in [
+        (43, None, None, 0, whole, ""),
+        (43, Some(2), None, 0, "      0 2  .\n", ""),
+        (43, None, Some(1), 0, "", ""),
+        (8, None, None, 0, "", ""),
+        (42, None, None, 1, half, fault),
     ] {
+        let filter = Filter {
+            slot,
+            from,
+            to: None,
+        };
         expect_in(&rt, Form::Strip, ONE_CSBK, count, filter, status, out, err)?;
     }
+    Ok(())
+}
+
+#[test]
+fn no_strip_of_a_list(rt: HostRuntime) -> Result<(), Fail> {
     let list = "444D524901000000";
     let none = "error: cut.dmru: a list has no strip\n";
     expect_in(&rt, Form::Strip, list, 8, ALL, 1, "", none)

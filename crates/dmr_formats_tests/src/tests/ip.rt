@@ -75,6 +75,40 @@ const CUT_UDP: [u8; 24] = [
     0x0c, 0x00, 0x00, 0x02, 0x00, 0x00, 0x00, 0x04,
 ];
 
+/// Whether this is the compressed form of a datagram that was parsed, or whether it has none.
+fn has_form_parsed(
+    parsed: &Datagram,
+    source: u32,
+    destination: u32,
+    group: bool,
+    form: Option<&[u8]>,
+) -> bool
+    requires source { source < 2 ^ 24 }
+    requires destination { destination < 2 ^ 24 }
+{
+    match compress(parsed, source, destination, group) {
+        Some(found) => form == Some(found.as_slice()),
+        None => form.is_none(),
+    }
+}
+
+/// The same of the octets of a datagram.
+fn has_form_unparsed(
+    datagram: &[u8],
+    source: u32,
+    destination: u32,
+    group: bool,
+    form: Option<&[u8]>,
+) -> bool
+    requires source { source < 2 ^ 24 }
+    requires destination { destination < 2 ^ 24 }
+{
+    match compress_octets(datagram, source, destination, group) {
+        Some(found) => form == Some(found.as_slice()),
+        None => form.is_none(),
+    }
+}
+
 /// Whether this is the compressed form of a datagram, or whether it has none.
 fn has_form(
     datagram: &[u8],
@@ -87,15 +121,8 @@ fn has_form(
     requires destination { destination < 2 ^ 24 }
 {
     match Datagram::parse(datagram) {
-        Ok(parsed) => match (
-            compress(&parsed, source, destination, group),
-            compress_octets(datagram, source, destination, group),
-            form,
-        ) {
-            (Some(found), Some(same), Some(form)) => found.as_slice() == form
-                && same.as_slice() == form,
-            (found, same, form) => found.is_none() && same.is_none() && form.is_none(),
-        },
+        Ok(parsed) => has_form_parsed(&parsed, source, destination, group, form)
+            && has_form_unparsed(datagram, source, destination, group, form),
         Err(_) => false,
     }
 }

@@ -46,7 +46,7 @@ fn service_options(rt: HostRuntime) {
     assert!(rt; options.contains(ServiceOptions::BROADCAST));
     assert!(rt; !options.contains(ServiceOptions::OVCM));
     assert!(rt; !options.contains(ServiceOptions::BROADCAST | ServiceOptions::OVCM));
-    assert_eq!(rt; options.priority(), 2);
+    assert!(rt; options.priority() == 2);
 }
 
 #[test]

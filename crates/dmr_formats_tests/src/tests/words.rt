@@ -51,38 +51,52 @@ const TEXTS: [(&[u8], &[&[u8]], u64); 7] = [
 
 const SIZES: [usize; 4] = [1, 2, 3, 8192];
 
+/// Whether these are the lines of a text that comes in pieces of this size.
+fn has_lines(text: &[u8], size: usize, want: &[&[u8]], behind: u64) -> bool {
+    let mut lines = Lines::new();
+    let mut source = Pieces::new(text, size);
+    for line in want {
+        let number = lines.next_number();
+        let is_right = lines.next_line(&mut source) == Ok(true)
+            && lines.line() == *line
+            && lines.number() == number;
+        if !is_right {
+            return false;
+        }
+    }
+    lines.next_line(&mut source) == Ok(false)
+        && lines.next_line(&mut source) == Ok(false)
+        && lines.next_number() == behind
+}
+
 #[test]
 fn lines_of_texts(rt: HostRuntime) {
     for (text, want, behind) in TEXTS {
         for size in SIZES {
-            let mut lines = Lines::new();
-            let mut source = Pieces::new(text, size);
-            for line in want {
-                let number = lines.next_number();
-                assert!(rt; lines.next_line(&mut source) == Ok(true), "of {text:?}");
-                assert!(rt;
-                    lines.line() == *line && lines.number() == number,
-                    "of {text:?}"
-                );
-            }
-            assert!(rt; lines.next_line(&mut source) == Ok(false), "of {text:?}");
-            assert!(rt; lines.next_line(&mut source) == Ok(false), "of {text:?}");
-            assert!(rt; lines.next_number() == behind, "of {text:?}");
+            assert!(rt; has_lines(text, size, want, behind), "of {text:?}");
         }
     }
+}
+
+/// Whether the lines with words of a text are told when it comes in pieces of this size, each with its number.
+fn has_worded_lines(size: usize) -> bool {
+    let mut lines = Lines::new();
+    let mut source = Pieces::new(b"# a\n\n \t\r\na b\n #c\n#", size);
+    for (number, line) in [(4, b"a b"), (5, b" #c")] {
+        let is_right = lines.next_worded(&mut source) == Ok(true)
+            && lines.line() == line.as_slice()
+            && lines.number() == number;
+        if !is_right {
+            return false;
+        }
+    }
+    lines.next_worded(&mut source) == Ok(false) && lines.next_number() == 7
 }
 
 #[test]
 fn lines_that_count(rt: HostRuntime) {
     for size in SIZES {
-        let mut lines = Lines::new();
-        let mut source = Pieces::new(b"# a\n\n \t\r\na b\n #c\n#", size);
-        for (number, line) in [(4, b"a b"), (5, b" #c")] {
-            assert!(rt; lines.next_worded(&mut source) == Ok(true));
-            assert!(rt; lines.line() == line.as_slice() && lines.number() == number);
-        }
-        assert!(rt; lines.next_worded(&mut source) == Ok(false));
-        assert!(rt; lines.next_number() == 7);
+        assert!(rt; has_worded_lines(size));
     }
 }
 
@@ -152,29 +166,40 @@ fn failing_devices(rt: HostRuntime) {
     }
 }
 
+/// Lines with their words.
+const WORDS: [(&[u8], &[&[u8]]); 6] = [
+    (b"", &[]),
+    (b" \t", &[]),
+    (b"a", &[b"a"]),
+    (b"\ta  bc\t\td ", &[b"a", b"bc", b"d"]),
+    (b"#", &[b"#"]),
+    (b"a\x0bb\r \0", &[b"a\x0bb\r", b"\0"]),
+];
+
+/// Whether these are the words of a line.
+fn has_words(line: &[u8], want: &[&[u8]]) -> bool {
+    let mut words = Words::new(line);
+    for word in want {
+        if words.next() != Some(*word) {
+            return false;
+        }
+    }
+    words.next().is_none()
+}
+
 #[test]
 fn words_of_lines(rt: HostRuntime) {
-    let rows: [(&[u8], &[&[u8]]); 6] = [
-        (b"", &[]),
-        (b" \t", &[]),
-        (b"a", &[b"a"]),
-        (b"\ta  bc\t\td ", &[b"a", b"bc", b"d"]),
-        (b"#", &[b"#"]),
-        (b"a\x0bb\r \0", &[b"a\x0bb\r", b"\0"]),
-    ];
-    for (line, want) in rows {
-        let mut words = Words::new(line);
-        for word in want {
-            assert!(rt; words.next() == Some(*word), "of {line:?}");
-        }
-        assert!(rt;
-            words.next().is_none() && Words::new(line).count() == want.len(),
-            "of {line:?}"
-        );
-        assert!(rt;
-            is_worded(line) == (!want.is_empty() && line != b"#".as_slice()),
-            "of {line:?}"
-        );
+    for (line, want) in WORDS {
+        assert!(rt; has_words(line, want), "of {line:?}");
+    }
+}
+
+#[test]
+fn counted_words(rt: HostRuntime) {
+    for (line, want) in WORDS {
+        let is_right = Words::new(line).count() == want.len()
+            && is_worded(line) == (!want.is_empty() && line != b"#".as_slice());
+        assert!(rt; is_right, "of {line:?}");
     }
 }
 

@@ -2,8 +2,8 @@
 
 use super::gateway::status_burst;
 use super::{
-    DOWNLINK, FRAME_5, ONE_DATAGRAM, OUTGOING, RECEIVED, Ran, UPLINK, answer_of, joined, run_over,
-    run_pieces, settings,
+    DOWNLINK, FRAME_5, ONE_DATAGRAM, OUTGOING, RECEIVED, Ran, UPLINK, answer_of, are_same, joined,
+    run_over, run_pieces, settings,
 };
 use dmr_record::{FromRead, RecordFault, ToWrite};
 use dmr_repeater::{RunFault, Stream};
@@ -22,7 +22,7 @@ struct Row {
 }
 
 /// A fault shows in the frame that wants what is behind it; where a head is at fault, nothing is written.
-const ROWS: [Row; 17] = [
+static ROWS: [Row; 17] = [
     Row {
         name: "half_frame_first",
         uplink: &[&UPLINK, &[0]],
@@ -152,18 +152,15 @@ const ROWS: [Row; 17] = [
 /// The run over these files ends with this fault, with both heads written or none.
 fn check_row(rt: &impl Abort, alloc: Global, row: &Row) {
     let ran = run_pieces(rt, alloc, row.uplink, row.outgoing);
-    assert!(rt; ran.answer == Err(row.fault), "{}", row.name);
-    assert!(rt;
-        ran.downlink == joined(rt, alloc, row.downlink),
-        "{}",
-        row.name
-    );
+    are_same(rt, row.name, &ran.answer, &Err(row.fault));
+    let downlink = joined(rt, alloc, row.downlink);
+    are_same(rt, row.name, &ran.downlink, &downlink);
     let received: &[u8] = if row.downlink.is_empty() {
         &[]
     } else {
         &RECEIVED
     };
-    assert!(rt; ran.received.as_slice() == received, "{}", row.name);
+    are_same(rt, row.name, &ran.received.as_slice(), &received);
 }
 
 #[test]
@@ -178,22 +175,24 @@ fn calls_of(stream: Stream, failing: Stream, calls: u64) -> u64 {
     if stream == failing { calls } else { u64::MAX }
 }
 
-/// A run in which the device of a stream fails after so many calls.
-fn run_failing(
-    rt: &impl Abort,
-    alloc: Global,
-    uplink: &[u8],
-    outgoing: &[u8],
-    failing: Stream,
-    calls: u64,
-) -> Ran {
-    let uplink_calls = calls_of(Stream::Uplink, failing, calls);
-    let mut uplink = FailsAt::new(FromRead::new(uplink), uplink_calls);
-    let outgoing_calls = calls_of(Stream::Outgoing, failing, calls);
-    let mut outgoing = FailsAt::new(FromRead::new(outgoing), outgoing_calls);
-    let downlink_calls = calls_of(Stream::Downlink, failing, calls);
+/// Two files, of which stream the device is to fail, and what is told then.
+#[derive(Drop)]
+struct Failing<'a> {
+    uplink: &'a [u8],
+    outgoing: &'a [u8],
+    stream: Stream,
+    fault: RecordFault,
+}
+
+/// A run in which the device fails after so many calls.
+fn run_failing(rt: &impl Abort, alloc: Global, failing: &Failing, calls: u64) -> Ran {
+    let uplink_calls = calls_of(Stream::Uplink, failing.stream, calls);
+    let mut uplink = FailsAt::new(FromRead::new(failing.uplink), uplink_calls);
+    let outgoing_calls = calls_of(Stream::Outgoing, failing.stream, calls);
+    let mut outgoing = FailsAt::new(FromRead::new(failing.outgoing), outgoing_calls);
+    let downlink_calls = calls_of(Stream::Downlink, failing.stream, calls);
     let mut downlink = FailsAt::new(ToWrite::new(Vec::new(alloc)), downlink_calls);
-    let received_calls = calls_of(Stream::Received, failing, calls);
+    let received_calls = calls_of(Stream::Received, failing.stream, calls);
     let mut received = FailsAt::new(ToWrite::new(Vec::new(alloc)), received_calls);
     let answer = answer_of(
         alloc,
@@ -210,51 +209,69 @@ fn run_failing(
     }
 }
 
-/// Lets each call of a stream's device fail in turn, up to a whole run: the fault is told, and what is written before is a front.
-/// Answers how many calls failed.
-fn fail_in_turn(
-    rt: &impl Abort,
-    alloc: Global,
-    uplink: &[u8],
-    outgoing: &[u8],
-    failing: Stream,
-    fault: RecordFault,
-) -> u64 {
-    let whole = run_over(rt, alloc, uplink, outgoing);
+/// What a run has written before the device failed, after so many calls, is a front of what the whole run has.
+fn expect_front(rt: &impl Abort, whole: &Ran, ran: &Ran, calls: u64) {
+    assert!(rt; whole.downlink.starts_with(&ran.downlink), "at {calls}");
+    assert!(rt; whole.received.starts_with(&ran.received), "at {calls}");
+}
+
+/// A run tells the fault of the device that failed after so many calls.
+fn expect_fault(rt: &impl Abort, failing: &Failing, ran: &Ran, calls: u64) {
+    let told = Err(RunFault::File(failing.stream, failing.fault));
+    assert!(rt; ran.answer == told, "at {calls}");
+}
+
+/// Whether a run in which the device fails after so many calls ends as the whole one does. Else it tells the fault, and either way
+/// what is written before is a front.
+fn ends_whole(rt: &impl Abort, alloc: Global, failing: &Failing, whole: &Ran, calls: u64) -> bool {
+    let ran = run_failing(rt, alloc, failing, calls);
+    expect_front(rt, whole, &ran, calls);
+    let is_whole = ran.answer == whole.answer;
+    if !is_whole {
+        expect_fault(rt, failing, &ran, calls);
+    }
+    is_whole
+}
+
+/// How many calls of the device fail, each in turn, up to a whole run.
+fn count_failures(rt: &impl Abort, alloc: Global, failing: &Failing) -> u64 {
+    let whole = run_over(rt, alloc, failing.uplink, failing.outgoing);
     for calls in 0..100u64 {
-        let ran = run_failing(rt, alloc, uplink, outgoing, failing, calls);
-        assert!(rt; whole.downlink.starts_with(&ran.downlink), "at {calls}");
-        assert!(rt; whole.received.starts_with(&ran.received), "at {calls}");
-        if ran.answer == whole.answer {
+        if ends_whole(rt, alloc, failing, &whole, calls) {
             return calls;
         }
-        assert!(rt;
-            ran.answer == Err(RunFault::File(failing, fault)),
-            "at {calls}"
-        );
     }
     100
+}
+
+/// So many calls of the device fail, each in turn.
+fn expect_failures(rt: &impl Abort, alloc: Global, failing: &Failing, calls: u64) {
+    let failures = count_failures(rt, alloc, failing);
+    are_same(rt, "calls that fail", &failures, &calls);
+}
+
+/// The uplink of a frame with this burst in slot 1, and of so much silence behind it.
+fn uplink_of(rt: &impl Abort, alloc: Global, burst: &[u8; 33], silence: &[u8]) -> Vec<u8> {
+    joined(rt, alloc, &[&UPLINK, &[1], burst, silence])
 }
 
 // Of the uplink the head, each of twenty tags, a burst, and the end; of the outgoing file the head, the tag, the fields, the
 // datagram, and the end.
 #[test]
 fn failing_reads(rt: HostRuntime) {
-    let uplink = joined(&rt, rt.alloc(), &[&UPLINK, &[1], &ONE_CSBK, &[0; 19]]);
+    let uplink = uplink_of(&rt, rt.alloc(), &ONE_CSBK, &[0; 19]);
     let outgoing = joined(&rt, rt.alloc(), &ONE_DATAGRAM);
     for (stream, calls) in [
         (Stream::Uplink, 1 + 20 + 1 + 1),
         (Stream::Outgoing, 1 + 3 + 1),
     ] {
-        let failed = fail_in_turn(
-            &rt,
-            rt.alloc(),
-            &uplink,
-            &outgoing,
+        let failing = Failing {
+            uplink: &uplink,
+            outgoing: &outgoing,
             stream,
-            RecordFault::Read,
-        );
-        assert_eq!(rt; failed, calls);
+            fault: RecordFault::Read,
+        };
+        expect_failures(&rt, rt.alloc(), &failing, calls);
     }
 }
 
@@ -262,30 +279,38 @@ fn failing_reads(rt: HostRuntime) {
 // of a status.
 #[test]
 fn failing_writes(rt: HostRuntime) {
-    let status = status_burst();
-    let uplink = joined(&rt, rt.alloc(), &[&UPLINK, &[1], &status, &[0]]);
+    let uplink = uplink_of(&rt, rt.alloc(), &status_burst(), &[0]);
     let outgoing = joined(&rt, rt.alloc(), &ONE_DATAGRAM);
     for (stream, calls) in [(Stream::Downlink, 2 + 7), (Stream::Received, 2 + 2)] {
-        let failed = fail_in_turn(
-            &rt,
-            rt.alloc(),
-            &uplink,
-            &outgoing,
+        let failing = Failing {
+            uplink: &uplink,
+            outgoing: &outgoing,
             stream,
-            RecordFault::Write,
-        );
-        assert_eq!(rt; failed, calls);
+            fault: RecordFault::Write,
+        };
+        expect_failures(&rt, rt.alloc(), &failing, calls);
     }
+}
+
+/// A run that can't write the status after so many calls has written the whole downlink, the frame before it too.
+fn expect_whole_downlink(rt: &impl Abort, alloc: Global, failing: &Failing, calls: u64) {
+    let whole = run_over(rt, alloc, failing.uplink, failing.outgoing);
+    let ran = run_failing(rt, alloc, failing, calls);
+    are_same(rt, "downlink", &ran.downlink, &whole.downlink);
+    assert!(rt; ran.received.len() < 8 + 16);
 }
 
 // The status can't be written: the frame before it is.
 #[test]
 fn failing_received(rt: HostRuntime) {
-    let status = status_burst();
-    let uplink = joined(&rt, rt.alloc(), &[&UPLINK, &[1], &status, &[0]]);
-    let whole = run_over(&rt, rt.alloc(), &uplink, &OUTGOING);
+    let uplink = uplink_of(&rt, rt.alloc(), &status_burst(), &[0]);
+    let failing = Failing {
+        uplink: &uplink,
+        outgoing: &OUTGOING,
+        stream: Stream::Received,
+        fault: RecordFault::Write,
+    };
     for calls in 2..4u64 {
-        let ran = run_failing(&rt, rt.alloc(), &uplink, &OUTGOING, Stream::Received, calls);
-        assert!(rt; ran.downlink == whole.downlink && ran.received.len() < 8 + 16);
+        expect_whole_downlink(&rt, rt.alloc(), &failing, calls);
     }
 }

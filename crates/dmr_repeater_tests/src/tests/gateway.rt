@@ -1,10 +1,12 @@
 //! Data through a whole run: datagrams that the gateway sends, and packets and statuses that it receives.
 ghost use Rattle.std.specs.Prelude.{◌<◌};
 
-use super::recorded::{has_letters, letters_of, octets_of, run_sample, slots_of};
-use super::samples::{CONFIRMED_PACKET_RECEIVED, DATAGRAM_SENT};
+use super::recorded::{expect_letters, letters_of, octets_of, run_sample, slots_of};
+use super::samples::{DATAGRAM_SENT, confirmed_packet};
 use super::{
-    ONE_DATAGRAM, OUTGOING, RECEIVED, Ran, UPLINK, joined, push, run_over, run_pieces, summary,
+    ONE_DATAGRAM, OUTGOING, RECEIVED, Ran, UPLINK, are_same, expect_downlink_of,
+    expect_nothing_received, expect_numbers, expect_received, joined, push, run_over, run_pieces,
+    summary,
 };
 use dmr_bits::Bits;
 use dmr_bptc::{bptc_decode, bptc_encode};
@@ -97,6 +99,23 @@ fn said_in(rt: &impl Abort, alloc: Global, ran: &Ran, frame: u16) -> [u8; 12] {
     bits.octets()
 }
 
+/// Slot 1 of the downlink says in a frame what begins with these octets.
+fn expect_said(rt: &impl Abort, alloc: Global, ran: &Ran, frame: u16, front: &[u8]) {
+    let said = said_in(rt, alloc, ran, frame);
+    assert!(rt; said.starts_with(front), "in frame {frame}");
+}
+
+/// The first record that a run has received is of this frame.
+fn expect_received_in(rt: &impl Abort, ran: &Ran, frame: u8) {
+    let of_frame = ran.received.get(9..13);
+    are_same(
+        rt,
+        "frame received",
+        &of_frame,
+        &Some(&[0, 0, 0, frame][..]),
+    );
+}
+
 // Slot 1 is silent up to the frame of the datagram: a preamble, the block that is repeated, two preambles, header and block.
 #[test]
 fn datagram_sent(rt: HostRuntime) {
@@ -106,10 +125,11 @@ fn datagram_sent(rt: HostRuntime) {
         sent: 1,
         ..summary(16, 1)
     };
-    assert!(rt; ran.answer == Ok(want) && ran.received.as_slice() == &RECEIVED[..]);
-    assert!(rt; has_letters(&rt, rt.alloc(), &ran, b".....CCCCDrIIIII"));
-    let preamble = said_in(&rt, rt.alloc(), &ran, 7);
-    assert!(rt; preamble.starts_with(b"\xBD\x00\x80\x03\x00\x00\x02\x00\x00\x01"));
+    expect_numbers(&rt, &ran, want);
+    expect_nothing_received(&rt, &ran);
+    expect_letters(&rt, rt.alloc(), &ran, b".....CCCCDrIIIII");
+    let preamble = b"\xBD\x00\x80\x03\x00\x00\x02\x00\x00\x01";
+    expect_said(&rt, rt.alloc(), &ran, 7, preamble);
 }
 
 // Behind the preambles: compressed, rate 1/2, one block from radio 1 to radio 2, and the check.
@@ -117,30 +137,35 @@ fn datagram_sent(rt: HostRuntime) {
 fn unconfirmed_header_octets(rt: HostRuntime) {
     let ran = run_sample(&rt, rt.alloc(), &DATAGRAM_SENT);
     let octets = [0x02, 0x31, 0x00, 0x00, 0x02, 0x00, 0x00, 0x01, 0x81, 0x00];
-    assert!(rt; said_in(&rt, rt.alloc(), &ran, 9) == seal(&octets, Mask::Header));
+    expect_said(&rt, rt.alloc(), &ran, 9, &seal(&octets, Mask::Header));
 }
 
-// Nine wait, and a tenth is refused; a frame later the first of them has begun.
+/// Behind nine datagrams of frame 0 a tenth is offered in this frame: so many are refused.
+fn expect_refused(rt: &impl Abort, alloc: Global, frame: u8, refused: u32) {
+    let first = record(rt, alloc, 0, 0, &[&EMPTY_DATAGRAM]);
+    let tenth = record(rt, alloc, frame, 0, &[&EMPTY_DATAGRAM]);
+    let outgoing: [&[u8]; 11] = [
+        &OUTGOING, &first, &first, &first, &first, &first, &first, &first, &first, &first, &tenth,
+    ];
+    let ran = run_pieces(rt, alloc, &[&UPLINK], &outgoing);
+    let want = Summary {
+        sent: 1,
+        refused,
+        ..summary(6, 0)
+    };
+    expect_numbers(rt, &ran, want);
+}
+
+// Nine wait, and a tenth is refused.
 #[test]
 fn full_queue(rt: HostRuntime) {
-    let first = record(&rt, rt.alloc(), 0, 0, &[&EMPTY_DATAGRAM]);
-    let nine = joined(
-        &rt,
-        rt.alloc(),
-        &[
-            &OUTGOING, &first, &first, &first, &first, &first, &first, &first, &first, &first,
-        ],
-    );
-    for (frame, refused) in [(0, 1), (1, 0)] {
-        let tenth = record(&rt, rt.alloc(), frame, 0, &[&EMPTY_DATAGRAM]);
-        let ran = run_pieces(&rt, rt.alloc(), &[&UPLINK], &[&nine, &tenth]);
-        let want = Summary {
-            sent: 1,
-            refused,
-            ..summary(6, 0)
-        };
-        assert!(rt; ran.answer == Ok(want), "with the last in frame {frame}");
-    }
+    expect_refused(&rt, rt.alloc(), 0, 1);
+}
+
+// A frame later the first of them has begun.
+#[test]
+fn full_queue_a_frame_later(rt: HostRuntime) {
+    expect_refused(&rt, rt.alloc(), 1, 0);
 }
 
 // To no network of the gateway, confirmed to a group, and too long; and one of a frame that the run hasn't.
@@ -158,8 +183,8 @@ fn refused_offers(rt: HostRuntime) {
         unoffered: 1,
         ..summary(6, 0)
     };
-    assert!(rt; ran.answer == Ok(want));
-    assert_eq!(rt; ran.downlink.len(), 8 + 12);
+    expect_numbers(&rt, &ran, want);
+    expect_downlink_of(&rt, &ran, 8 + 12);
 }
 
 // A confirmed packet at rate 1/2 has 1,266 octets at most, and an unconfirmed one 1,400.
@@ -174,36 +199,42 @@ fn longest_datagrams(rt: HostRuntime) {
         refused: 1,
         ..summary(6, 0)
     };
-    assert!(rt; ran.answer == Ok(want));
+    expect_numbers(&rt, &ran, want);
 }
 
 // Two preambles, the header and two blocks; nothing answers, and the run ends before the next try.
 #[test]
 fn unanswered_try(rt: HostRuntime) {
     let ran = run_pieces(&rt, rt.alloc(), &[&UPLINK, &[0; 20]], &CONFIRMED);
-    assert!(rt; ran.answer == Ok(summary(16, 0)));
-    assert!(rt; has_letters(&rt, rt.alloc(), &ran, b".....CCDrrIIIII."));
+    expect_numbers(&rt, &ran, summary(16, 0));
+    expect_letters(&rt, rt.alloc(), &ran, b".....CCDrrIIIII.");
 }
 
 /// In which frames slot 1 of the downlink begins a try: with a preamble behind anything else.
-fn tries_in(rt: &impl Abort, alloc: Global, ran: &Ran) -> Vec<u32> {
+fn tries_in(rt: &impl Abort, alloc: Global, ran: &Ran) -> Vec<usize> {
     let letters = letters_of(rt, alloc, ran);
     let mut tries = Vec::new(alloc);
     let mut before = b'.';
-    for (frame, letter) in (0u32..).zip(letters.iter().copied()) {
-        if letter == b'C' && before != b'C' {
+    for (frame, letter) in letters.iter().enumerate() {
+        if *letter == b'C' && before != b'C' {
             tries.push(frame).expect(rt, "there is memory");
         }
-        before = letter;
+        before = *letter;
     }
     tries
 }
 
+/// The tries in slot 1 of the downlink begin in these frames.
+fn expect_tries_in(rt: &impl Abort, alloc: Global, ran: &Ran, frames: &[usize]) {
+    let tries = tries_in(rt, alloc, ran);
+    are_same(rt, "tries", &tries.as_slice(), &frames);
+}
+
 /// Over this uplink, in pieces, the confirmed datagram of frame 5 comes to these numbers, by tries that begin in these frames.
-fn expect_tries(rt: &impl Abort, alloc: Global, uplink: &[&[u8]], want: Summary, tries: &[u32]) {
+fn expect_tries(rt: &impl Abort, alloc: Global, uplink: &[&[u8]], want: Summary, tries: &[usize]) {
     let ran = run_pieces(rt, alloc, uplink, &CONFIRMED);
-    assert!(rt; ran.answer == Ok(want));
-    assert!(rt; tries_in(rt, alloc, &ran).as_slice() == tries);
+    expect_numbers(rt, &ran, want);
+    expect_tries_in(rt, alloc, &ran, tries);
 }
 
 // The tries begin 20 frames behind the last block; an answer in the last of these frames delivers, and one in the frame behind it
@@ -259,31 +290,37 @@ fn status_received(rt: HostRuntime) {
         received: 1,
         ..summary(7, 1)
     };
-    assert!(rt; ran.answer == Ok(want));
+    expect_numbers(&rt, &ran, want);
     let record = b"\x03\0\0\0\x06\x01\x02\0\0\x03\0\x04\x01\x02\0\x05";
-    assert!(rt; ran.received == joined(&rt, rt.alloc(), &[&RECEIVED, record]));
+    expect_received(&rt, rt.alloc(), &ran, &[&RECEIVED, record]);
 }
 
 // Of 64 blocks the first and the last are missing: an answer asks for them, a retry brings them, and the packet is received.
 #[test]
 fn confirmed_packet_received(rt: HostRuntime) {
-    let ran = run_sample(&rt, rt.alloc(), &CONFIRMED_PACKET_RECEIVED);
-    let asked = said_in(&rt, rt.alloc(), &ran, 70);
-    assert!(rt; asked.starts_with(b"\x01\x40\0\0\x02\0\0\x01\x01\x80"));
-    let flags = said_in(&rt, rt.alloc(), &ran, 71);
-    assert!(rt; flags.starts_with(b"\xFE\xFF\xFF\xFF\xFF\xFF\xFF\x7F"));
-    assert!(rt; said_in(&rt, rt.alloc(), &ran, 89).starts_with(&ACKNOWLEDGED));
-    assert!(rt; ran.received.get(9..13) == Some(&[0, 0, 0, 88][..]));
+    let ran = run_sample(&rt, rt.alloc(), confirmed_packet());
+    let asked = b"\x01\x40\0\0\x02\0\0\x01\x01\x80";
+    expect_said(&rt, rt.alloc(), &ran, 70, asked);
+    let flags = b"\xFE\xFF\xFF\xFF\xFF\xFF\xFF\x7F";
+    expect_said(&rt, rt.alloc(), &ran, 71, flags);
+    expect_said(&rt, rt.alloc(), &ran, 89, &ACKNOWLEDGED);
+    expect_received_in(&rt, &ran, 88);
 }
 
 // The retry comes twice: it is acknowledged each time, and the packet is received once.
 #[test]
 fn repeated_retry(rt: HostRuntime) {
-    let ran = run_sample(&rt, rt.alloc(), &CONFIRMED_PACKET_RECEIVED);
-    assert!(rt; said_in(&rt, rt.alloc(), &ran, 89).starts_with(&ACKNOWLEDGED));
-    assert!(rt; said_in(&rt, rt.alloc(), &ran, 99).starts_with(&ACKNOWLEDGED));
-    assert!(rt; ran.answer.is_ok_and(|summary| summary.received == 1));
-    assert_eq!(rt; ran.received.len(), 8 + 12 + 636);
+    let ran = run_sample(&rt, rt.alloc(), confirmed_packet());
+    expect_said(&rt, rt.alloc(), &ran, 89, &ACKNOWLEDGED);
+    expect_said(&rt, rt.alloc(), &ran, 99, &ACKNOWLEDGED);
+    expect_one_record(&rt, &ran, 8 + 12 + 636);
+}
+
+/// A run has received one record, in a file of so many octets.
+fn expect_one_record(rt: &impl Abort, ran: &Ran, count: usize) {
+    let counted = ran.answer.map(|summary| summary.received);
+    are_same(rt, "records", &counted, &Ok(1));
+    are_same(rt, "octets", &ran.received.len(), &count);
 }
 
 /// Some octets of a recording.
@@ -291,10 +328,9 @@ fn part(octets: &[u8], from: usize, to: usize) -> &[u8] {
     octets.get(from..to).unwrap_or(&[])
 }
 
-// Both retries bring the first block twice, and never the last.
-#[test]
-fn same_serial_twice(rt: HostRuntime) {
-    let recorded = octets_of(&rt, rt.alloc(), CONFIRMED_PACKET_RECEIVED.uplink);
+/// The recording of the confirmed packet, both retries of which bring the first block twice, and never the last.
+fn recording_of_the_first_block(rt: &impl Abort, alloc: Global) -> Vec<u8> {
+    let recorded = octets_of(rt, alloc, confirmed_packet().uplink);
     // Frames 0 to 64 have 63 bursts, 65 to 79 none, 80 to 82 three, 83 to 89 none, 90 to 92 three.
     let frame = 35;
     let first = UPLINK.len() + 63 * frame + 2 * 17;
@@ -304,7 +340,7 @@ fn same_serial_twice(rt: HostRuntime) {
     let block = part(&recorded, first + frame, first + 2 * frame);
     let rest = part(&recorded, behind, recorded.len());
     let silence = &[0; 14];
-    let uplink = [
+    let pieces = [
         front,
         header_and_block,
         block,
@@ -313,21 +349,25 @@ fn same_serial_twice(rt: HostRuntime) {
         block,
         rest,
     ];
-    let uplink = joined(&rt, rt.alloc(), &uplink);
-    assert_eq!(rt; uplink.len(), recorded.len());
+    let uplink = joined(rt, alloc, &pieces);
+    are_same(rt, "octets", &uplink.len(), &recorded.len());
+    uplink
+}
+
+// The last block is asked for again.
+#[test]
+fn same_serial_twice(rt: HostRuntime) {
+    let uplink = recording_of_the_first_block(&rt, rt.alloc());
     let ran = run_over(&rt, rt.alloc(), &uplink, &OUTGOING);
     let want = Summary {
         received: 0,
-        ..CONFIRMED_PACKET_RECEIVED.summary
+        ..confirmed_packet().summary
     };
-    assert!(rt; ran.answer == Ok(want) && ran.received.as_slice() == &RECEIVED[..]);
-    for frame in [90, 100] {
-        let flags = said_in(&rt, rt.alloc(), &ran, frame);
-        assert!(rt;
-            flags.starts_with(b"\xFF\xFF\xFF\xFF\xFF\xFF\xFF\x7F"),
-            "in frame {frame}"
-        );
-    }
+    expect_numbers(&rt, &ran, want);
+    expect_nothing_received(&rt, &ran);
+    let flags = b"\xFF\xFF\xFF\xFF\xFF\xFF\xFF\x7F";
+    expect_said(&rt, rt.alloc(), &ran, 90, flags);
+    expect_said(&rt, rt.alloc(), &ran, 100, flags);
 }
 
 /// A try of a packet of 127 blocks, the first of each 64 and the last of which are missing, and a try of these alone.
@@ -368,17 +408,25 @@ fn packet_of_127_blocks(rt: HostRuntime) {
         received: 1,
         ..summary(156, 129)
     };
-    assert!(rt; ran.answer == Ok(want));
-    let asked = said_in(&rt, rt.alloc(), &ran, 133);
-    assert!(rt; asked.starts_with(b"\x01\x40\0\0\x02\0\0\x01\x02\x80"));
-    let first = said_in(&rt, rt.alloc(), &ran, 134);
-    assert!(rt; first == *b"\xFE\xFF\xFF\xFF\xFF\xFF\xFF\xFF\xFE\xFF\xFF\xFF");
-    let second = said_in(&rt, rt.alloc(), &ran, 135);
-    assert!(rt; second.starts_with(b"\xFF\xFF\xFF\x3F\0\0\0\0"));
-    let answered = said_in(&rt, rt.alloc(), &ran, 150);
-    assert!(rt; answered.starts_with(b"\x01\x40\0\0\x02\0\0\x01\0\x08"));
-    assert!(rt; ran.received.get(9..13) == Some(&[0, 0, 0, 149][..]));
-    assert!(rt; ran.received.get(20..) == Some(&[0x45; 1266][..]));
+    expect_numbers(&rt, &ran, want);
+    let asked = b"\x01\x40\0\0\x02\0\0\x01\x02\x80";
+    expect_said(&rt, rt.alloc(), &ran, 133, asked);
+    let first = b"\xFE\xFF\xFF\xFF\xFF\xFF\xFF\xFF\xFE\xFF\xFF\xFF";
+    expect_said(&rt, rt.alloc(), &ran, 134, first);
+    let second = b"\xFF\xFF\xFF\x3F\0\0\0\0";
+    expect_said(&rt, rt.alloc(), &ran, 135, second);
+    expect_said(&rt, rt.alloc(), &ran, 150, &ACKNOWLEDGED);
+    expect_received_in(&rt, &ran, 149);
+    let packet = ran.received.get(20..);
+    are_same(&rt, "packet", &packet, &Some(&[0x45; 1266][..]));
+}
+
+/// The second try in slot 1 of the downlink, from frame 87 up to frame 166, has so many blocks at rate 1/2.
+fn expect_second_try(rt: &impl Abort, alloc: Global, ran: &Ran, blocks: usize) {
+    let letters = letters_of(rt, alloc, ran);
+    let second = part(&letters, 87, 166);
+    let count = second.iter().filter(|letter| **letter == b'r').count();
+    are_same(rt, "blocks", &count, &blocks);
 }
 
 // The gateway sent 65 blocks: an answer that counts one block of flags isn't heard, and 20 frames later the whole packet goes
@@ -389,10 +437,8 @@ fn one_flag_block_for_65(rt: HostRuntime) {
     let asked = header_burst(&[1, 0x40, 0, 0, 1, 0, 0, 2, 1, 0x80]);
     let uplink: [&[u8]; 5] = [&UPLINK, &[0; 140], &[1], &asked, &[0; 179]];
     let ran = run_pieces(&rt, rt.alloc(), &uplink, &[&OUTGOING, &confirmed]);
-    assert!(rt; ran.answer == Ok(summary(166, 1)));
+    expect_numbers(&rt, &ran, summary(166, 1));
     // Two preambles, the header and 65 blocks, the last in frame 67; the next try begins in frame 87.
-    assert!(rt; tries_in(&rt, rt.alloc(), &ran).as_slice() == &[0, 87][..]);
-    let letters = letters_of(&rt, rt.alloc(), &ran);
-    let second = part(&letters, 87, 166);
-    assert_eq!(rt; second.iter().filter(|letter| **letter == b'r').count(), 65);
+    expect_tries_in(&rt, rt.alloc(), &ran, &[0, 87]);
+    expect_second_try(&rt, rt.alloc(), &ran, 65);
 }

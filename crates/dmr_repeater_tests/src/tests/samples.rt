@@ -28,6 +28,18 @@ const NO_FRAMES: Summary = Summary {
     unoffered: 0,
 };
 
+// What several tests take is lent by a function: each function that names a recording is checked with all its octets.
+
+/// The recording of a call.
+pub fn call() -> &'static Sample {
+    &CALL
+}
+
+/// The recording of a confirmed packet, whose first and last blocks come later.
+pub fn confirmed_packet() -> &'static Sample {
+    &CONFIRMED_PACKET_RECEIVED
+}
+
 pub static CALL: Sample = Sample {
     name: "call",
     uplink: b"\

@@ -1,5 +1,5 @@
 //! Statements that send nothing, blanks, remarks and lines.
-use super::{says, script_of};
+use super::{are_same, says, script_of};
 use dmr_data::Rate;
 use dmr_script::{
     AddressedMessage, Datagram, NumberedStatement, Send, Slot, Statement, UdpMessage,
@@ -8,24 +8,27 @@ use std::test::Fail;
 
 #[test]
 fn statements_that_send_nothing(rt: HostRuntime) -> Result<(), Fail> {
-    let alloc = rt.alloc();
-    says(&rt, alloc, "slot 1", Statement::Slot(Slot::One))?;
-    says(&rt, alloc, "slot 2", Statement::Slot(Slot::Two))?;
-    says(&rt, alloc, "silence 4", Statement::Silence(4))?;
-    says(&rt, alloc, "at 0", Statement::At(0))?;
-    says(&rt, alloc, "at 4294967295", Statement::At(4294967295))?;
-    says(&rt, alloc, "frames 40", Statement::Frames(40))?;
+    let rows = [
+        ("slot 1", Statement::Slot(Slot::One)),
+        ("slot 2", Statement::Slot(Slot::Two)),
+        ("silence 4", Statement::Silence(4)),
+        ("at 0", Statement::At(0)),
+        ("at 4294967295", Statement::At(4294967295)),
+        ("frames 40", Statement::Frames(40)),
+        ("  silence \t 4 # five", Statement::Silence(4)),
+        ("silence 4# five", Statement::Silence(4)),
+    ];
+    for (line, expected) in rows {
+        says(&rt, rt.alloc(), line, expected)?;
+    }
     Ok(())
 }
 
 #[test]
 fn blanks_and_remarks(rt: HostRuntime) -> Result<(), Fail> {
-    let alloc = rt.alloc();
-    says(&rt, alloc, "  silence \t 4 # five", Statement::Silence(4))?;
-    says(&rt, alloc, "silence 4# five", Statement::Silence(4))?;
     let text = "# a remark\n\ncolour 1\n   # another\nframes 5\r\nslot 2";
-    let script = script_of(alloc, text)?;
-    assert_eq!(rt; script.refused, None);
+    let script = script_of(rt.alloc(), text)?;
+    are_same(&rt, text, &script.refused, &None);
     let expected = [
         NumberedStatement {
             line: 3,
@@ -40,14 +43,19 @@ fn blanks_and_remarks(rt: HostRuntime) -> Result<(), Fail> {
             statement: Statement::Slot(Slot::Two),
         },
     ];
-    assert_eq!(rt; script.statements.as_slice(), expected.as_slice());
+    are_same(
+        &rt,
+        text,
+        &script.statements.as_slice(),
+        &expected.as_slice(),
+    );
     Ok(())
 }
 
 #[test]
 fn no_statement(rt: HostRuntime) -> Result<(), Fail> {
     let script = script_of(rt.alloc(), "\n# nothing\n")?;
-    assert_eq!(rt; script.refused, None);
+    are_same(&rt, "refused", &script.refused, &None);
     assert!(rt; script.statements.is_empty());
     Ok(())
 }

@@ -18,9 +18,19 @@ fn whole(alloc: Global, blocks: usize) -> Result<PacketShape, AllocError> {
 }
 
 #[test]
-fn datagrams(rt: HostRuntime) -> Result<(), Fail> {
+fn confirmed_datagram(rt: HostRuntime) -> Result<(), Fail> {
     let alloc = rt.alloc();
+    let body = Body::Udp(UdpMessage {
+        source_port: 5018,
+        destination_port: 5016,
+        identification: 0,
+        data: b"fine, thank you".to_vec(alloc)?,
+    });
     // 28 octets of headers, 15 of data and 4 of check, in blocks of 10.
+    let shape = PacketShape {
+        preambles: 2,
+        blocks: [true, true, false, true, false].to_vec(alloc)?,
+    };
     sends(
         &rt,
         alloc,
@@ -34,19 +44,24 @@ fn datagrams(rt: HostRuntime) -> Result<(), Fail> {
             number: 0,
             rate: Rate::Half,
             wanted: true,
-            body: Body::Udp(UdpMessage {
-                source_port: 5018,
-                destination_port: 5016,
-                identification: 0,
-                data: b"fine, thank you".to_vec(alloc)?,
-            }),
-            shape: PacketShape {
-                preambles: 2,
-                blocks: [true, true, false, true, false].to_vec(alloc)?,
-            },
+            body,
+            shape,
         }),
     )?;
+    Ok(())
+}
+
+#[test]
+fn confirmed_datagram_with_short_headers(rt: HostRuntime) -> Result<(), Fail> {
+    let alloc = rt.alloc();
+    let body = Body::Udp(UdpMessage {
+        source_port: 1,
+        destination_port: 2,
+        identification: 258,
+        data: [1, 2, 3, 4, 5, 6, 7, 8, 9].to_vec(alloc)?,
+    });
     // Five octets, two ports of two, 9 of data and 4 of check, in one block of 22.
+    let shape = whole(alloc, 1)?;
     sends(
         &rt,
         alloc,
@@ -60,16 +75,24 @@ fn datagrams(rt: HostRuntime) -> Result<(), Fail> {
             number: 7,
             rate: Rate::Full,
             wanted: false,
-            body: Body::Udp(UdpMessage {
-                source_port: 1,
-                destination_port: 2,
-                identification: 258,
-                data: [1, 2, 3, 4, 5, 6, 7, 8, 9].to_vec(alloc)?,
-            }),
-            shape: whole(alloc, 1)?,
+            body,
+            shape,
         }),
     )?;
+    Ok(())
+}
+
+#[test]
+fn unconfirmed_datagram(rt: HostRuntime) -> Result<(), Fail> {
+    let alloc = rt.alloc();
+    let body = Body::Udp(UdpMessage {
+        source_port: 5016,
+        destination_port: 5017,
+        identification: 0,
+        data: Vec::new(alloc),
+    });
     // Five octets and 4 of check, in one block of 12: both ports have identifiers.
+    let shape = whole(alloc, 1)?;
     sends(
         &rt,
         alloc,
@@ -83,13 +106,8 @@ fn datagrams(rt: HostRuntime) -> Result<(), Fail> {
             number: 0,
             rate: Rate::Half,
             wanted: false,
-            body: Body::Udp(UdpMessage {
-                source_port: 5016,
-                destination_port: 5017,
-                identification: 0,
-                data: Vec::new(alloc),
-            }),
-            shape: whole(alloc, 1)?,
+            body,
+            shape,
         }),
     )?;
     Ok(())
@@ -120,42 +138,43 @@ fn octets(rt: HostRuntime) -> Result<(), Fail> {
 }
 
 #[test]
-fn further_tries(rt: HostRuntime) -> Result<(), Fail> {
+fn full_tries(rt: HostRuntime) -> Result<(), Fail> {
     let alloc = rt.alloc();
     sends(&rt, alloc, "full", Transmission::Again(Again::Full(None)))?;
-    sends(
-        &rt,
-        alloc,
-        "full: cD b.",
-        Transmission::Again(Again::Full(Some(PacketShape {
-            preambles: 1,
-            blocks: [true, false].to_vec(alloc)?,
-        }))),
-    )?;
-    sends(
-        &rt,
-        alloc,
-        "partial 2 4: D bb",
-        Transmission::Again(Again::Partial(PartialTry {
-            serials: [2, 4].to_vec(alloc)?,
-            shape: whole(alloc, 2)?,
-        })),
-    )?;
-    sends(
-        &rt,
-        alloc,
-        "partial 126",
-        Transmission::Again(Again::Partial(PartialTry {
-            serials: [126].to_vec(alloc)?,
-            shape: whole(alloc, 1)?,
-        })),
-    )?;
+    let shape = PacketShape {
+        preambles: 1,
+        blocks: [true, false].to_vec(alloc)?,
+    };
+    let transmission = Transmission::Again(Again::Full(Some(shape)));
+    sends(&rt, alloc, "full: cD b.", transmission)?;
+    Ok(())
+}
+
+/// That a line is another try with these blocks, and that all of them are sent.
+fn is_partial(
+    rt: &impl Abort,
+    alloc: Global,
+    line: &str,
+    serials: &[u8],
+) -> Result<(), AllocError> {
+    let shape = whole(alloc, serials.len())?;
+    let serials = serials.to_vec(alloc)?;
+    let transmission = Transmission::Again(Again::Partial(PartialTry { serials, shape }));
+    sends(rt, alloc, line, transmission)
+}
+
+#[test]
+fn partial_tries(rt: HostRuntime) -> Result<(), Fail> {
+    is_partial(&rt, rt.alloc(), "partial 2 4: D bb", &[2, 4])?;
+    is_partial(&rt, rt.alloc(), "partial 126", &[126])?;
     Ok(())
 }
 
 #[test]
-fn short_data_and_status(rt: HostRuntime) -> Result<(), Fail> {
+fn short_data(rt: HostRuntime) -> Result<(), Fail> {
     let alloc = rt.alloc();
+    let octets = [1, 2].to_vec(alloc)?;
+    let shape = whole(alloc, 1)?;
     sends(
         &rt,
         alloc,
@@ -165,46 +184,64 @@ fn short_data_and_status(rt: HostRuntime) -> Result<(), Fail> {
             group: true,
             destination: 1,
             format: 63,
-            octets: [1, 2].to_vec(alloc)?,
-            shape: whole(alloc, 1)?,
+            octets,
+            shape,
         }),
     )?;
+    Ok(())
+}
+
+/// That a line sends this status, with so many preambles.
+fn sends_status(
+    rt: &impl Abort,
+    alloc: Global,
+    line: &str,
+    header: Status,
+    preambles: u8,
+) -> Result<(), AllocError> {
+    let shape = PacketShape {
+        preambles,
+        blocks: Vec::new(alloc),
+    };
     sends(
-        &rt,
+        rt,
         alloc,
+        line,
+        Transmission::Status(StatusSent { header, shape }),
+    )
+}
+
+#[test]
+fn status(rt: HostRuntime) -> Result<(), Fail> {
+    sends_status(
+        &rt,
+        rt.alloc(),
         "status 3 -> 1, port 1 -> 2, status 5",
-        Transmission::Status(StatusSent {
-            header: Status {
-                group: false,
-                wanted: false,
-                destination: 1,
-                source: 3,
-                source_port: 1,
-                destination_port: 2,
-                status: 5,
-            },
-            shape: whole(alloc, 0)?,
-        }),
+        Status {
+            group: false,
+            wanted: false,
+            destination: 1,
+            source: 3,
+            source_port: 1,
+            destination_port: 2,
+            status: 5,
+        },
+        0,
     )?;
-    sends(
+    sends_status(
         &rt,
-        alloc,
+        rt.alloc(),
         "status 3 -> group 1, port 7 -> 0, status 1023: ccD",
-        Transmission::Status(StatusSent {
-            header: Status {
-                group: true,
-                wanted: false,
-                destination: 1,
-                source: 3,
-                source_port: 7,
-                destination_port: 0,
-                status: 1023,
-            },
-            shape: PacketShape {
-                preambles: 2,
-                blocks: Vec::new(alloc),
-            },
-        }),
+        Status {
+            group: true,
+            wanted: false,
+            destination: 1,
+            source: 3,
+            source_port: 7,
+            destination_port: 0,
+            status: 1023,
+        },
+        2,
     )?;
     Ok(())
 }
@@ -236,55 +273,39 @@ fn answers(
 }
 
 #[test]
-fn kinds_of_answers(rt: HostRuntime) -> Result<(), Fail> {
+fn acknowledged(rt: HostRuntime) -> Result<(), Fail> {
     let alloc = rt.alloc();
-    answers(
-        &rt,
-        alloc,
-        "ACK 2 -> 1, N(S) 0",
-        0,
-        4,
-        AnswerKind::Acknowledged,
-        0,
-    )?;
-    answers(
-        &rt,
-        alloc,
-        "ACK 2 -> 1, N(S) 7, SAP 3",
-        7,
-        3,
-        AnswerKind::Acknowledged,
-        0,
-    )?;
-    answers(
-        &rt,
-        alloc,
-        "failed 2 -> 1, N(S) 1: D",
-        1,
-        4,
-        AnswerKind::Failed,
-        0,
-    )?;
-    let wanted = Wanted {
-        serials: [1].to_vec(alloc)?,
-        blocks: 5,
-    };
-    let kind = AnswerKind::SelectiveRepeat(wanted);
-    answers(
-        &rt,
-        alloc,
-        "selective repeat 2 -> 1, N(S) 0, wanted 1 of 5",
-        0,
-        4,
-        kind,
-        1,
-    )?;
-    let wanted = Wanted {
-        serials: [0, 64].to_vec(alloc)?,
+    let kind = AnswerKind::Acknowledged;
+    answers(&rt, alloc, "ACK 2 -> 1, N(S) 0", 0, 4, kind, 0)?;
+    let kind = AnswerKind::Acknowledged;
+    answers(&rt, alloc, "ACK 2 -> 1, N(S) 7, SAP 3", 7, 3, kind, 0)?;
+    Ok(())
+}
+
+#[test]
+fn failed(rt: HostRuntime) -> Result<(), Fail> {
+    let kind = AnswerKind::Failed;
+    answers(&rt, rt.alloc(), "failed 2 -> 1, N(S) 1: D", 1, 4, kind, 0)?;
+    Ok(())
+}
+
+#[test]
+fn selective_repeat(rt: HostRuntime) -> Result<(), Fail> {
+    let serials = [1].to_vec(rt.alloc())?;
+    let kind = AnswerKind::SelectiveRepeat(Wanted { serials, blocks: 5 });
+    let line = "selective repeat 2 -> 1, N(S) 0, wanted 1 of 5";
+    answers(&rt, rt.alloc(), line, 0, 4, kind, 1)?;
+    Ok(())
+}
+
+#[test]
+fn selective_repeat_of_two_blocks_of_flags(rt: HostRuntime) -> Result<(), Fail> {
+    let serials = [0, 64].to_vec(rt.alloc())?;
+    let kind = AnswerKind::SelectiveRepeat(Wanted {
+        serials,
         blocks: 65,
-    };
-    let kind = AnswerKind::SelectiveRepeat(wanted);
+    });
     let line = "selective repeat 2 -> 1, N(S) 0, wanted 0 64 of 65, SAP 15: D bb";
-    answers(&rt, alloc, line, 0, 15, kind, 2)?;
+    answers(&rt, rt.alloc(), line, 0, 15, kind, 2)?;
     Ok(())
 }

@@ -1,14 +1,18 @@
 //! What is said of lines that are refused.
-use super::{is_refused, script_of};
+use super::{are_refused, are_same, is_refused, script_of};
 use dmr_record::FromRead;
-use dmr_script::{NumberedStatement, Refusal, RefusedLine, Slot, Statement, read_script};
+use dmr_script::{NumberedStatement, Refusal, RefusedLine, Script, Slot, Statement, read_script};
 use dmr_test_devices::{FailsAt, OneByOne};
 use std::alloc::{AllocError, Global};
 use std::process::Abort;
 use std::test::Fail;
 
 /// That each of these lines, behind `slot 1`, is refused for what stands beside it.
-fn are_refused(rt: &impl Abort, alloc: Global, rows: &[(&str, &str)]) -> Result<(), AllocError> {
+fn are_refused_behind_slot(
+    rt: &impl Abort,
+    alloc: Global,
+    rows: &[(&str, &str)],
+) -> Result<(), AllocError> {
     for (line, expected) in rows {
         let text = format!(in alloc; "slot 1\n{line}\n")?;
         let expected = format!(in alloc; "line 2: {expected}")?;
@@ -19,7 +23,7 @@ fn are_refused(rt: &impl Abort, alloc: Global, rows: &[(&str, &str)]) -> Result<
 
 #[test]
 fn grammar(rt: HostRuntime) -> Result<(), Fail> {
-    are_refused(
+    are_refused_behind_slot(
         &rt,
         rt.alloc(),
         &[
@@ -161,28 +165,37 @@ fn grammar(rt: HostRuntime) -> Result<(), Fail> {
     Ok(())
 }
 
+/// Why a call without a shape is refused.
+const NO_SHAPE: &str = "a call has a shape, as in H ABCDEF T";
+
+/// Why letters that are no call are refused.
+const CALL_LETTERS: &str = "a call is headers, places and terminators, as in H ABCDEF T";
+
+/// Why letters that are no packet are refused.
+const PACKET_LETTERS: &str = "a packet is CSBKs, a header and blocks, as in ccDbb";
+
 #[test]
 fn shapes(rt: HostRuntime) -> Result<(), Fail> {
-    let letters = "a call is headers, places and terminators, as in H ABCDEF T";
-    let none = "a call has a shape, as in H ABCDEF T";
-    let packet = "a packet is CSBKs, a header and blocks, as in ccDbb";
-    are_refused(
+    are_refused_behind_slot(
         &rt,
         rt.alloc(),
         &[
-            ("group call 2 -> 1", none),
-            ("group call 2 -> 1:", none),
-            ("group call 2 -> 1: T", letters),
-            ("group call 2 -> 1: EF", letters),
-            ("group call 2 -> 1: PHA", letters),
-            ("group call 2 -> 1: HTA", letters),
-            ("group call 2 -> 1: H ABH", letters),
-            ("group call 2 -> 1: H . T", letters),
-            ("group call 2 -> 1: H Ab", letters),
-            ("status 2 -> 1, port 1 -> 2, status 5: c", packet),
-            ("status 2 -> 1, port 1 -> 2, status 5:", packet),
-            ("status 2 -> 1, port 1 -> 2, status 5: Dc", packet),
-            ("status 2 -> 1, port 1 -> 2, status 5: 256*c D", packet),
+            ("group call 2 -> 1", NO_SHAPE),
+            ("group call 2 -> 1:", NO_SHAPE),
+            ("group call 2 -> 1: T", CALL_LETTERS),
+            ("group call 2 -> 1: EF", CALL_LETTERS),
+            ("group call 2 -> 1: PHA", CALL_LETTERS),
+            ("group call 2 -> 1: HTA", CALL_LETTERS),
+            ("group call 2 -> 1: H ABH", CALL_LETTERS),
+            ("group call 2 -> 1: H . T", CALL_LETTERS),
+            ("group call 2 -> 1: H Ab", CALL_LETTERS),
+            ("status 2 -> 1, port 1 -> 2, status 5: c", PACKET_LETTERS),
+            ("status 2 -> 1, port 1 -> 2, status 5:", PACKET_LETTERS),
+            ("status 2 -> 1, port 1 -> 2, status 5: Dc", PACKET_LETTERS),
+            (
+                "status 2 -> 1, port 1 -> 2, status 5: 256*c D",
+                PACKET_LETTERS,
+            ),
             (
                 "opcode 0, fid 0, 0000000000000000: c",
                 "a control block has no shape",
@@ -249,7 +262,7 @@ fn shapes(rt: HostRuntime) -> Result<(), Fail> {
 
 #[test]
 fn packets(rt: HostRuntime) -> Result<(), Fail> {
-    are_refused(
+    are_refused_behind_slot(
         &rt,
         rt.alloc(),
         &[
@@ -272,11 +285,15 @@ fn packets(rt: HostRuntime) -> Result<(), Fail> {
     Ok(())
 }
 
+/// Why a silence at an end is refused.
+const ENDS: &str = "of another colour code it begins and ends with a burst";
+
+/// Why a voice sync without an EMB is refused.
+const SYNC: &str = "behind a voice sync of another colour code an EMB stands within five slots";
+
 #[test]
 fn another_colour_code(rt: HostRuntime) -> Result<(), Fail> {
-    let ends = "of another colour code it begins and ends with a burst";
-    let sync = "behind a voice sync of another colour code an EMB stands within five slots";
-    are_refused(
+    are_refused_behind_slot(
         &rt,
         rt.alloc(),
         &[
@@ -284,140 +301,161 @@ fn another_colour_code(rt: HostRuntime) -> Result<(), Fail> {
                 "foreign 1 group call 2 -> 1: H",
                 "colour code 1 is the own one",
             ),
-            ("foreign 2 group call 2 -> 1: HA", sync),
-            ("foreign 2 group call 2 -> 1: HA.....T", sync),
-            ("foreign 2 group call 2 -> 1: HABCDEFA.....ABC", sync),
-            ("foreign 2 group call 2 -> 1: .FAB", ends),
-            ("foreign 2 partial 1 2: Db.", ends),
+            ("foreign 2 group call 2 -> 1: HA", SYNC),
+            ("foreign 2 group call 2 -> 1: HA.....T", SYNC),
+            ("foreign 2 group call 2 -> 1: HABCDEFA.....ABC", SYNC),
+            ("foreign 2 group call 2 -> 1: .FAB", ENDS),
+            ("foreign 2 partial 1 2: Db.", ENDS),
+        ],
+    )?;
+    Ok(())
+}
+
+/// Why a line in front of the first slot is refused.
+const NO_SLOT: &str = "line 1: a slot has to be named first";
+
+#[test]
+fn order(rt: HostRuntime) -> Result<(), Fail> {
+    are_refused(
+        &rt,
+        rt.alloc(),
+        &[
+            ("silence 4", NO_SLOT),
+            ("at 4", NO_SLOT),
+            ("status 3 -> 1, port 1 -> 2, status 5", NO_SLOT),
+            ("send at 4, octets 00", NO_SLOT),
+            (
+                "silence x",
+                "line 1: expected a number from 0 to 4294967295, found 'x'",
+            ),
+            (
+                "slot 1\n\ncolour 2",
+                "line 3: the colour code stands in front of the first slot",
+            ),
+            (
+                "colour 2\ncolour 3\nslot 1\nforeign 3 status 3 -> 1, port 1 -> 2, status 5",
+                "line 4: colour code 3 is the own one",
+            ),
+            (
+                "slot 1\nframes 5\nframes 5\n",
+                "line 3: the number of frames stands once",
+            ),
         ],
     )?;
     Ok(())
 }
 
 #[test]
-fn order(rt: HostRuntime) -> Result<(), Fail> {
+fn first_refused_line(rt: HostRuntime) -> Result<(), Fail> {
     let alloc = rt.alloc();
-    let first = "line 1: a slot has to be named first";
-    is_refused(&rt, alloc, "silence 4", first)?;
-    is_refused(&rt, alloc, "at 4", first)?;
-    is_refused(&rt, alloc, "status 3 -> 1, port 1 -> 2, status 5", first)?;
-    is_refused(&rt, alloc, "send at 4, octets 00", first)?;
-    is_refused(
-        &rt,
-        alloc,
-        "silence x",
-        "line 1: expected a number from 0 to 4294967295, found 'x'",
-    )?;
-    is_refused(
-        &rt,
-        alloc,
-        "slot 1\n\ncolour 2",
-        "line 3: the colour code stands in front of the first slot",
-    )?;
-    is_refused(
-        &rt,
-        alloc,
-        "colour 2\ncolour 3\nslot 1\nforeign 3 status 3 -> 1, port 1 -> 2, status 5",
-        "line 4: colour code 3 is the own one",
-    )?;
-    is_refused(
-        &rt,
-        alloc,
-        "slot 1\nframes 5\nframes 5\n",
-        "line 3: the number of frames stands once",
-    )?;
-    // The first line is told, and the statements in front of it are there.
-    let script = script_of(alloc, "slot 1\nframes 1\ngrup\ncolour x\n")?;
-    assert_eq!(rt; script.statements.len(), 2);
-    is_refused(
-        &rt,
-        alloc,
-        "slot 1\nframes 1\ngrup\ncolour x\n",
-        "line 3: unknown word 'grup'",
-    )?;
+    let text = "slot 1\nframes 1\ngrup\ncolour x\n";
+    is_refused(&rt, alloc, text, "line 3: unknown word 'grup'")?;
+    // The statements in front of it are there.
+    let script = script_of(alloc, text)?;
+    are_same(&rt, text, &script.statements.len(), &2);
     Ok(())
 }
 
-/// A text of a packet of so many octets behind these words.
-fn of_octets(alloc: Global, front: &str, octets: usize) -> Result<String, AllocError> {
+/// What a text of a packet of so many octets behind these words is refused for.
+fn of_octets(
+    rt: &impl Abort,
+    alloc: Global,
+    front: &str,
+    octets: usize,
+    expected: &str,
+) -> Result<(), AllocError> {
     let mut text = format!(in alloc; "slot 1\n{front}")?;
     for _octet in 0..octets {
         text.push_str("00")?;
     }
-    Ok(text)
+    is_refused(rt, alloc, text.as_str(), expected)
+}
+
+/// That a packet behind these words has at most so many octets, and what it is refused for where it has one more.
+fn has_at_most(
+    rt: &impl Abort,
+    alloc: Global,
+    front: &str,
+    octets: u16,
+    expected: &str,
+) -> Result<(), AllocError> {
+    let octets = usize::from(octets);
+    of_octets(rt, alloc, front, octets, "nothing")?;
+    of_octets(rt, alloc, front, octets + 1, expected)
 }
 
 #[test]
 fn greatest_lengths(rt: HostRuntime) -> Result<(), Fail> {
-    let alloc = rt.alloc();
-    // 127 blocks of ten octets, four of them the check.
-    let longest = of_octets(alloc, "confirmed 2 -> 1, octets ", 1266)?;
-    is_refused(&rt, alloc, longest.as_str(), "nothing")?;
-    let longer = of_octets(alloc, "confirmed 2 -> 1, octets ", 1267)?;
-    is_refused(
-        &rt,
-        alloc,
-        longer.as_str(),
-        "line 2: a packet of more than 127 blocks",
-    )?;
-    // 63 blocks of twelve octets, four of them the check.
-    let longest = of_octets(alloc, "short data 2 -> 1, format 0, octets ", 752)?;
-    is_refused(&rt, alloc, longest.as_str(), "nothing")?;
-    let longer = of_octets(alloc, "short data 2 -> 1, format 0, octets ", 753)?;
-    is_refused(
-        &rt,
-        alloc,
-        longer.as_str(),
-        "line 2: short data of more than 63 blocks",
-    )?;
-    // A datagram of 1,400 octets, 28 of them headers.
-    let longest = of_octets(alloc, "unconfirmed 2 -> 1, UDP 1 -> 2, ", 1372)?;
-    is_refused(&rt, alloc, longest.as_str(), "nothing")?;
-    let longer = of_octets(alloc, "unconfirmed 2 -> 1, UDP 1 -> 2, ", 1373)?;
-    is_refused(
-        &rt,
-        alloc,
-        longer.as_str(),
-        "line 2: expected at most 1372 octets of data, found '00000000000000000000'",
-    )?;
-    // A line of 65,536 octets: 14 of them in front of the digits.
-    let longest = of_octets(alloc, "send at 0, octets ", 32_759)?;
-    is_refused(&rt, alloc, longest.as_str(), "nothing")?;
-    let longer = of_octets(alloc, "send at 0, octets ", 32_760)?;
-    is_refused(
-        &rt,
-        alloc,
-        longer.as_str(),
-        "line 2: too long: more than 65536 octets",
-    )?;
+    let rows = [
+        // 127 blocks of ten octets, four of them the check.
+        (
+            "confirmed 2 -> 1, octets ",
+            1266,
+            "line 2: a packet of more than 127 blocks",
+        ),
+        // 63 blocks of twelve octets, four of them the check.
+        (
+            "short data 2 -> 1, format 0, octets ",
+            752,
+            "line 2: short data of more than 63 blocks",
+        ),
+        // A datagram of 1,400 octets, 28 of them headers.
+        (
+            "unconfirmed 2 -> 1, UDP 1 -> 2, ",
+            1372,
+            "line 2: expected at most 1372 octets of data, found '00000000000000000000'",
+        ),
+        // A line of 65,536 octets: 14 of them in front of the digits.
+        (
+            "send at 0, octets ",
+            32_759,
+            "line 2: too long: more than 65536 octets",
+        ),
+    ];
+    for (front, octets, expected) in rows {
+        has_at_most(&rt, rt.alloc(), front, octets, expected)?;
+    }
     Ok(())
 }
 
+/// What is read from a source that fails once so many calls are behind it.
+fn script_until(alloc: Global, calls: u64) -> Result<Script, AllocError> {
+    let mut source = FailsAt::new(FromRead::new("slot 1\nsil".as_bytes()), calls);
+    read_script(alloc, &mut source)
+}
+
+/// That reading failed in this line.
+fn failed_in(rt: &impl Abort, script: &Script, line: u64) {
+    let refused = RefusedLine {
+        line,
+        refusal: Refusal::Read,
+    };
+    are_same(rt, "refused", &script.refused, &Some(refused));
+}
+
 #[test]
-fn failing_source(rt: HostRuntime) -> Result<(), Fail> {
-    let alloc = rt.alloc();
-    // Nothing was read.
-    let mut source = FailsAt::new(FromRead::new("slot 1\nsil".as_bytes()), 0);
-    let script = read_script(alloc, &mut source)?;
-    let refused = RefusedLine {
-        line: 1,
-        refusal: Refusal::Read,
-    };
-    assert_eq!(rt; script.refused, Some(refused));
+fn source_that_fails_at_once(rt: HostRuntime) -> Result<(), Fail> {
+    let script = script_until(rt.alloc(), 0)?;
+    failed_in(&rt, &script, 1);
     assert!(rt; script.statements.is_empty());
-    // All was read, and then the end of the text doesn't come.
-    let mut source = FailsAt::new(FromRead::new("slot 1\nsil".as_bytes()), 1);
-    let script = read_script(alloc, &mut source)?;
-    let refused = RefusedLine {
-        line: 2,
-        refusal: Refusal::Read,
-    };
-    assert_eq!(rt; script.refused, Some(refused));
+    Ok(())
+}
+
+/// That the first slot was named, in the first line, and nothing more was said.
+fn names_slot_1(rt: &impl Abort, script: &Script) {
     let slot = NumberedStatement {
         line: 1,
         statement: Statement::Slot(Slot::One),
     };
-    assert_eq!(rt; script.statements.as_slice(), [slot].as_slice());
+    are_same(rt, "last", &script.statements.last(), &Some(&slot));
+    are_same(rt, "count", &script.statements.len(), &1);
+}
+
+#[test]
+fn source_that_fails_at_the_end(rt: HostRuntime) -> Result<(), Fail> {
+    let script = script_until(rt.alloc(), 1)?;
+    failed_in(&rt, &script, 2);
+    names_slot_1(&rt, &script);
     Ok(())
 }
 
@@ -426,7 +464,7 @@ fn octet_by_octet(rt: HostRuntime) -> Result<(), Fail> {
     let text = "slot 1\nstatus 3 -> 1, port 1 -> 2, status 5\ngrup";
     let whole = script_of(rt.alloc(), text)?;
     let script = read_script(rt.alloc(), &mut OneByOne::new(text.as_bytes()))?;
-    assert_eq!(rt; script, whole);
-    assert_eq!(rt; script.statements.len(), 2);
+    are_same(&rt, text, &script, &whole);
+    are_same(&rt, text, &script.statements.len(), &2);
     Ok(())
 }

@@ -1,24 +1,31 @@
 //! Shapes of calls.
-use super::script_of;
+use super::{are_same, script_of};
 use dmr_script::{CallShape, CallStart, HeaderKind, Headers, Statement, Transmission};
 use std::alloc::{AllocError, Global};
 use std::process::Abort;
 use std::test::Fail;
 
+/// The shape of the call that a statement sends, if it does.
+fn shape_in(statement: Statement) -> Option<CallShape> {
+    match statement {
+        Statement::Transmit(transmit) => match transmit.transmission {
+            Transmission::Call(call) => Some(call.shape),
+            _ => None,
+        },
+        _ => None,
+    }
+}
+
 /// The shape of a call with these letters.
 fn shape_of(alloc: Global, letters: &str) -> Result<Option<CallShape>, AllocError> {
     let text = format!(in alloc; "slot 1\ngroup call 2 -> 1: {letters}")?;
     let mut script = script_of(alloc, text.as_str())?;
-    match script.statements.pop() {
-        Some(last) => match last.statement {
-            Statement::Transmit(transmit) => match transmit.transmission {
-                Transmission::Call(call) => Ok(Some(call.shape)),
-                _ => Ok(None),
-            },
-            _ => Ok(None),
-        },
-        None => Ok(None),
-    }
+    Ok(
+        script
+            .statements
+            .pop()
+            .and_then(|last| shape_in(last.statement)),
+    )
 }
 
 /// For each letter, whether it isn't a dot.
@@ -44,7 +51,7 @@ fn expect_headed(
         places: presence(alloc, places)?,
         terminators,
     };
-    assert_eq!(rt; shape_of(alloc, letters)?, Some(shape), "{letters}");
+    are_same(rt, letters, &shape_of(alloc, letters)?, &Some(shape));
     Ok(())
 }
 
@@ -62,7 +69,7 @@ fn expect_late(
         places: presence(alloc, places)?,
         terminators,
     };
-    assert_eq!(rt; shape_of(alloc, letters)?, Some(shape), "{letters}");
+    are_same(rt, letters, &shape_of(alloc, letters)?, &Some(shape));
     Ok(())
 }
 
@@ -84,7 +91,6 @@ fn calls_with_headers(rt: HostRuntime) -> Result<(), Fail> {
 #[test]
 fn late_calls(rt: HostRuntime) -> Result<(), Fail> {
     expect_late(&rt, "EF ABCDEF", b"EF", b"ABCDEF", 0)?;
-    assert_eq!(rt; shape_of(rt.alloc(), "B.D.F A.....AB")?, None);
     expect_late(&rt, "B.D.F A....F AB", b"B.D.F", b"A....FAB", 0)?;
     expect_late(&rt, ".....ABCDEFT", b".....", b"ABCDEF", 1)?;
     expect_late(&rt, "AB", b"", b"AB", 0)?;
@@ -92,15 +98,24 @@ fn late_calls(rt: HostRuntime) -> Result<(), Fail> {
 }
 
 #[test]
-fn longest_shape(rt: HostRuntime) -> Result<(), Fail> {
-    let alloc = rt.alloc();
-    let Some(shape) = shape_of(alloc, "174762*ABCDEF")? else {
-        panic!(rt; "it is refused");
-    };
-    assert_eq!(rt; shape.places.len(), 1_048_572);
-    let Some(shape) = shape_of(alloc, "H 1048575*T")? else {
-        panic!(rt; "it is refused");
-    };
-    assert_eq!(rt; shape.terminators, 1_048_575);
+fn second_call_behind_absent_places(rt: HostRuntime) -> Result<(), Fail> {
+    let letters = "B.D.F A.....AB";
+    are_same(&rt, letters, &shape_of(rt.alloc(), letters)?, &None);
+    Ok(())
+}
+
+#[test]
+fn longest_voice(rt: HostRuntime) -> Result<(), Fail> {
+    let shape = shape_of(rt.alloc(), "174762*ABCDEF")?;
+    let places = shape.map(|shape| shape.places.len());
+    are_same(&rt, "places", &places, &Some(1_048_572));
+    Ok(())
+}
+
+#[test]
+fn most_terminators(rt: HostRuntime) -> Result<(), Fail> {
+    let shape = shape_of(rt.alloc(), "H 1048575*T")?;
+    let terminators = shape.map(|shape| shape.terminators);
+    are_same(&rt, "terminators", &terminators, &Some(1_048_575));
     Ok(())
 }

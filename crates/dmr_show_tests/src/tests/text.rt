@@ -69,56 +69,77 @@ fn expect_text(
 
 #[test]
 fn files_as_text(rt: HostRuntime) -> Result<(), Fail> {
-    let recording = |frames| Ok(Carried::Recording { frames });
-    let list = |records| Ok(Carried::List { records });
-    expect_text(&rt, UPLINK, 43, recording(1), UPLINK_TEXT)?;
-    expect_text(&rt, UPLINK, 8, recording(0), "dmrgate uplink 1\nframes 0\n")?;
-    expect_text(&rt, DOWNLINK, 94, recording(7), DOWNLINK_TEXT)?;
-    expect_text(&rt, OUTGOING, 50, list(4), OUTGOING_TEXT)?;
-    expect_text(&rt, RECEIVED, 49, list(3), RECEIVED_TEXT)
+    let recording = |frames| Carried::Recording { frames };
+    let list = |records| Carried::List { records };
+    for (file, count, carried, text) in [
+        (UPLINK, 43, recording(1), UPLINK_TEXT),
+        (UPLINK, 8, recording(0), "dmrgate uplink 1\nframes 0\n"),
+        (DOWNLINK, 94, recording(7), DOWNLINK_TEXT),
+        (OUTGOING, 50, list(4), OUTGOING_TEXT),
+        (RECEIVED, 49, list(3), RECEIVED_TEXT),
+    ] {
+        expect_text(&rt, file, count, Ok(carried), text)?;
+    }
+    Ok(())
 }
 
 #[test]
 fn files_at_fault_as_text(rt: HostRuntime) -> Result<(), Fail> {
-    let at = |fault, octet, place| Err(ExportEnd::File(FaultLine {
-        fault,
-        octet,
-        place,
-    }));
     let half = Some(Place { frame: 0, slot: 2 });
     let front = UPLINK_TEXT.strip_suffix("frames 1\n").unwrap_or("");
-    expect_text(&rt, UPLINK, 7, at(RecordFault::CutRecord, 0, None), "")?;
-    expect_text(&rt, UPLINK, 42, at(RecordFault::HalfFrame, 42, half), front)?;
-    let cut = at(RecordFault::CutRecord, 17, None);
-    expect_text(
-        &rt,
-        OUTGOING,
-        28,
-        cut,
-        "dmrgate outgoing 1\n5 1 unconfirmed half -\n",
-    )?;
-    let cut = at(RecordFault::CutRecord, 24, None);
-    expect_text(
-        &rt,
-        RECEIVED,
-        36,
-        cut,
-        "dmrgate received 1\n6 1 status 3 01020005\n",
-    )
+    for (file, count, fault, octet, place, text) in [
+        (UPLINK, 7, RecordFault::CutRecord, 0, None, ""),
+        (UPLINK, 42, RecordFault::HalfFrame, 42, half, front),
+        (
+            OUTGOING,
+            28,
+            RecordFault::CutRecord,
+            17,
+            None,
+            "dmrgate outgoing 1\n5 1 unconfirmed half -\n",
+        ),
+        (
+            RECEIVED,
+            36,
+            RecordFault::CutRecord,
+            24,
+            None,
+            "dmrgate received 1\n6 1 status 3 01020005\n",
+        ),
+    ] {
+        let end = ExportEnd::File(FaultLine {
+            fault,
+            octet,
+            place,
+        });
+        expect_text(&rt, file, count, Err(end), text)?;
+    }
+    Ok(())
+}
+
+/// Of a file so many lines can be written, which are so many octets of this text.
+fn expect_failure(
+    rt: &(impl Abort + AllocGlobal),
+    file: &[u8],
+    text: &str,
+    lines: u64,
+    written: usize,
+) {
+    let alloc = rt.alloc();
+    let mut source = FromRead::new(file);
+    let mut sink = FailsAt::new(ToWrite::new(Vec::new(alloc)), lines);
+    let end = export_text(alloc, &mut source, &mut sink);
+    assert!(rt; end == Err(ExportEnd::Output));
+    let exported = sink.into_inner().into_inner();
+    assert!(rt; Some(exported.as_slice()) == text.as_bytes().get(..written));
 }
 
 #[test]
 fn texts_that_cannot_be_written(rt: HostRuntime) -> Result<(), Fail> {
-    let alloc = rt.alloc();
-    let octets = hex::decode(alloc, UPLINK.as_bytes())?;
+    let octets = hex::decode(rt.alloc(), UPLINK.as_bytes())?;
     // A line is one write.
     for (lines, written) in [(0, 0), (1, 17), (2, 88)] {
-        let mut source = FromRead::new(octets.as_slice());
-        let mut sink = FailsAt::new(ToWrite::new(Vec::new(alloc)), lines);
-        let end = export_text(alloc, &mut source, &mut sink);
-        assert!(rt; end == Err(ExportEnd::Output));
-        let text = sink.into_inner().into_inner();
-        assert!(rt; Some(text.as_slice()) == UPLINK_TEXT.as_bytes().get(..written));
+        expect_failure(&rt, octets.as_slice(), UPLINK_TEXT, lines, written);
     }
     Ok(())
 }
@@ -141,21 +162,30 @@ fn expect_file(
 
 #[test]
 fn texts_as_files(rt: HostRuntime) -> Result<(), Fail> {
-    let recording = |frames| Ok(Carried::Recording { frames });
-    let list = |records| Ok(Carried::List { records });
-    expect_file(&rt, UPLINK_TEXT, recording(1), UPLINK)?;
-    expect_file(&rt, DOWNLINK_TEXT, recording(7), DOWNLINK)?;
-    expect_file(&rt, OUTGOING_TEXT, list(4), OUTGOING)?;
-    expect_file(&rt, RECEIVED_TEXT, list(3), RECEIVED)
+    let recording = |frames| Carried::Recording { frames };
+    let list = |records| Carried::List { records };
+    for (text, carried, file) in [
+        (UPLINK_TEXT, recording(1), UPLINK),
+        (DOWNLINK_TEXT, recording(7), DOWNLINK),
+        (OUTGOING_TEXT, list(4), OUTGOING),
+        (RECEIVED_TEXT, list(3), RECEIVED),
+    ] {
+        expect_file(&rt, text, Ok(carried), file)?;
+    }
+    Ok(())
 }
 
 #[test]
-fn texts_by_hand(rt: HostRuntime) -> Result<(), Fail> {
+fn a_recording_by_hand(rt: HostRuntime) -> Result<(), Fail> {
     let text = "# a burst\r\n\r\n dmrgate\tuplink  1\r\n\
         0\t1 0062008201900100042004e004cd5d7f77fd757ac81800280250028000c0120022 \r\n\
         #\n\t\nframes 1";
     let one_frame = Ok(Carried::Recording { frames: 1 });
-    expect_file(&rt, text, one_frame, UPLINK)?;
+    expect_file(&rt, text, one_frame, UPLINK)
+}
+
+#[test]
+fn a_list_by_hand(rt: HostRuntime) -> Result<(), Fail> {
     let text = "dmrgate received 1\n6 1 status 3 01020005\nrecords 1\n\n# no more";
     let one_record = Ok(Carried::List { records: 1 });
     expect_file(
@@ -215,27 +245,46 @@ fn texts_at_fault(rt: HostRuntime) -> Result<(), Fail> {
 
 #[test]
 fn texts_without_a_first_line(rt: HostRuntime) -> Result<(), Fail> {
-    let end = |line| Err(ImportEnd::Text(LineFault {
-        line,
-        fault: TextFault::NoFirstLine,
-    }));
-    expect_file(&rt, "", end(1), "")?;
-    expect_file(&rt, "\ndmrgate uplink 2\n", end(2), "")
+    for (text, line) in [("", 1), ("\ndmrgate uplink 2\n", 2)] {
+        let fault = LineFault {
+            line,
+            fault: TextFault::NoFirstLine,
+        };
+        expect_file(&rt, text, Err(ImportEnd::Text(fault)), "")?;
+    }
+    Ok(())
 }
 
 #[test]
 fn faults_of_lists_of_text(rt: HostRuntime) -> Result<(), Fail> {
-    let fault = |fault| Err(ImportEnd::Text(LineFault { line: 2, fault }));
-    let head = "444D524F01000000";
-    let text = "dmrgate outgoing 1\n5 1 confirmed fast -\n";
-    expect_file(&rt, text, fault(TextFault::WrongMode), head)?;
-    let text = "dmrgate outgoing 1\n5 1 confirmed half ABC\n";
-    expect_file(&rt, text, fault(TextFault::WrongOctets), head)?;
-    let head = "444D524901000000";
-    let text = "dmrgate received 1\n5 1 letter 7 -\n";
-    expect_file(&rt, text, fault(TextFault::WrongKind), head)?;
-    let text = "dmrgate received 1\n5 1 status 16777216 -\n";
-    expect_file(&rt, text, fault(TextFault::WrongNumber), head)
+    let outgoing = "444D524F01000000";
+    let received = "444D524901000000";
+    for (text, fault, head) in [
+        (
+            "dmrgate outgoing 1\n5 1 confirmed fast -\n",
+            TextFault::WrongMode,
+            outgoing,
+        ),
+        (
+            "dmrgate outgoing 1\n5 1 confirmed half ABC\n",
+            TextFault::WrongOctets,
+            outgoing,
+        ),
+        (
+            "dmrgate received 1\n5 1 letter 7 -\n",
+            TextFault::WrongKind,
+            received,
+        ),
+        (
+            "dmrgate received 1\n5 1 status 16777216 -\n",
+            TextFault::WrongNumber,
+            received,
+        ),
+    ] {
+        let fault = LineFault { line: 2, fault };
+        expect_file(&rt, text, Err(ImportEnd::Text(fault)), head)?;
+    }
+    Ok(())
 }
 
 #[test]

@@ -1,5 +1,5 @@
 //! The two files that a run reads, written and read again: records by examples from outside, and devices that fail.
-ghost use Rattle.std.specs.Prelude.{◌≡◌, false};
+ghost use Rattle.std.specs.Prelude.{◌≡◌, false, true};
 
 use super::SENDINGS;
 use dmr_record::*;
@@ -75,10 +75,9 @@ fn written_outgoing(rt: HostRuntime) {
     assert!(rt; written == ONE_DATAGRAM);
 }
 
-/// Each mode and both slots, written, and read whole.
+/// Each mode and both slots, written.
 #[test]
 fn written_records(rt: HostRuntime) {
-    let mut buffer = [0u8; OCTET_LIMIT];
     for (octets, frame, slot, confirmed, full, datagram) in SENDINGS {
         let mut written = [0xee; 13];
         let mut sink = ToWrite::new(&mut written[..]);
@@ -87,6 +86,14 @@ fn written_records(rt: HostRuntime) {
             wrote == Ok(()) && written.starts_with(octets),
             "of {octets:?}"
         );
+    }
+}
+
+/// Each mode and both slots, read whole.
+#[test]
+fn read_records(rt: HostRuntime) {
+    let mut buffer = [0u8; OCTET_LIMIT];
+    for (octets, frame, slot, confirmed, full, datagram) in SENDINGS {
         let want = OutgoingRecord {
             frame,
             slot,
@@ -106,20 +113,14 @@ fn written_records(rt: HostRuntime) {
 fn whole_records(rt: HostRuntime) {
     let mut buffer = [0u8; OCTET_LIMIT];
     let mut source = OneByOne::new(ONE_DATAGRAM.get(8..).unwrap_or(&[]));
-    assert!(rt; read_whole_outgoing(&mut source, 0, 0, &mut buffer) == Ok(Some(RECORD)));
-    assert!(rt; buffer.starts_with(&DATAGRAM));
+    let read = read_whole_outgoing(&mut source, 0, 0, &mut buffer);
+    assert!(rt; read == Ok(Some(RECORD)) && buffer.starts_with(&DATAGRAM));
     assert!(rt; read_whole_outgoing(&mut source, 1, 5, &mut buffer) == Ok(None));
 }
 
-/// The longest record that is written is read whole.
-#[test]
-fn longest_record(rt: HostRuntime) {
-    let mut sink = ToWrite::new(Vec::new(rt.alloc()));
-    let wrote = write_outgoing(&mut sink, 7, 2, true, false, &[0xa5; OCTET_LIMIT]);
-    assert!(rt; wrote.is_ok());
-    let written = sink.into_inner();
+/// Whether these octets are read whole as the longest record: a datagram in frame 7 of slot 2, confirmed and at rate 1/2.
+fn is_longest(octets: &[u8]) -> bool {
     let mut buffer = [0u8; OCTET_LIMIT];
-    let read = read_whole_outgoing(&mut FromRead::new(written.as_slice()), 0, 0, &mut buffer);
     let want = OutgoingRecord {
         frame: 7,
         slot: 2,
@@ -127,8 +128,17 @@ fn longest_record(rt: HostRuntime) {
         full: false,
         length: 65_535,
     };
-    assert!(rt; read == Ok(Some(want)));
-    assert!(rt; buffer == [0xa5; OCTET_LIMIT]);
+    let read = read_whole_outgoing(&mut FromRead::new(octets), 0, 0, &mut buffer);
+    read == Ok(Some(want)) && buffer == [0xa5; OCTET_LIMIT]
+}
+
+/// The longest record that is written is read whole.
+#[test]
+fn longest_record(rt: HostRuntime) {
+    let mut sink = ToWrite::new(Vec::new(rt.alloc()));
+    let wrote = write_outgoing(&mut sink, 7, 2, true, false, &[0xa5; OCTET_LIMIT]);
+    let written = sink.into_inner();
+    assert!(rt; wrote.is_ok() && is_longest(written.as_slice()));
 }
 
 /// At the limit of the file any octet more is too long, whether it is a tag or not.
@@ -147,7 +157,7 @@ fn limits_of_outgoing_lists(rt: HostRuntime) {
 
 /// Where the device fails in any call, that is told.
 #[test]
-fn failing_devices(rt: HostRuntime) {
+fn failing_reads_of_a_record(rt: HostRuntime) {
     let mut buffer = [0u8; OCTET_LIMIT];
     for calls in 0..37u64 {
         let record = ONE_DATAGRAM.get(8..).unwrap_or(&[]);
@@ -155,26 +165,38 @@ fn failing_devices(rt: HostRuntime) {
         let read = read_whole_outgoing(&mut source, 0, 0, &mut buffer);
         assert!(rt; read == Err(RecordFault::Read), "at {calls}");
     }
+}
+
+/// What comes of writing the file of one datagram where the device fails after so many calls.
+fn failing_datagram(calls: u64) -> Result<(), RecordFault> {
+    let mut written = [0xee; 45];
+    write_one_datagram(&mut FailsAt::new(ToWrite::new(&mut written[..]), calls))
+}
+
+/// The same of the file of one frame.
+fn failing_frame(calls: u64) -> Result<(), RecordFault> {
+    let mut written = [0xee; 45];
+    write_one_frame(&mut FailsAt::new(ToWrite::new(&mut written[..]), calls))
+}
+
+#[test]
+fn failing_writes(rt: HostRuntime) {
     for calls in 0..4u64 {
-        let mut written = [0xee; 45];
-        let mut sink = FailsAt::new(ToWrite::new(&mut written[..]), calls);
-        assert!(rt;
-            write_one_datagram(&mut sink) == Err(RecordFault::Write),
-            "at {calls}"
-        );
-        let mut sink = FailsAt::new(ToWrite::new(&mut written[..]), calls);
-        assert!(rt;
-            write_one_frame(&mut sink) == Err(RecordFault::Write),
-            "at {calls}"
-        );
+        let is_right = failing_datagram(calls) == Err(RecordFault::Write)
+            && failing_frame(calls) == Err(RecordFault::Write);
+        assert!(rt; is_right, "at {calls}");
     }
 }
 
 #[test]
-fn full_sinks(rt: HostRuntime) {
+fn full_sink_of_an_uplink(rt: HostRuntime) {
     let mut room = [0xee; 42];
     assert!(rt; write_one_frame(&mut ToWrite::new(&mut room[..])) == Err(RecordFault::Write));
     assert!(rt; ONE_FRAME.starts_with(&room));
+}
+
+#[test]
+fn full_sink_of_an_outgoing_list(rt: HostRuntime) {
     let mut room = [0xee; 44];
     assert!(rt; write_one_datagram(&mut ToWrite::new(&mut room[..])) == Err(RecordFault::Write));
     assert!(rt; ONE_DATAGRAM.starts_with(&room));
@@ -188,36 +210,61 @@ fn copied_to<S: Source>(source: &mut S, room: &mut [u8]) -> Copied
     source.copy_silence(&mut ToWrite::new(room))
 }
 
+/// Nothing was copied.
+const NONE: Copied = Copied {
+    frames: 0,
+    result: Ok(()),
+};
+
+/// A run of silent frames was copied.
+const WHOLE: Copied = Copied {
+    frames: 32,
+    result: Ok(()),
+};
+
+/// The sink failed in the last frame of a run.
+const TORN: Copied = Copied {
+    frames: 31,
+    result: Err(DeviceFault),
+};
+
+/// The octets of a run of silent frames.
+const SILENCE: [u8; 64] = [0; 64];
+
+#[test]
+fn silence_out_of_reach(rt: HostRuntime) {
+    let mut room = [0xee; 64];
+    assert!(rt; copied_to(&mut FromRead::new(&[0; 135][..]), &mut room) == NONE);
+}
+
+/// Whether nothing is at hand before the first octet is read, and a run is copied behind it.
+fn copies_a_run<S: Source>(source: &mut S) -> bool
+    requires well { S.has_failed source.old ≡ false }
+    ensures well { result ≡ true → S.has_failed source.new ≡ false }
+{
+    let mut room = [0xee; 64];
+    copied_to(source, &mut room) == NONE
+        && source.next() == Ok(Some(0))
+        && copied_to(source, &mut room) == WHOLE
+        && room == SILENCE
+}
+
+/// Whether a run is torn where there is room for 31 frames and half of one. Eight octets are left then, and no run.
+fn tears_a_run<S: Source>(source: &mut S) -> bool
+    requires well { S.has_failed source.old ≡ false }
+{
+    let mut less = [0xee; 63];
+    let mut room = [0xee; 64];
+    copied_to(source, &mut less) == TORN && copied_to(source, &mut room) == NONE
+}
+
 /// A run of silent frames is copied where all of it is at hand, as far as the sink takes it.
 #[test]
 fn silence_at_hand(rt: HostRuntime) {
-    let none = Copied {
-        frames: 0,
-        result: Ok(()),
-    };
-    let whole = Copied {
-        frames: 32,
-        result: Ok(()),
-    };
-    let torn = Copied {
-        frames: 31,
-        result: Err(DeviceFault),
-    };
     let silence = [0u8; 135];
-    let mut room = [0xee; 64];
-    assert!(rt; copied_to(&mut FromRead::new(&silence[..]), &mut room) == none);
     if let Ok(reader) = BufReader::with_capacity(rt.alloc(), 200, &silence[..]) {
         let mut source = FromBuffered::new(reader);
-        // Nothing is at hand before the first octet is read.
-        assert!(rt; copied_to(&mut source, &mut room) == none);
-        assert!(rt; source.next() == Ok(Some(0)));
-        assert!(rt; copied_to(&mut source, &mut room) == whole);
-        assert!(rt; room == [0; 64]);
-        // There is room for 31 frames and half of one.
-        let mut less = [0xee; 63];
-        assert!(rt; copied_to(&mut source, &mut less) == torn);
-        // Eight octets are left, and no run.
-        assert!(rt; copied_to(&mut source, &mut room) == none);
+        assert!(rt; copies_a_run(&mut source) && tears_a_run(&mut source));
     } else {
         assert!(rt; false, "there is room");
     }

@@ -123,22 +123,9 @@ fn records_out_of_order(rt: HostRuntime) {
     }
 }
 
-/// The longest record that is written is read again.
-#[test]
-fn longest_record(rt: HostRuntime) {
-    let mut sink = ToWrite::new(Vec::new(rt.alloc()));
-    let wrote = write_received(
-        &mut sink,
-        7,
-        2,
-        ReceivedKind::ShortData,
-        9,
-        &[0xa5; OCTET_LIMIT],
-    );
-    assert!(rt; wrote.is_ok());
-    let written = sink.into_inner();
+/// Whether these octets are read as the longest record: short data from 9 in frame 7 of slot 2.
+fn is_longest(octets: &[u8]) -> bool {
     let mut buffer = [0u8; OCTET_LIMIT];
-    let read = read_received(&mut FromRead::new(written.as_slice()), 0, None, &mut buffer);
     let want = Received {
         frame: 7,
         slot: 2,
@@ -146,8 +133,18 @@ fn longest_record(rt: HostRuntime) {
         source: 9,
         length: 65_535,
     };
-    assert!(rt; read == Ok(Some(want)));
-    assert!(rt; buffer == [0xa5; OCTET_LIMIT]);
+    let read = read_received(&mut FromRead::new(octets), 0, None, &mut buffer);
+    read == Ok(Some(want)) && buffer == [0xa5; OCTET_LIMIT]
+}
+
+/// The longest record that is written is read again.
+#[test]
+fn longest_record(rt: HostRuntime) {
+    let mut sink = ToWrite::new(Vec::new(rt.alloc()));
+    let longest = [0xa5; OCTET_LIMIT];
+    let wrote = write_received(&mut sink, 7, 2, ReceivedKind::ShortData, 9, &longest);
+    let written = sink.into_inner();
+    assert!(rt; wrote.is_ok() && is_longest(written.as_slice()));
 }
 
 /// Where a file is at its limit, any octet more is too long, whether it is a tag or not.
