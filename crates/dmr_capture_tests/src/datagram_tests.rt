@@ -1,7 +1,8 @@
 //! Captures of datagrams from and to lists. The lists are spelled by docs/protocol.md, and the captures are those of `captures`.
 ghost use Rattle.dmr_record.specs.Received.{IsSlot};
 
-use crate::captures::{ETHERNET, TWICE, TWICE_BY_EDITCAP};
+use crate::captures::{ETHERNET, TWICE, TWICE_BY_EDITCAP, front};
+use crate::comparing::{are_same, expect_octets, octets_of};
 use dmr_capture::CaptureFault;
 use dmr_datagrams::{
     ExportEnd, ExportSettings, ExportedDatagrams, ImportEnd, ImportSettings, ImportedDatagrams,
@@ -11,7 +12,6 @@ use dmr_record::{FromRead, RecordFault, ToWrite};
 use dmr_recording::FaultLine;
 use dmr_test_devices::FailsAt;
 use std::process::Abort;
-use std::test::Fail;
 
 /// A datagram in frame 88 in slot 1, a status in frame 90, and the datagram in frame 104 in slot 2.
 const RECEIVED: &str = "444D524901000000\
@@ -32,32 +32,26 @@ fn expect_capture(
     count: usize,
     end: Result<ExportedDatagrams, ExportEnd>,
     capture: &str,
-) -> Result<(), Fail> {
+) {
     let alloc = rt.alloc();
-    let octets = hex::decode(alloc, RECEIVED.as_bytes())?;
-    let wanted = hex::decode(alloc, capture.as_bytes())?;
+    let octets = octets_of(rt, RECEIVED);
     let mut source = FromRead::new(octets.get(..count).unwrap_or(octets.as_slice()));
     let mut sink = ToWrite::new(Vec::new(alloc));
     assert!(rt; export_datagrams(alloc, settings, &mut source, &mut sink) == end);
-    assert!(rt; sink.into_inner().as_slice() == wanted.as_slice());
-    Ok(())
-}
-
-/// The first digits of a capture, of so many octets.
-fn front(digits: &str, octets: usize) -> &str {
-    digits.get(..octets.saturating_mul(2)).unwrap_or(digits)
+    let written = sink.into_inner();
+    expect_octets(rt, written.as_slice(), capture);
 }
 
 #[test]
-fn a_received_list_as_a_capture(rt: HostRuntime) -> Result<(), Fail> {
+fn a_received_list_as_a_capture(rt: HostRuntime) {
     let counted = |records, written| Ok(ExportedDatagrams { records, written });
-    expect_capture(&rt, BOTH, usize::MAX, counted(3, 2), TWICE)?;
-    expect_capture(&rt, BOTH, 8, counted(0, 0), front(TWICE, 24))?;
+    expect_capture(&rt, BOTH, usize::MAX, counted(3, 2), TWICE);
+    expect_capture(&rt, BOTH, 8, counted(0, 0), front(TWICE, 24));
     let slot_1 = ExportSettings {
         slot: Some(1),
         start: 0,
     };
-    expect_capture(&rt, slot_1, usize::MAX, counted(3, 1), front(TWICE, 68))?;
+    expect_capture(&rt, slot_1, usize::MAX, counted(3, 1), front(TWICE, 68));
     let late = ExportSettings {
         slot: Some(2),
         start: 1_000_000_250_000,
@@ -66,19 +60,19 @@ fn a_received_list_as_a_capture(rt: HostRuntime) -> Result<(), Fail> {
     let shifted = "D4C3B2A1020004000000000000000000FFFF0000E4000000\
         46420F0040EF07001C0000001C000000\
         4500001C123400004011509B0C0000010C0000021398139A0008C0A9";
-    expect_capture(&rt, late, usize::MAX, counted(3, 1), shifted)
+    expect_capture(&rt, late, usize::MAX, counted(3, 1), shifted);
 }
 
 #[test]
-fn lists_at_fault_as_a_capture(rt: HostRuntime) -> Result<(), Fail> {
+fn lists_at_fault_as_a_capture(rt: HostRuntime) {
     let at = |fault, octet| Err(ExportEnd::File(FaultLine {
         fault,
         octet,
         place: None,
     }));
-    expect_capture(&rt, BOTH, 7, at(RecordFault::CutRecord, 0), "")?;
+    expect_capture(&rt, BOTH, 7, at(RecordFault::CutRecord, 0), "");
     let first = front(TWICE, 68);
-    expect_capture(&rt, BOTH, 60, at(RecordFault::CutRecord, 48), first)?;
+    expect_capture(&rt, BOTH, 60, at(RecordFault::CutRecord, 48), first);
     // The last microsecond that has room for the first record but not for the last.
     let late = ExportSettings {
         slot: None,
@@ -87,7 +81,7 @@ fn lists_at_fault_as_a_capture(rt: HostRuntime) -> Result<(), Fail> {
     let second = "D4C3B2A1020004000000000000000000FFFF0000E4000000\
         FFFFFFFF3F420F001C0000001C000000\
         4500001C123400004011509B0C0000010C0000021398139A0008C0A9";
-    expect_capture(&rt, late, usize::MAX, at(RecordFault::TooLong, 64), second)
+    expect_capture(&rt, late, usize::MAX, at(RecordFault::TooLong, 64), second);
 }
 
 /// The settings of slot 1, and of the first frame.
@@ -105,27 +99,26 @@ fn expect_list(
     capture: &str,
     end: Result<ImportedDatagrams, ImportEnd>,
     list: &str,
-) -> Result<(), Fail>
+)
     requires slot { IsSlot settings.slot }
 {
     let alloc = rt.alloc();
-    let octets = hex::decode(alloc, capture.as_bytes())?;
-    let wanted = hex::decode(alloc, list.as_bytes())?;
+    let octets = octets_of(rt, capture);
     let mut source = FromRead::new(octets.as_slice());
     let mut sink = ToWrite::new(Vec::new(alloc));
     assert!(rt; import_datagrams(alloc, settings, &mut source, &mut sink) == end);
-    assert!(rt; sink.into_inner().as_slice() == wanted.as_slice());
-    Ok(())
+    let written = sink.into_inner();
+    expect_octets(rt, written.as_slice(), list);
 }
 
 #[test]
-fn captures_as_an_outgoing_list(rt: HostRuntime) -> Result<(), Fail> {
+fn captures_as_an_outgoing_list(rt: HostRuntime) {
     let counted = |records, other| Ok(ImportedDatagrams { records, other });
     let list = "444D524F01000000\
         02000000000100001C4500001C123400004011509B0C0000010C0000021398139A0008C0A9\
         02000000100100001C4500001C123400004011509B0C0000010C0000021398139A0008C0A9";
-    expect_list(&rt, SLOT_1, TWICE, counted(2, 0), list)?;
-    expect_list(&rt, SLOT_1, TWICE_BY_EDITCAP, counted(2, 0), list)?;
+    expect_list(&rt, SLOT_1, TWICE, counted(2, 0), list);
+    expect_list(&rt, SLOT_1, TWICE_BY_EDITCAP, counted(2, 0), list);
     let full = ImportSettings {
         slot: 1,
         confirmed: true,
@@ -135,7 +128,7 @@ fn captures_as_an_outgoing_list(rt: HostRuntime) -> Result<(), Fail> {
     let list = "444D524F01000000\
         02FFFFFFEF0103001C4500001C123400004011509B0C0000010C0000021398139A0008C0A9\
         02FFFFFFFF0103001C4500001C123400004011509B0C0000010C0000021398139A0008C0A9";
-    expect_list(&rt, full, TWICE, counted(2, 0), list)?;
+    expect_list(&rt, full, TWICE, counted(2, 0), list);
     // What fills up a packet isn't in its record. A nanosecond less than 60 milliseconds is the same frame, and the clock that was
     // set back leaves the last frame.
     let list = "444D524F01000000\
@@ -143,11 +136,11 @@ fn captures_as_an_outgoing_list(rt: HostRuntime) -> Result<(), Fail> {
         02000000000100001C4500001C123400004011509B0C0000010C0000021398139A0008C0A9\
         02000000010100001C4500001C123400004011509B0C0000010C0000021398139A0008C0A9\
         02000000010100001C4500001C123400004011509B0C0000010C0000021398139A0008C0A9";
-    expect_list(&rt, SLOT_1, ETHERNET, counted(4, 3), list)
+    expect_list(&rt, SLOT_1, ETHERNET, counted(4, 3), list);
 }
 
 #[test]
-fn captures_at_fault_as_an_outgoing_list(rt: HostRuntime) -> Result<(), Fail> {
+fn captures_at_fault_as_an_outgoing_list(rt: HostRuntime) {
     let at = |fault| Err(ImportEnd::Capture(fault));
     let last = ImportSettings {
         slot: 1,
@@ -158,62 +151,83 @@ fn captures_at_fault_as_an_outgoing_list(rt: HostRuntime) -> Result<(), Fail> {
     let first = "444D524F01000000\
         02FFFFFFFF0100001C4500001C123400004011509B0C0000010C0000021398139A0008C0A9";
     let long = CaptureFault::TooLong { octet: 68 };
-    expect_list(&rt, last, TWICE, at(long), first)?;
+    expect_list(&rt, last, TWICE, at(long), first);
     let cut = CaptureFault::CutPacket { octet: 68 };
-    expect_list(&rt, last, front(TWICE, 90), at(cut), first)?;
-    expect_list(&rt, SLOT_1, "", at(CaptureFault::CutHead), "")
+    expect_list(&rt, last, front(TWICE, 90), at(cut), first);
+    expect_list(&rt, SLOT_1, "", at(CaptureFault::CutHead), "");
+}
+
+/// A sink fails at a call, and so many octets of a capture are written.
+fn expect_torn_capture(rt: &(impl Abort + AllocGlobal), calls: u64, count: usize) {
+    let alloc = rt.alloc();
+    let octets = octets_of(rt, RECEIVED);
+    let mut source = FromRead::new(octets.as_slice());
+    let mut sink = FailsAt::new(ToWrite::new(Vec::new(alloc)), calls);
+    let end = export_datagrams(alloc, BOTH, &mut source, &mut sink);
+    assert!(rt; end == Err(ExportEnd::Output));
+    let written = sink.into_inner().into_inner();
+    expect_octets(rt, written.as_slice(), front(TWICE, count));
 }
 
 #[test]
-fn sinks_that_fail(rt: HostRuntime) -> Result<(), Fail> {
+fn captures_to_sinks_that_fail(rt: HostRuntime) {
+    expect_torn_capture(&rt, 0, 0);
+    expect_torn_capture(&rt, 1, 24);
+    expect_torn_capture(&rt, 2, 40);
+    expect_torn_capture(&rt, 3, 68);
+}
+
+/// A sink fails at a call, and so many octets of a list are written.
+fn expect_torn_list(rt: &(impl Abort + AllocGlobal), calls: u64, count: usize) {
     let alloc = rt.alloc();
-    let octets = hex::decode(alloc, RECEIVED.as_bytes())?;
-    let capture = hex::decode(alloc, TWICE.as_bytes())?;
-    for (calls, count) in [(0, 0), (1, 24), (2, 40), (3, 68)] {
-        let mut source = FromRead::new(octets.as_slice());
-        let mut sink = FailsAt::new(ToWrite::new(Vec::new(alloc)), calls);
-        let end = export_datagrams(alloc, BOTH, &mut source, &mut sink);
-        assert!(rt; end == Err(ExportEnd::Output));
-        let written = sink.into_inner().into_inner();
-        assert!(rt; Some(written.as_slice()) == capture.get(..count));
-    }
-    // The head of a list and each record are two writes.
-    for (calls, count) in [(0, 0), (1, 4), (2, 8), (3, 17), (4, 45)] {
-        let mut source = FromRead::new(capture.as_slice());
-        let mut sink = FailsAt::new(ToWrite::new(Vec::new(alloc)), calls);
-        let end = import_datagrams(alloc, SLOT_1, &mut source, &mut sink);
-        assert!(rt; end == Err(ImportEnd::Output));
-        assert_eq!(rt; sink.into_inner().into_inner().len(), count);
-    }
-    Ok(())
+    let capture = octets_of(rt, TWICE);
+    let mut source = FromRead::new(capture.as_slice());
+    let mut sink = FailsAt::new(ToWrite::new(Vec::new(alloc)), calls);
+    let end = import_datagrams(alloc, SLOT_1, &mut source, &mut sink);
+    assert!(rt; end == Err(ImportEnd::Output));
+    let written = sink.into_inner().into_inner();
+    are_same(rt, "octets", &written.len(), &count);
+}
+
+// The head of a list and each record are two writes.
+#[test]
+fn lists_to_sinks_that_fail(rt: HostRuntime) {
+    expect_torn_list(&rt, 0, 0);
+    expect_torn_list(&rt, 1, 4);
+    expect_torn_list(&rt, 2, 8);
+    expect_torn_list(&rt, 3, 17);
+    expect_torn_list(&rt, 4, 45);
 }
 
 #[test]
-fn sources_that_fail(rt: HostRuntime) -> Result<(), Fail> {
+fn captures_from_sources_that_fail(rt: HostRuntime) {
     let alloc = rt.alloc();
-    let octets = hex::decode(alloc, RECEIVED.as_bytes())?;
+    let octets = octets_of(&rt, RECEIVED);
     let mut source = FailsAt::new(FromRead::new(octets.as_slice()), 1);
     let mut sink = ToWrite::new(Vec::new(alloc));
     let end = export_datagrams(alloc, BOTH, &mut source, &mut sink);
-    assert!(rt;
-        end == Err(ExportEnd::File(FaultLine {
-            fault: RecordFault::Read,
-            octet: 8,
-            place: None,
-        }))
-    );
-    assert_eq!(rt; sink.into_inner().len(), 24);
-    let capture = hex::decode(alloc, TWICE.as_bytes())?;
+    let fault = FaultLine {
+        fault: RecordFault::Read,
+        octet: 8,
+        place: None,
+    };
+    assert!(rt; end == Err(ExportEnd::File(fault)));
+    are_same(&rt, "octets", &sink.into_inner().len(), &24);
+}
+
+#[test]
+fn lists_from_sources_that_fail(rt: HostRuntime) {
+    let alloc = rt.alloc();
+    let capture = octets_of(&rt, TWICE);
     let mut source = FailsAt::new(FromRead::new(capture.as_slice()), 2);
     let mut sink = ToWrite::new(Vec::new(alloc));
     let end = import_datagrams(alloc, SLOT_1, &mut source, &mut sink);
     assert!(rt; end == Err(ImportEnd::Capture(CaptureFault::Read { octet: 24 })));
-    assert_eq!(rt; sink.into_inner().len(), 8);
-    Ok(())
+    are_same(&rt, "octets", &sink.into_inner().len(), &8);
 }
 
 #[test]
-fn counts_as_words(rt: HostRuntime) -> Result<(), Fail> {
+fn counts_as_words(rt: HostRuntime) {
     let alloc = rt.alloc();
     let exported = ExportedDatagrams {
         records: 3,
@@ -223,8 +237,7 @@ fn counts_as_words(rt: HostRuntime) -> Result<(), Fail> {
         records: 2,
         other: 18_446_744_073_709_551_615,
     };
-    let told = format!(in alloc; "{exported}, {imported}")?;
+    let told = format!(in alloc; "{exported}, {imported}").expect(&rt, "there is room");
     let wanted = "records 3 written 2 left-out 1, records 2 other 18446744073709551615";
-    assert_eq!(rt; told.as_str(), wanted);
-    Ok(())
+    are_same(&rt, "words", &told.as_str(), &wanted);
 }

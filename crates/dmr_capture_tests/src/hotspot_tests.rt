@@ -1,12 +1,12 @@
 //! Captures of hotspots as recordings. The captures are those of `captures`, and the recordings are spelled by docs/protocol.md.
 
-use crate::captures::{HOTSPOT, HOTSPOT_IN_BLOCKS};
+use crate::captures::{HOTSPOT, HOTSPOT_IN_BLOCKS, front};
+use crate::comparing::{are_same, expect_octets, octets_of};
 use dmr_capture::CaptureFault;
 use dmr_dmrd::{ImportEnd, ImportSettings, ImportedBursts, Ports, import_dmrd};
 use dmr_record::{FromRead, ToWrite};
 use dmr_test_devices::FailsAt;
 use std::process::Abort;
-use std::test::Fail;
 
 /// What the packet carries, a control signalling block in slot 1, and a silent slot 2: one frame.
 const ONE_FRAME: &str = "444D525501000000\
@@ -38,76 +38,85 @@ fn expect_recording(
     capture: &str,
     end: Result<ImportedBursts, ImportEnd>,
     recording: &str,
-) -> Result<(), Fail> {
+) {
     let alloc = rt.alloc();
-    let octets = hex::decode(alloc, capture.as_bytes())?;
-    let wanted = hex::decode(alloc, recording.as_bytes())?;
+    let octets = octets_of(rt, capture);
     let mut source = FromRead::new(octets.as_slice());
     let mut sink = ToWrite::new(Vec::new(alloc));
     assert!(rt; import_dmrd(alloc, settings, &mut source, &mut sink) == end);
-    assert!(rt; sink.into_inner().as_slice() == wanted.as_slice());
-    Ok(())
+    let written = sink.into_inner();
+    expect_octets(rt, written.as_slice(), recording);
 }
 
 #[test]
-fn captures_of_hotspots_as_recordings(rt: HostRuntime) -> Result<(), Fail> {
+fn captures_of_hotspots_as_recordings(rt: HostRuntime) {
     expect_recording(
         &rt,
         &TO_NETWORK,
         HOTSPOT,
         Ok(counted(1, 1, 0, 0)),
         ONE_FRAME,
-    )?;
+    );
     let blocks = HOTSPOT_IN_BLOCKS;
-    expect_recording(&rt, &TO_NETWORK, blocks, Ok(counted(1, 1, 0, 0)), ONE_FRAME)?;
+    expect_recording(&rt, &TO_NETWORK, blocks, Ok(counted(1, 1, 0, 0)), ONE_FRAME);
     let from = ImportSettings {
         ports: Ports::From(62032),
         repeater: Some(0x0003_FF71),
         as_uplink: true,
     };
-    expect_recording(&rt, &from, HOTSPOT, Ok(counted(1, 1, 0, 0)), ONE_FRAME)?;
+    expect_recording(&rt, &from, HOTSPOT, Ok(counted(1, 1, 0, 0)), ONE_FRAME);
     let other = ImportSettings {
         ports: Ports::To(62031),
         repeater: Some(1),
         as_uplink: false,
     };
     let none = "444D525501000000";
-    expect_recording(&rt, &other, HOTSPOT, Ok(counted(0, 0, 0, 1)), none)
+    expect_recording(&rt, &other, HOTSPOT, Ok(counted(0, 0, 0, 1)), none);
 }
 
 #[test]
-fn captures_at_fault_leave_no_recording(rt: HostRuntime) -> Result<(), Fail> {
+fn captures_at_fault_leave_no_recording(rt: HostRuntime) {
     let at = |fault| Err(ImportEnd::Capture(fault));
     let cut = HOTSPOT.get(..100).unwrap_or(HOTSPOT);
     let fault = CaptureFault::CutPacket { octet: 24 };
-    expect_recording(&rt, &TO_NETWORK, cut, at(fault), "")?;
-    expect_recording(&rt, &TO_NETWORK, "", at(CaptureFault::CutHead), "")
+    expect_recording(&rt, &TO_NETWORK, cut, at(fault), "");
+    expect_recording(&rt, &TO_NETWORK, "", at(CaptureFault::CutHead), "");
+}
+
+/// A sink fails at a call, and so many octets are written.
+fn expect_torn(rt: &(impl Abort + AllocGlobal), calls: u64, count: usize) {
+    let alloc = rt.alloc();
+    let octets = octets_of(rt, HOTSPOT);
+    let mut source = FromRead::new(octets.as_slice());
+    let mut sink = FailsAt::new(ToWrite::new(Vec::new(alloc)), calls);
+    let end = import_dmrd(alloc, &TO_NETWORK, &mut source, &mut sink);
+    assert!(rt; end == Err(ImportEnd::Output));
+    let written = sink.into_inner().into_inner();
+    expect_octets(rt, written.as_slice(), front(ONE_FRAME, count));
+}
+
+// The head is two writes, and each slot is one.
+#[test]
+fn sinks_that_fail_at_a_recording(rt: HostRuntime) {
+    expect_torn(&rt, 0, 0);
+    expect_torn(&rt, 1, 4);
+    expect_torn(&rt, 2, 8);
+    expect_torn(&rt, 3, 42);
 }
 
 #[test]
-fn devices_that_fail_at_a_recording(rt: HostRuntime) -> Result<(), Fail> {
+fn source_that_fails_at_a_recording(rt: HostRuntime) {
     let alloc = rt.alloc();
-    let octets = hex::decode(alloc, HOTSPOT.as_bytes())?;
-    let wanted = hex::decode(alloc, ONE_FRAME.as_bytes())?;
-    // The head is two writes, and each slot is one.
-    for (calls, count) in [(0, 0), (1, 4), (2, 8), (3, 42)] {
-        let mut source = FromRead::new(octets.as_slice());
-        let mut sink = FailsAt::new(ToWrite::new(Vec::new(alloc)), calls);
-        let end = import_dmrd(alloc, &TO_NETWORK, &mut source, &mut sink);
-        assert!(rt; end == Err(ImportEnd::Output));
-        let written = sink.into_inner().into_inner();
-        assert!(rt; Some(written.as_slice()) == wanted.get(..count));
-    }
+    let octets = octets_of(&rt, HOTSPOT);
     let mut source = FailsAt::new(FromRead::new(octets.as_slice()), 2);
     let mut sink = ToWrite::new(Vec::new(alloc));
     let end = import_dmrd(alloc, &TO_NETWORK, &mut source, &mut sink);
     assert!(rt; end == Err(ImportEnd::Capture(CaptureFault::Read { octet: 24 })));
-    assert_eq!(rt; sink.into_inner().len(), 0);
-    Ok(())
+    assert!(rt; sink.into_inner().is_empty());
 }
 
 #[test]
-fn counts_of_a_recording_as_words(rt: HostRuntime) -> Result<(), Fail> {
+fn counts_of_a_recording_as_words(rt: HostRuntime) {
     let alloc = rt.alloc();
     let counted = ImportedBursts {
         frames: 20,
@@ -117,10 +126,7 @@ fn counts_of_a_recording_as_words(rt: HostRuntime) -> Result<(), Fail> {
         late: 0,
         other: 7,
     };
-    let told = format!(in alloc; "{counted}")?;
-    assert_eq!(rt;
-        told.as_str(),
-        "frames 20 slot-1 18 slot-2 0 lost 2 late 0 other 7"
-    );
-    Ok(())
+    let told = format!(in alloc; "{counted}").expect(&rt, "there is room");
+    let wanted = "frames 20 slot-1 18 slot-2 0 lost 2 late 0 other 7";
+    are_same(&rt, "words", &told.as_str(), &wanted);
 }

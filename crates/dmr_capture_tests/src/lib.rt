@@ -9,6 +9,8 @@ mod capture_tests;
 #[cfg(test)]
 mod captures;
 #[cfg(test)]
+mod comparing;
+#[cfg(test)]
 mod datagram_tests;
 #[cfg(test)]
 mod hotspot_tests;

@@ -8,6 +8,7 @@ use dmr_test_devices::{FailsAt, OneByOne};
 use rand_core::Rng;
 use rand_pcg::Pcg32;
 use std::alloc::Global;
+use std::fmt::Debug;
 use std::process::Abort;
 use std::test::Fail;
 
@@ -40,6 +41,28 @@ fn told(rt: &impl Abort, alloc: Global, end: &Result<Damaged, DamageEnd>) -> Str
     }
 }
 
+/// That both are the same, of what is told where they aren't.
+fn are_same<T: PartialEq + Debug>(rt: &impl Abort, what: &str, got: &T, expected: &T) {
+    assert_eq!(rt; got, expected, "{what}");
+}
+
+/// These octets are those of the digits.
+pub(crate) fn expect_octets(
+    rt: &(impl Abort + AllocGlobal),
+    octets: &[u8],
+    digits: &str,
+) -> Result<(), Fail> {
+    let wanted = hex::decode(rt.alloc(), digits.as_bytes())?;
+    assert!(rt; octets == wanted.as_slice());
+    Ok(())
+}
+
+/// This is told of how damaging ended.
+fn expect_told(rt: &impl Abort, alloc: Global, end: &Result<Damaged, DamageEnd>, line: &str) {
+    let text = told(rt, alloc, end);
+    are_same(rt, "told", &text.as_str(), &line);
+}
+
 /// A recording, in digits, is written so, and this is told.
 fn expect(
     rt: &(impl Abort + AllocGlobal),
@@ -54,12 +77,9 @@ fn expect(
     let mut source = FromRead::new(octets.as_slice());
     let mut sink = ToWrite::new(Vec::new(alloc));
     let end = damage(rt, how, seed, &mut source, &mut sink);
-    let text = told(rt, alloc, &end);
-    assert_eq!(rt; text.as_str(), line);
+    expect_told(rt, alloc, &end, line);
     let found = sink.into_inner();
-    let wanted = hex::decode(alloc, written.as_bytes())?;
-    assert!(rt; found.as_slice() == wanted.as_slice());
-    Ok(())
+    expect_octets(rt, found.as_slice(), written)
 }
 
 /// The words of the reference program of PCG32, which its author published: of state 42 and stream 54.
@@ -74,7 +94,7 @@ fn reference_words(rt: HostRuntime) {
         0xbfa4_784b,
         0xcbed_606e,
     ] {
-        assert_eq!(rt; rng.next_u32(), word);
+        are_same(&rt, "word", &rng.next_u32(), &word);
     }
 }
 
@@ -195,7 +215,7 @@ fn settings(rt: HostRuntime) -> Result<(), Fail> {
             Ok(_) => format!(in alloc; "in range")?,
             Err(refused) => format!(in alloc; "{refused}")?,
         };
-        assert_eq!(rt; told.as_str(), fault);
+        are_same(&rt, "told", &told.as_str(), &fault);
     }
     Ok(())
 }
@@ -245,10 +265,8 @@ fn one_by_one(rt: HostRuntime) -> Result<(), Fail> {
     let mut sink = ToWrite::new(Vec::new(alloc));
     let end = damage(&rt, WITHIN, 0, &mut source, &mut sink);
     assert!(rt; end.is_ok());
-    let wanted = hex::decode(alloc, CALL_WITHIN.as_bytes())?;
     let found = sink.into_inner();
-    assert!(rt; found.as_slice() == wanted.as_slice());
-    Ok(())
+    expect_octets(&rt, found.as_slice(), CALL_WITHIN)
 }
 
 /// A source that fails at its first read, or behind some: the frames before that are written.
@@ -267,8 +285,7 @@ fn failing_reads(rt: HostRuntime) -> Result<(), Fail> {
         let mut source = FailsAt::new(OneByOne::new(octets.as_slice()), calls);
         let mut sink = ToWrite::new(Vec::new(alloc));
         let end = damage(&rt, WITHIN, 0, &mut source, &mut sink);
-        let text = told(&rt, alloc, &end);
-        assert_eq!(rt; text.as_str(), line);
+        expect_told(&rt, alloc, &end, line);
     }
     Ok(())
 }
@@ -283,11 +300,9 @@ fn failing_writes(rt: HostRuntime) -> Result<(), Fail> {
         let mut source = FromRead::new(octets.as_slice());
         let mut sink = FailsAt::new(ToWrite::new(Vec::new(alloc)), calls);
         let end = damage(&rt, WITHIN, 7, &mut source, &mut sink);
-        let text = told(&rt, alloc, &end);
-        assert_eq!(rt; text.as_str(), "write failed");
+        expect_told(&rt, alloc, &end, "write failed");
         let found = sink.into_inner().into_inner();
-        assert_eq!(rt; found.len(), length);
-        assert!(rt; wanted.as_slice().starts_with(found.as_slice()));
+        assert!(rt; wanted.get(..length) == Some(found.as_slice()));
     }
     Ok(())
 }

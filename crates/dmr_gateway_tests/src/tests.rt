@@ -3,22 +3,6 @@ use dmr_gateway::{Config, ConfigFault, GatewayFault};
 use std::alloc::Global;
 use std::fmt::Display;
 
-/// Colour code, address, call hang, channel hang and queue, and why they are refused, if they are.
-const SETTINGS: [(u8, u32, u16, u16, u8, Option<ConfigFault>); 11] = [
-    (15, 16_777_215, 65_535, 65_535, 64, None),
-    (0, 1, 0, 0, 1, None),
-    (16, 1, 3, 5, 9, Some(ConfigFault::Colour)),
-    (1, 0, 3, 5, 9, Some(ConfigFault::Llid)),
-    (1, 16_777_216, 3, 5, 9, Some(ConfigFault::Llid)),
-    (1, 1, 6, 5, 9, Some(ConfigFault::Hang)),
-    (1, 1, 3, 5, 0, Some(ConfigFault::Queue)),
-    (1, 1, 3, 5, 65, Some(ConfigFault::Queue)),
-    // The first of several.
-    (16, 0, 6, 5, 0, Some(ConfigFault::Colour)),
-    (1, 0, 6, 5, 0, Some(ConfigFault::Llid)),
-    (1, 1, 6, 5, 0, Some(ConfigFault::Hang)),
-];
-
 const CONFIG: [(ConfigFault, &str); 4] = [
     (ConfigFault::Colour, "the colour code is over 15"),
     (
@@ -38,14 +22,26 @@ const GATEWAY: [(GatewayFault, &str); 5] = [
 ];
 
 #[test]
-fn settings(rt: HostRuntime) {
-    for (colour, llid, call_hang, channel_hang, queue, fault) in SETTINGS {
-        let found = Config::new(colour, llid, call_hang, channel_hang, queue).err();
-        assert!(rt;
-            found == fault,
-            "{colour} {llid} {call_hang} {channel_hang} {queue}"
-        );
-    }
+fn settings_in_their_ranges(rt: HostRuntime) {
+    assert!(rt; Config::new(15, 16_777_215, 65_535, 65_535, 64).is_ok());
+    assert!(rt; Config::new(0, 1, 0, 0, 1).is_ok());
+}
+
+#[test]
+fn settings_past_their_ranges(rt: HostRuntime) {
+    assert!(rt; Config::new(16, 1, 3, 5, 9) == Err(ConfigFault::Colour));
+    assert!(rt; Config::new(1, 0, 3, 5, 9) == Err(ConfigFault::Llid));
+    assert!(rt; Config::new(1, 16_777_216, 3, 5, 9) == Err(ConfigFault::Llid));
+    assert!(rt; Config::new(1, 1, 6, 5, 9) == Err(ConfigFault::Hang));
+    assert!(rt; Config::new(1, 1, 3, 5, 0) == Err(ConfigFault::Queue));
+    assert!(rt; Config::new(1, 1, 3, 5, 65) == Err(ConfigFault::Queue));
+}
+
+#[test]
+fn first_of_several_faults(rt: HostRuntime) {
+    assert!(rt; Config::new(16, 0, 6, 5, 0) == Err(ConfigFault::Colour));
+    assert!(rt; Config::new(1, 0, 6, 5, 0) == Err(ConfigFault::Llid));
+    assert!(rt; Config::new(1, 1, 6, 5, 0) == Err(ConfigFault::Hang));
 }
 
 /// Each fault has its text.

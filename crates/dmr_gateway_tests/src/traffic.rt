@@ -11,7 +11,7 @@ use dmr_data::{
     Block, Confirmed, Header, Octets, Packet, Rate, Response, Status, block_info, block_read,
     header_info, header_read,
 };
-use dmr_gateway::{Config, Gateway};
+use dmr_gateway::{Config, Gateway, Received};
 use dmr_record::Outgoing;
 use std::alloc::Global;
 use std::process::Abort;
@@ -248,4 +248,57 @@ pub fn hear_try(
 /// The first ten octets of the answer of radio 1 to packet 0 of radio 2, with these two octets at its end.
 pub fn answer(blocks: u8, verdict: u8) -> [u8; 10] {
     [0x01, 0x40, 0, 0, 2, 0, 0, 1, blocks, verdict]
+}
+
+/// A datagram for slot 1 is taken.
+pub fn offer(rt: &impl Abort, gateway: &mut Gateway, confirmed: bool, octets: &[u8]) {
+    assert!(rt; gateway.offer(&outgoing(confirmed, octets)).is_ok());
+}
+
+/// A frame in which the line repeats this, or nothing, and the gateway sends what has this letter.
+pub fn expect_letter(
+    rt: &impl Abort,
+    gateway: &mut Gateway,
+    repeated: Option<Burst>,
+    wanted: u8,
+    number: usize,
+) {
+    let burst = frame(gateway, repeated);
+    assert_eq!(rt; letter(&burst), wanted, "frame {number}");
+}
+
+/// A frame in which the line repeats nothing, and the gateway sends a burst.
+pub fn expect_burst(rt: &impl Abort, gateway: &mut Gateway) {
+    let burst = frame(gateway, None);
+    assert!(rt; burst.is_some());
+}
+
+/// A frame in which the line repeats nothing, and the gateway sends a burst that begins with these octets.
+pub fn expect_octets(rt: &impl Abort, gateway: &mut Gateway, wanted: &[u8; 10]) {
+    let burst = frame(gateway, None);
+    assert!(rt; octets_of(&burst) == *wanted);
+}
+
+/// A frame in which the line repeats nothing, and the gateway sends flags that begin so.
+pub fn expect_flags(rt: &impl Abort, gateway: &mut Gateway, wanted: &[u8]) {
+    let flags = next_flags(gateway);
+    assert!(rt; flags.as_slice().starts_with(wanted));
+}
+
+/// A frame in which the line repeats nothing, and the gateway sends these flags, or none.
+pub fn expect_all_flags(rt: &impl Abort, gateway: &mut Gateway, wanted: &[u8]) {
+    let flags = next_flags(gateway);
+    assert!(rt; flags.as_slice() == wanted);
+}
+
+/// A frame in which the line repeats this, or nothing, and the gateway sends nothing.
+pub fn expect_silence(rt: &impl Abort, gateway: &mut Gateway, repeated: Option<Burst>) {
+    let burst = frame(gateway, repeated);
+    assert!(rt; burst.is_none());
+}
+
+/// This was received, or nothing.
+pub fn expect_received(rt: &impl Abort, gateway: &mut Gateway, wanted: Option<Received>) {
+    let received = gateway.take_received();
+    assert!(rt; received == wanted);
 }

@@ -1,9 +1,11 @@
 //! Where the octets of a file have got to, and what is heard of an uplink.
+use crate::tests::are_same;
 use arrayvec::ArrayString;
 use dmr_record::{FileFormat, RecordFault};
 use dmr_recording::FaultLine;
 use dmr_watch::{Ear, Heard, Reached};
 use std::fmt::Write;
+use std::process::Abort;
 
 /// An idle burst of a base station, of colour code 1.
 const IDLE: [u8; 33] = [
@@ -17,112 +19,6 @@ const BLOCK: [u8; 33] = [
     0x00, 0x62, 0x00, 0x82, 0x01, 0x90, 0x01, 0x00, 0x04, 0x20, 0x04, 0xE0, 0x04, 0xCD, 0x5D, 0x7F,
     0x77, 0xFD, 0x75, 0x7A, 0xC8, 0x18, 0x00, 0x28, 0x02, 0x50, 0x02, 0x80, 0x00, 0xC0, 0x12, 0x00,
     0x22,
-];
-
-/// A file of a format, of a head and these octets behind it, a fault, and how it is told.
-const PLACES: [(FileFormat, &[u8], RecordFault, &[u8]); 17] = [
-    (
-        FileFormat::Uplink,
-        &[],
-        RecordFault::HalfFrame,
-        b"half frame at octet 8, frame 0, slot 1",
-    ),
-    (
-        FileFormat::Uplink,
-        &[],
-        RecordFault::Version,
-        b"bad version at octet 0",
-    ),
-    (
-        FileFormat::Uplink,
-        &[0],
-        RecordFault::HalfFrame,
-        b"half frame at octet 9, frame 0, slot 2",
-    ),
-    (
-        FileFormat::Uplink,
-        &[0, 0, 7],
-        RecordFault::BadTag,
-        b"bad tag at octet 10, frame 1, slot 1",
-    ),
-    (
-        FileFormat::Uplink,
-        &[0, 1, 9, 9],
-        RecordFault::CutRecord,
-        b"cut record at octet 9, frame 0, slot 2",
-    ),
-    (
-        FileFormat::Uplink,
-        &[0, 1, 9, 9],
-        RecordFault::Read,
-        b"read failed at octet 9, frame 0, slot 2",
-    ),
-    (
-        FileFormat::Uplink,
-        &[0, 0],
-        RecordFault::Read,
-        b"read failed at octet 10, frame 1, slot 1",
-    ),
-    (
-        FileFormat::Uplink,
-        &[0, 0, 0],
-        RecordFault::TooLong,
-        b"too long at octet 10, frame 1, slot 1",
-    ),
-    (
-        FileFormat::Downlink,
-        &[0, 0, 0],
-        RecordFault::Write,
-        b"write failed at octet 11, frame 1, slot 2",
-    ),
-    (
-        FileFormat::Downlink,
-        &[0, 1, 5, 5, 5],
-        RecordFault::Write,
-        b"write failed at octet 9, frame 0, slot 2",
-    ),
-    (
-        FileFormat::Outgoing,
-        &[9],
-        RecordFault::BadTag,
-        b"bad tag at octet 8",
-    ),
-    (
-        FileFormat::Outgoing,
-        &[2, 0, 0, 0, 0, 1, 0, 0, 2, 7, 7],
-        RecordFault::Read,
-        b"read failed at octet 19",
-    ),
-    (
-        FileFormat::Outgoing,
-        &[2, 0, 0, 0, 0, 1, 0, 0, 2, 7],
-        RecordFault::CutRecord,
-        b"cut record at octet 8",
-    ),
-    (
-        FileFormat::Outgoing,
-        &[2, 0, 0, 0, 0, 3, 0, 0, 0],
-        RecordFault::BadTag,
-        b"bad tag at octet 8",
-    ),
-    (
-        FileFormat::Outgoing,
-        &[2, 0, 0, 0, 0, 1, 0, 0, 0, 2],
-        RecordFault::CutRecord,
-        b"cut record at octet 17",
-    ),
-    (
-        FileFormat::Received,
-        &[3, 0, 0, 0, 0, 1, 2, 0, 0, 5, 0, 1, 7],
-        RecordFault::Write,
-        b"write failed at octet 21",
-    ),
-    (
-        FileFormat::Received,
-        &[3, 0, 0, 0, 0, 1, 2, 0, 0, 5, 0, 1],
-        RecordFault::Write,
-        b"write failed at octet 8",
-    ),
 ];
 
 /// Where octets behind a head have got to that come one by one.
@@ -142,19 +38,156 @@ fn told(line: FaultLine) -> ArrayString<64> {
     told
 }
 
-/// Each fault is told where its record begins, in however many pieces the octets come.
+/// In a file of a head and these octets behind it, in however many pieces they come, a fault is told so.
+fn expect_place(
+    rt: &impl Abort,
+    format: FileFormat,
+    octets: &[u8],
+    fault: RecordFault,
+    text: &str,
+) {
+    let head = Reached::nothing().by(format, b"DMR?\x01\x00\x00\x00");
+    let reached = head.by(format, octets);
+    let told = told(reached.fault_line(format, fault));
+    are_same(rt, "told", &told.as_str(), &text);
+    let slowly = reached_one_by_one(head, format, octets);
+    assert!(rt; reached == slowly, "{text}");
+}
+
+/// Each fault is told where its record begins.
 #[test]
-fn places_of_faults(rt: HostRuntime) {
-    for (format, octets, fault, text) in PLACES {
-        let head = Reached::nothing().by(format, b"DMR?\x01\x00\x00\x00");
-        let reached = head.by(format, octets);
-        let told = told(reached.fault_line(format, fault));
-        assert!(rt; told.as_bytes() == text, "{told}");
-        assert!(rt;
-            reached == reached_one_by_one(head, format, octets),
-            "{told}"
-        );
-    }
+fn places_in_uplinks(rt: HostRuntime) {
+    expect_place(
+        &rt,
+        FileFormat::Uplink,
+        &[],
+        RecordFault::HalfFrame,
+        "half frame at octet 8, frame 0, slot 1",
+    );
+    expect_place(
+        &rt,
+        FileFormat::Uplink,
+        &[],
+        RecordFault::Version,
+        "bad version at octet 0",
+    );
+    expect_place(
+        &rt,
+        FileFormat::Uplink,
+        &[0],
+        RecordFault::HalfFrame,
+        "half frame at octet 9, frame 0, slot 2",
+    );
+    expect_place(
+        &rt,
+        FileFormat::Uplink,
+        &[0, 0, 7],
+        RecordFault::BadTag,
+        "bad tag at octet 10, frame 1, slot 1",
+    );
+    expect_place(
+        &rt,
+        FileFormat::Uplink,
+        &[0, 1, 9, 9],
+        RecordFault::CutRecord,
+        "cut record at octet 9, frame 0, slot 2",
+    );
+    expect_place(
+        &rt,
+        FileFormat::Uplink,
+        &[0, 1, 9, 9],
+        RecordFault::Read,
+        "read failed at octet 9, frame 0, slot 2",
+    );
+    expect_place(
+        &rt,
+        FileFormat::Uplink,
+        &[0, 0],
+        RecordFault::Read,
+        "read failed at octet 10, frame 1, slot 1",
+    );
+    expect_place(
+        &rt,
+        FileFormat::Uplink,
+        &[0, 0, 0],
+        RecordFault::TooLong,
+        "too long at octet 10, frame 1, slot 1",
+    );
+}
+
+#[test]
+fn places_in_downlinks(rt: HostRuntime) {
+    expect_place(
+        &rt,
+        FileFormat::Downlink,
+        &[0, 0, 0],
+        RecordFault::Write,
+        "write failed at octet 11, frame 1, slot 2",
+    );
+    expect_place(
+        &rt,
+        FileFormat::Downlink,
+        &[0, 1, 5, 5, 5],
+        RecordFault::Write,
+        "write failed at octet 9, frame 0, slot 2",
+    );
+}
+
+#[test]
+fn places_in_outgoing_lists(rt: HostRuntime) {
+    expect_place(
+        &rt,
+        FileFormat::Outgoing,
+        &[9],
+        RecordFault::BadTag,
+        "bad tag at octet 8",
+    );
+    expect_place(
+        &rt,
+        FileFormat::Outgoing,
+        &[2, 0, 0, 0, 0, 1, 0, 0, 2, 7, 7],
+        RecordFault::Read,
+        "read failed at octet 19",
+    );
+    expect_place(
+        &rt,
+        FileFormat::Outgoing,
+        &[2, 0, 0, 0, 0, 1, 0, 0, 2, 7],
+        RecordFault::CutRecord,
+        "cut record at octet 8",
+    );
+    expect_place(
+        &rt,
+        FileFormat::Outgoing,
+        &[2, 0, 0, 0, 0, 3, 0, 0, 0],
+        RecordFault::BadTag,
+        "bad tag at octet 8",
+    );
+    expect_place(
+        &rt,
+        FileFormat::Outgoing,
+        &[2, 0, 0, 0, 0, 1, 0, 0, 0, 2],
+        RecordFault::CutRecord,
+        "cut record at octet 17",
+    );
+}
+
+#[test]
+fn places_in_received_files(rt: HostRuntime) {
+    expect_place(
+        &rt,
+        FileFormat::Received,
+        &[3, 0, 0, 0, 0, 1, 2, 0, 0, 5, 0, 1, 7],
+        RecordFault::Write,
+        "write failed at octet 21",
+    );
+    expect_place(
+        &rt,
+        FileFormat::Received,
+        &[3, 0, 0, 0, 0, 1, 2, 0, 0, 5, 0, 1],
+        RecordFault::Write,
+        "write failed at octet 8",
+    );
 }
 
 /// In front of the head and inside it there is no record.
