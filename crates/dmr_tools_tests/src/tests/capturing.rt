@@ -1,33 +1,37 @@
 //! The command lines of captures of datagrams.
-use super::stand_in::{AT_A_TERMINAL, PLAIN, expect_printed, is_refused};
+use super::stand_in::{AT_A_TERMINAL, PLAIN, expect_printed, expect_refused, requested};
 use dmr_datagrams::{ExportSettings, ImportSettings};
-use dmr_tools::{ExportFormat, ImportFormat, Request, request_of};
-use std::test::Fail;
+use dmr_tools::{ExportFormat, ImportFormat, PairPlaces, Request};
+
+/// Whether these places are the files of the words.
+fn are_in_and_out(places: PairPlaces<'_>) -> bool {
+    places.input.name() == "in" && places.output.name() == "out"
+}
 
 /// How these words ask to make a list of a capture.
-fn list_asked(rt: &impl AllocGlobal, words: &[&str]) -> Result<ImportSettings, Fail> {
-    match request_of(rt.alloc(), words)? {
+fn list_asked(rt: &impl AllocGlobal, words: &[&str]) -> Option<ImportSettings> {
+    match requested(rt, words)? {
         Request::Import {
             format: ImportFormat::Datagrams(settings),
             places,
-        } if places.input.name() == "in" && places.output.name() == "out" => Ok(settings),
-        _ => Err(Fail::new("no list of a capture, or other files")),
+        } if are_in_and_out(places) => Some(settings),
+        _ => None,
     }
 }
 
 /// How these words ask to write a capture of a list.
-fn capture_asked(rt: &impl AllocGlobal, words: &[&str]) -> Result<ExportSettings, Fail> {
-    match request_of(rt.alloc(), words)? {
+fn capture_asked(rt: &impl AllocGlobal, words: &[&str]) -> Option<ExportSettings> {
+    match requested(rt, words)? {
         Request::Export {
             format: ExportFormat::Datagrams(settings),
             places,
-        } if places.input.name() == "in" && places.output.name() == "out" => Ok(settings),
-        _ => Err(Fail::new("no capture of a list, or other files")),
+        } if are_in_and_out(places) => Some(settings),
+        _ => None,
     }
 }
 
 #[test]
-fn lists_of_captures_that_are_asked_for(rt: HostRuntime) -> Result<(), Fail> {
+fn lists_of_captures_that_are_asked_for(rt: HostRuntime) {
     let words = ["dmrgate", "import", "datagrams", "in", "out", "--slot", "2"];
     let plain = ImportSettings {
         slot: 2,
@@ -35,7 +39,7 @@ fn lists_of_captures_that_are_asked_for(rt: HostRuntime) -> Result<(), Fail> {
         full: false,
         first_frame: 0,
     };
-    assert!(rt; list_asked(&rt, &words)? == plain);
+    assert!(rt; list_asked(&rt, &words) == Some(plain));
     let words = [
         "dmrgate",
         "import",
@@ -49,12 +53,11 @@ fn lists_of_captures_that_are_asked_for(rt: HostRuntime) -> Result<(), Fail> {
         full: true,
         ..plain
     };
-    assert!(rt; list_asked(&rt, &words)? == full);
-    Ok(())
+    assert!(rt; list_asked(&rt, &words) == Some(full));
 }
 
 #[test]
-fn confirmed_list_of_a_capture_that_is_asked_for(rt: HostRuntime) -> Result<(), Fail> {
+fn confirmed_list_of_a_capture_that_is_asked_for(rt: HostRuntime) {
     let words = [
         "dmrgate",
         "import",
@@ -71,26 +74,25 @@ fn confirmed_list_of_a_capture_that_is_asked_for(rt: HostRuntime) -> Result<(), 
         full: false,
         first_frame: u32::MAX,
     };
-    assert!(rt; list_asked(&rt, &words)? == confirmed);
-    Ok(())
+    assert!(rt; list_asked(&rt, &words) == Some(confirmed));
 }
 
 #[test]
 fn lists_of_captures_that_are_refused(rt: HostRuntime) {
     for slot in ["--slot=0", "--slot=3", "--full-rate"] {
         let words = ["dmrgate", "import", "datagrams", "in", "out", slot];
-        assert!(rt; is_refused(&rt, &words), "{slot}");
+        expect_refused(&rt, &words);
     }
 }
 
 #[test]
-fn captures_of_lists_that_are_asked_for(rt: HostRuntime) -> Result<(), Fail> {
+fn captures_of_lists_that_are_asked_for(rt: HostRuntime) {
     let words = ["dmrgate", "export", "datagrams", "in", "out"];
     let plain = ExportSettings {
         slot: None,
         start: 0,
     };
-    assert!(rt; capture_asked(&rt, &words)? == plain);
+    assert!(rt; capture_asked(&rt, &words) == Some(plain));
     let words = [
         "dmrgate",
         "export",
@@ -104,15 +106,16 @@ fn captures_of_lists_that_are_asked_for(rt: HostRuntime) -> Result<(), Fail> {
         slot: Some(2),
         start: 1_769_860_800_000_001,
     };
-    assert!(rt; capture_asked(&rt, &words)? == later);
+    assert!(rt; capture_asked(&rt, &words) == Some(later));
+}
+
+#[test]
+fn captures_of_lists_at_no_time(rt: HostRuntime) {
     for start in ["--start=now", "--start=1969-12-31T23:59:59Z"] {
         let words = ["dmrgate", "export", "datagrams", "in", "out", start];
-        assert!(rt;
-            matches!(request_of(rt.alloc(), &words)?, Request::NoStart),
-            "{start}"
-        );
+        let is_refused = matches!(requested(&rt, &words), Some(Request::NoStart));
+        assert!(rt; is_refused, "{start}");
     }
-    Ok(())
 }
 
 #[test]

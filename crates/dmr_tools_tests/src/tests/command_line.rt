@@ -1,26 +1,24 @@
 //! The command line of `show`.
-use super::stand_in::{PLAIN, expect_printed, is_refused};
+use super::stand_in::{PLAIN, expect_printed, expect_refused, requested};
 use dmr_show::{Filter, Form};
-use dmr_tools::{Request, request_of};
-use std::test::Fail;
+use dmr_tools::Request;
 
 #[test]
-fn listing_that_is_asked_for(rt: HostRuntime) -> Result<(), Fail> {
+fn listing_that_is_asked_for(rt: HostRuntime) {
     let words = ["dmrgate", "show", "up"];
     let all = Filter {
         slot: None,
         from: None,
         to: None,
     };
-    let Request::Show { name, form, filter } = request_of(rt.alloc(), &words)? else {
-        return Err(Fail::from("no listing"));
+    let Some(Request::Show { name, form, filter }) = requested(&rt, &words) else {
+        panic!(rt; "no listing");
     };
     assert!(rt; name == "up" && form == Form::Listing && filter == all);
-    Ok(())
 }
 
 #[test]
-fn strip_that_is_asked_for(rt: HostRuntime) -> Result<(), Fail> {
+fn strip_that_is_asked_for(rt: HostRuntime) {
     let words = [
         "dmrgate",
         "show",
@@ -38,11 +36,10 @@ fn strip_that_is_asked_for(rt: HostRuntime) -> Result<(), Fail> {
         from: Some(9),
         to: Some(4_294_967_295),
     };
-    let Request::Show { name, form, filter } = request_of(rt.alloc(), &words)? else {
-        return Err(Fail::from("no listing"));
+    let Some(Request::Show { name, form, filter }) = requested(&rt, &words) else {
+        panic!(rt; "no listing");
     };
     assert!(rt; name == "-" && form == Form::Strip && filter == some);
-    Ok(())
 }
 
 #[test]
@@ -54,7 +51,7 @@ fn filters_that_are_refused(rt: HostRuntime) {
         ("--to", "-1"),
     ] {
         let words = ["dmrgate", "show", "up", option, value];
-        assert!(rt; is_refused(&rt, &words), "{option} {value}");
+        expect_refused(&rt, &words);
     }
 }
 

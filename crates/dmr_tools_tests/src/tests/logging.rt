@@ -1,31 +1,30 @@
 //! The command line of `log`.
-use super::stand_in::{PLAIN, expect_printed, is_refused};
+use super::stand_in::{PLAIN, are_same, expect_printed, expect_refused, requested};
 use dmr_log_forms::{LogForm, LogSettings, StartTime};
 use dmr_log_page::PageSettings;
 use dmr_show::Filter;
-use dmr_tools::{LogRefusal, Request, request_of};
-use std::test::Fail;
+use dmr_tools::{LogRefusal, Request};
 
 /// What these words ask a log for, and the name of its recording.
-fn asked<'a>(rt: &impl AllocGlobal, words: &'a [&'a str]) -> Result<(&'a str, LogSettings), Fail> {
-    match request_of(rt.alloc(), words)? {
-        Request::Log { name, settings } => Ok((name, settings)),
-        _ => Err(Fail::new("no log")),
+fn asked<'a>(rt: &impl AllocGlobal, words: &'a [&'a str]) -> Option<(&'a str, LogSettings)> {
+    match requested(rt, words)? {
+        Request::Log { name, settings } => Some((name, settings)),
+        _ => None,
     }
 }
 
 /// Why these words of `log` are refused.
-fn refused(rt: &impl AllocGlobal, words: &[&str]) -> Result<LogRefusal, Fail> {
-    match request_of(rt.alloc(), words)? {
-        Request::LogRefused(refusal) => Ok(refusal),
-        _ => Err(Fail::new("not refused")),
+fn refused(rt: &impl AllocGlobal, words: &[&str]) -> Option<LogRefusal> {
+    match requested(rt, words)? {
+        Request::LogRefused(refusal) => Some(refusal),
+        _ => None,
     }
 }
 
 #[test]
-fn log_that_is_asked_for(rt: HostRuntime) -> Result<(), Fail> {
+fn log_that_is_asked_for(rt: HostRuntime) {
     let words = ["dmrgate", "log", "up"];
-    let (name, settings) = asked(&rt, &words)?;
+    let (name, settings) = asked(&rt, &words).expect(&rt, "no log");
     let all = Filter {
         slot: None,
         from: None,
@@ -34,13 +33,17 @@ fn log_that_is_asked_for(rt: HostRuntime) -> Result<(), Fail> {
     assert!(rt; name == "up" && settings.form == LogForm::Lines && settings.filter == all);
     assert!(rt; settings.colour == 1 && settings.address.is_none());
     assert!(rt; settings.start.is_none());
-    let words = ["dmrgate", "log", "up", "--csv"];
-    assert!(rt; asked(&rt, &words)?.1.form == LogForm::Table);
-    Ok(())
 }
 
 #[test]
-fn log_with_all_options(rt: HostRuntime) -> Result<(), Fail> {
+fn table_that_is_asked_for(rt: HostRuntime) {
+    let words = ["dmrgate", "log", "up", "--csv"];
+    let (_name, settings) = asked(&rt, &words).expect(&rt, "no log");
+    assert!(rt; settings.form == LogForm::Table);
+}
+
+#[test]
+fn log_with_all_options(rt: HostRuntime) {
     let words = [
         "dmrgate",
         "log",
@@ -59,7 +62,7 @@ fn log_with_all_options(rt: HostRuntime) -> Result<(), Fail> {
         "--to",
         "9",
     ];
-    let (name, settings) = asked(&rt, &words)?;
+    let (name, settings) = asked(&rt, &words).expect(&rt, "no log");
     let some = Filter {
         slot: Some(2),
         from: Some(9),
@@ -67,30 +70,24 @@ fn log_with_all_options(rt: HostRuntime) -> Result<(), Fail> {
     };
     assert!(rt; name == "-" && settings.form == LogForm::Json && settings.filter == some);
     assert!(rt; settings.colour == 15);
-    assert_eq!(rt; settings.address, Some(16_777_215));
+    are_same(&rt, "address", &settings.address, &Some(16_777_215));
     assert!(rt; settings.start == StartTime::read("2026-01-31T12:00:00Z"));
-    Ok(())
 }
 
 #[test]
-fn logs_that_are_refused(rt: HostRuntime) -> Result<(), Fail> {
+fn logs_that_are_refused(rt: HostRuntime) {
     let backwards = ["dmrgate", "log", "up", "--from", "9", "--to", "3"];
-    assert_eq!(rt; refused(&rt, &backwards)?, LogRefusal::Backwards);
+    assert!(rt; refused(&rt, &backwards) == Some(LogRefusal::Backwards));
     let time = ["dmrgate", "log", "up", "--start", "noon"];
-    assert_eq!(rt; refused(&rt, &time)?, LogRefusal::Time);
-    Ok(())
+    assert!(rt; refused(&rt, &time) == Some(LogRefusal::Time));
 }
 
 #[test]
 fn words_of_log_that_are_refused(rt: HostRuntime) {
-    for words in [
-        ["dmrgate", "log", "up", "--colour", "16"],
-        ["dmrgate", "log", "up", "--llid", "0"],
-        ["dmrgate", "log", "up", "--llid", "16777216"],
-    ] {
-        assert!(rt; is_refused(&rt, &words));
-    }
-    assert!(rt; is_refused(&rt, &["dmrgate", "log", "up", "--csv", "--json"]));
+    expect_refused(&rt, &["dmrgate", "log", "up", "--colour", "16"]);
+    expect_refused(&rt, &["dmrgate", "log", "up", "--llid", "0"]);
+    expect_refused(&rt, &["dmrgate", "log", "up", "--llid", "16777216"]);
+    expect_refused(&rt, &["dmrgate", "log", "up", "--csv", "--json"]);
 }
 
 #[test]
@@ -124,24 +121,23 @@ fn what_is_printed_of_a_log(rt: HostRuntime) {
 fn asked_for_a_page<'a>(
     rt: &impl AllocGlobal,
     words: &'a [&'a str],
-) -> Result<(&'a str, PageSettings), Fail> {
-    match request_of(rt.alloc(), words)? {
-        Request::LogPage { name, settings } => Ok((name, settings)),
-        _ => Err(Fail::new("no page")),
+) -> Option<(&'a str, PageSettings)> {
+    match requested(rt, words)? {
+        Request::LogPage { name, settings } => Some((name, settings)),
+        _ => None,
     }
 }
 
 #[test]
-fn page_that_is_asked_for(rt: HostRuntime) -> Result<(), Fail> {
+fn page_that_is_asked_for(rt: HostRuntime) {
     let words = ["dmrgate", "log", "up", "--html"];
-    let (name, settings) = asked_for_a_page(&rt, &words)?;
+    let (name, settings) = asked_for_a_page(&rt, &words).expect(&rt, "no page");
     assert!(rt; name == "up" && settings.colour == 1 && settings.address.is_none());
     assert!(rt; settings.start.is_none());
-    Ok(())
 }
 
 #[test]
-fn page_with_all_options(rt: HostRuntime) -> Result<(), Fail> {
+fn page_with_all_options(rt: HostRuntime) {
     let words = [
         "dmrgate",
         "log",
@@ -154,21 +150,20 @@ fn page_with_all_options(rt: HostRuntime) -> Result<(), Fail> {
         "--start",
         "2026-01-31T12:00:00Z",
     ];
-    let (name, settings) = asked_for_a_page(&rt, &words)?;
+    let (name, settings) = asked_for_a_page(&rt, &words).expect(&rt, "no page");
     assert!(rt; name == "-" && settings.colour == 15);
-    assert_eq!(rt; settings.address, Some(9));
+    are_same(&rt, "address", &settings.address, &Some(9));
     assert!(rt; settings.start == StartTime::read("2026-01-31T12:00:00Z"));
-    Ok(())
 }
 
 #[test]
 fn pages_that_are_refused(rt: HostRuntime) {
     for form in ["--csv", "--json"] {
         let both = ["dmrgate", "log", "up", "--html", form];
-        assert!(rt; is_refused(&rt, &both), "{form}");
+        expect_refused(&rt, &both);
     }
     for some in ["--slot", "--from", "--to"] {
         let both = ["dmrgate", "log", "up", some, "1", "--html"];
-        assert!(rt; is_refused(&rt, &both), "{some}");
+        expect_refused(&rt, &both);
     }
 }

@@ -1,7 +1,8 @@
 //! A system that has a few files, each by its names, and what the tools print over it.
 use dmr_files::{FileKind, Identity, Open, Place, StandardFiles, System};
 use dmr_record::ToWrite;
-use dmr_tools::{obey, request_of};
+use dmr_tools::{Request, obey, request_of};
+use std::fmt::Debug;
 use std::io::{self, ErrorKind, Write};
 use std::process::Abort;
 
@@ -121,9 +122,30 @@ impl System for StandIn {
     }
 }
 
+/// What these words ask for, where they aren't refused.
+pub(crate) fn requested<'a>(rt: &impl AllocGlobal, words: &'a [&'a str]) -> Option<Request<'a>> {
+    request_of(rt.alloc(), words).ok()
+}
+
 /// Whether these words ask for nothing that there is.
-pub(crate) fn is_refused(rt: &impl AllocGlobal, words: &[&str]) -> bool {
-    request_of(rt.alloc(), words).is_err()
+fn is_refused(rt: &impl AllocGlobal, words: &[&str]) -> bool {
+    requested(rt, words).is_none()
+}
+
+/// These words ask for nothing that there is.
+pub(crate) fn expect_refused(rt: &(impl Abort + AllocGlobal), words: &[&str]) {
+    assert!(rt; is_refused(rt, words), "{words:?}");
+}
+
+/// That both are the same, of what is told where they aren't.
+pub(crate) fn are_same<T: PartialEq + Debug>(rt: &impl Abort, what: &str, got: &T, expected: &T) {
+    assert_eq!(rt; got, expected, "{what}");
+}
+
+/// A sink has taken this text.
+fn has_taken(rt: &impl Abort, sink: ToWrite<Vec<u8>>, text: &str) {
+    let octets = sink.into_inner();
+    assert!(rt; octets.as_slice() == text.as_bytes(), "{text}");
 }
 
 /// These words end with this status, and print so to either sink.
@@ -139,7 +161,7 @@ pub(crate) fn expect_printed(
     let mut output = ToWrite::new(Vec::new(alloc));
     let mut errors = ToWrite::new(Vec::new(alloc));
     let ended = obey(alloc, words, system, &mut output, &mut errors);
-    assert_eq!(rt; ended, status);
-    assert!(rt; output.into_inner().as_slice() == out.as_bytes());
-    assert!(rt; errors.into_inner().as_slice() == err.as_bytes());
+    are_same(rt, "status", &ended, &status);
+    has_taken(rt, output, out);
+    has_taken(rt, errors, err);
 }
