@@ -157,6 +157,12 @@ pub(crate) fn answer_of<U: Source, O: Source, D: Sink, R: Sink>(
     run(alloc, config, uplink, outgoing, downlink, received)
 }
 
+/// A sink holds these octets.
+fn holds(rt: &impl Abort, sink: ToWrite<Vec<u8>>, octets: &[u8]) {
+    let written = sink.into_inner();
+    assert!(rt; written.as_slice() == octets);
+}
+
 #[test]
 fn one_csbk(rt: HostRuntime) {
     let config = Config::new(1, 1, 3, 5, 9).expect(&rt, "the settings are in range");
@@ -173,29 +179,36 @@ fn one_csbk(rt: HostRuntime) {
         &mut received,
     );
     assert!(rt; answer == Ok(SUMMARY));
-    assert!(rt; downlink.into_inner().as_slice() == &DOWNLINK[..]);
-    assert!(rt; received.into_inner().as_slice() == &RECEIVED[..]);
+    holds(&rt, downlink, &DOWNLINK);
+    holds(&rt, received, &RECEIVED);
+}
+
+/// The end of a run has this status, and is printed so to either sink.
+pub(crate) fn expect_end(
+    rt: &impl Abort,
+    alloc: Global,
+    end: &RunEnd,
+    status: u8,
+    out: &[u8],
+    err: &[u8],
+) {
+    let mut output = ToWrite::new(Vec::new(alloc));
+    let mut errors = ToWrite::new(Vec::new(alloc));
+    assert!(rt; print_end(end, &mut output, &mut errors) == status);
+    holds(rt, output, out);
+    holds(rt, errors, err);
 }
 
 #[test]
 fn end_of_a_run(rt: HostRuntime) {
-    let mut output = ToWrite::new(Vec::new(rt.alloc()));
-    let mut errors = ToWrite::new(Vec::new(rt.alloc()));
-    let end = RunEnd::Done(SUMMARY);
-    assert_eq!(rt; print_end(&end, &mut output, &mut errors), 0);
     let line =
-        "frames 7 repeated 1 received 0 delivered 0 sent 0 given-up 0 refused 0 unoffered 0\n";
-    assert!(rt; output.into_inner().as_slice() == line.as_bytes());
-    assert!(rt; errors.into_inner().as_slice().is_empty());
+        b"frames 7 repeated 1 received 0 delivered 0 sent 0 given-up 0 refused 0 unoffered 0\n";
+    expect_end(&rt, rt.alloc(), &RunEnd::Done(SUMMARY), 0, line, b"");
 }
 
 /// An end that is no success has this status and this line, and nothing is printed as output.
 fn expect_error(rt: &impl Abort, alloc: Global, end: &RunEnd, status: u8, line: &[u8]) {
-    let mut output = ToWrite::new(Vec::new(alloc));
-    let mut errors = ToWrite::new(Vec::new(alloc));
-    assert_eq!(rt; print_end(end, &mut output, &mut errors), status);
-    assert!(rt; output.into_inner().as_slice().is_empty());
-    assert!(rt; errors.into_inner().as_slice() == line);
+    expect_end(rt, alloc, end, status, b"", line);
 }
 
 /// Faults of a run, and what is printed of them.
@@ -240,8 +253,8 @@ fn idle_burst(rt: HostRuntime) {
     let mut output = ToWrite::new(Vec::new(rt.alloc()));
     let mut errors = ToWrite::new(Vec::new(rt.alloc()));
     let digits = "53C25EABA8671DC7383BD936065DFF57D75DF5D92BF6E465171B48CA6D4FC610B4";
-    assert_eq!(rt; print_slot(digits, &mut output, &mut errors), 0);
-    let line = "data BS, colour 1, type 9, information FF83DF1732094ED1E7CD8A91\n";
-    assert!(rt; output.into_inner().as_slice() == line.as_bytes());
-    assert!(rt; errors.into_inner().as_slice().is_empty());
+    assert!(rt; print_slot(digits, &mut output, &mut errors) == 0);
+    let line = b"data BS, colour 1, type 9, information FF83DF1732094ED1E7CD8A91\n";
+    holds(&rt, output, line);
+    holds(&rt, errors, b"");
 }

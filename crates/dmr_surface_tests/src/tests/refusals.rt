@@ -1,5 +1,5 @@
 //! What each call answers that refuses something, by the name of the fault and its number.
-use crate::tests::files::{OUTGOING, answer_of};
+use crate::tests::files::{OUTGOING, answer_of, expect_end};
 use dmr_bits::Bits;
 use dmr_bptc::bptc_encode;
 use dmr_burst::read_info;
@@ -13,7 +13,7 @@ use dmr_embedded::{EmbedFault, extract};
 use dmr_gateway::{Config, ConfigFault, Gateway, GatewayFault};
 use dmr_ip::{Datagram, ExpandFault, IpFault, expand};
 use dmr_link::{LcFault, LcUse, lc_read};
-use dmr_program::{RunEnd, print_end};
+use dmr_program::RunEnd;
 use dmr_record::{FromRead, Outgoing, RecordFault, ToWrite, UPLINK_MAGIC, read_head};
 use dmr_repeater::{RunFault, Stream};
 use dmr_test_values::{CALL_HEADER, DATAGRAM_BLOCK, EMPTY_DATAGRAM};
@@ -175,6 +175,13 @@ fn files(rt: HostRuntime) {
     let mut source = FromRead::new(&OUTGOING[..]);
     assert!(rt; read_head(&mut source, UPLINK_MAGIC) == Err(RecordFault::Magic));
     assert!(rt; RecordFault::Magic as u8 == 1);
+}
+
+/// What a run over such an uplink answers.
+const FAULT: RunFault = RunFault::File(Stream::Uplink, RecordFault::Magic);
+
+#[test]
+fn runs(rt: HostRuntime) {
     let config = Config::new(1, 1, 3, 5, 9).expect(&rt, "the settings are in range");
     let mut uplink = FromRead::new(&OUTGOING[..]);
     let mut outgoing = FromRead::new(&OUTGOING[..]);
@@ -188,14 +195,11 @@ fn files(rt: HostRuntime) {
         &mut downlink,
         &mut received,
     );
-    let fault = RunFault::File(Stream::Uplink, RecordFault::Magic);
-    assert!(rt; answer == Err(fault));
-    let mut output = ToWrite::new(Vec::new(rt.alloc()));
-    let mut errors = ToWrite::new(Vec::new(rt.alloc()));
-    assert_eq!(rt;
-        print_end(&RunEnd::Fault(fault), &mut output, &mut errors),
-        1
-    );
-    assert!(rt; errors.into_inner().as_slice() == &b"error: uplink: bad magic\n"[..]);
-    assert!(rt; output.into_inner().as_slice().is_empty());
+    assert!(rt; answer == Err(FAULT));
+}
+
+#[test]
+fn ends_of_runs(rt: HostRuntime) {
+    let line = b"error: uplink: bad magic\n";
+    expect_end(&rt, rt.alloc(), &RunEnd::Fault(FAULT), 1, b"", line);
 }
